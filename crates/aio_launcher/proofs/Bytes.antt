@@ -1,7 +1,7 @@
 -- What reads and writes that are made again do to known bytes.
 use Rattle.std.proofs.Common.{◌≡◌, ℕ, zero, suc, ◌<◌, ◌≤◌, List, [], ◌∷◌, ◌++◌, length, take, Option, Some, None, Result, Ok, Err}
 use Rattle.std.proofs.Common.{refl, sym, ap, ◌∙◌, subst, append-nil, arith}
-use Rattle.std.specs.Io.{ReadsAtMost, WritesAtMost}
+use Rattle.std.specs.Io.{WritesAtMost}
 use Rattle.std.specs.Io.KnownBytes.{ReadConsumes, WriteAppends, Keeps, Appends, Consumes}
 use Rattle.std.proofs.KnownBytes.{Keeps-trans}
 use Rattle.aio_wire.specs.Got.{got_of}
@@ -40,6 +40,15 @@ none_consumed None b took = tt
 none_consumed (Some held) None took = absurd took
 none_consumed (Some held) (Some left) took = sym took
 
+-- a front of a front
+take_front : (count most : ℕ) (piece : List ℕ) → count ≤ length (take most piece) → take count (take most piece) ≡ take count piece
+take_front zero most piece within = refl
+take_front (suc count) zero piece within = absurd (omega (arith, within))
+take_front (suc count) (suc most) [] within = refl
+take_front (suc count) (suc most) (byte ∷ piece) within =
+    let less : suc count ≤ suc (length (take most piece)) = within in
+    ap (λ (l : List ℕ). byte ∷ l) (take_front count most piece (omega (arith, less)))
+
 module _ {E : Type 0} where
   pub read_again : (a b c : Option (List ℕ)) (read : Result ℕ E) (piece : List ℕ) → Keeps a b → ReadConsumes b c read piece
       → ReadConsumes a c read piece
@@ -50,6 +59,12 @@ module _ {E : Type 0} where
       → WriteAppends a c wrote piece
   write_again a b c (Ok count) piece kept took = kept_appended a b c (take count piece) kept took
   write_again a b c (Err error) piece kept took = Keeps-trans a b c kept took
+
+  -- a write of a front is one of the piece
+  pub write_of_front : (a b : Option (List ℕ)) (wrote : Result ℕ E) (most : ℕ) (piece : List ℕ) → WritesAtMost wrote (take most piece)
+      → WriteAppends a b wrote (take most piece) → WriteAppends a b wrote piece
+  write_of_front a b (Ok count) most piece within took = subst (Appends a b) (take_front count most piece within) took
+  write_of_front a b (Err error) most piece within took = took
 
   -- ---- what is answered
   pub drains : (read : Result ℕ E) (piece : List ℕ) (old new : Option (List ℕ)) (before now : ℕ) (answer : SourceGot)

@@ -66,6 +66,7 @@ impl<P: Read + AsRawFd> Source for PipeSource<P> {
     ghost seen = { λ source. untold source.faults };
 
     fn read(&mut self, alloc: Global, max: usize) -> Result<SourceGot, Memory>
+        requires { 1 ≤ max }
         ensures size { IfOk result (FitsRead max) }
         ensures left { IfOk result (ReadLeaves (untold self.old.faults) (untold self.new.faults)) }
         ensures later { self.old.faults ≤ self.new.faults }
