@@ -41,7 +41,8 @@ none_consumed (Some held) None took = absurd took
 none_consumed (Some held) (Some left) took = sym took
 
 -- a front of a front
-take_front : (count most : ℕ) (piece : List ℕ) → count ≤ length (take most piece) → take count (take most piece) ≡ take count piece
+take_front : (count most : ℕ) (piece : List ℕ) → count ≤ length (take most piece)
+    → take count (take most piece) ≡ take count piece
 take_front zero most piece within = refl
 take_front (suc count) zero piece within = absurd (omega (arith, within))
 take_front (suc count) (suc most) [] within = refl
@@ -61,8 +62,8 @@ module _ {E : Type 0} where
   write_again a b c (Err error) piece kept took = Keeps-trans a b c kept took
 
   -- a write of a front is one of the piece
-  pub write_of_front : (a b : Option (List ℕ)) (wrote : Result ℕ E) (most : ℕ) (piece : List ℕ) → WritesAtMost wrote (take most piece)
-      → WriteAppends a b wrote (take most piece) → WriteAppends a b wrote piece
+  pub write_of_front : (a b : Option (List ℕ)) (wrote : Result ℕ E) (most : ℕ) (piece : List ℕ)
+      → WritesAtMost wrote (take most piece) → WriteAppends a b wrote (take most piece) → WriteAppends a b wrote piece
   write_of_front a b (Ok count) most piece within took = subst (Appends a b) (take_front count most piece within) took
   write_of_front a b (Err error) most piece within took = took
 
