@@ -1,11 +1,12 @@
 //! The queue, the futures and the tasks.
-ghost use Rattle.std.specs.Prelude.{◌≡◌, ◌+◌, ◌<◌, ◌^◌, [], IfOk, IfSome, None, Some, slice_get, if◌then◌else◌};
+ghost use Rattle.std.specs.Prelude.{◌≡◌, ◌+◌, ◌<◌, ◌^◌, false, [], IfOk, IfSome, None, Some, slice_get, if◌then◌else◌};
 ghost use Rattle.std.specs.Option.{option_copied};
 ghost use Rattle.model_loop.specs.Futures.{settle, mark_asked};
 ghost use Rattle.model_loop.specs.Tasks.{raise_count, mark as mark_task};
 ghost use Rattle.law_parts.specs.Shape.{stands_at, members_at};
 ghost use Rattle.law_parts.specs.Quiet.{asked_of, stage_at};
 ghost use Rattle.aio_ready.specs.Queue.{no_handles};
+ghost use Rattle.aio_future.specs.Awaited.{IsUnawaited};
 ghost use Rattle.aio_cancel.specs.Awaitables.{parts, Appended};
 
 use crate::task::Task;
@@ -74,6 +75,14 @@ impl Awaitables {
         ensures room { IfSome result (λ _. place + 1 < 2 ^ 64) }
     {
         self.futures.member(id, place)
+    }
+
+    /// Whether a task or a future that stands for several may wait for a pending future. None does
+    /// where the answer is false.
+    pub fn may_be_awaited(&self, id: FutureId) -> bool
+        ensures { result ≡ false → IsUnawaited id self.now.futures }
+    {
+        self.futures.may_be_awaited(id)
     }
 
     /// The task of a number; None where none was made.

@@ -1,7 +1,7 @@
 -- The table after one number of the map changed.
 use Rattle.std.proofs.Common.{◌≡◌, ◌≢◌, ℕ, zero, suc, ◌+◌, ◌<◌, ◌≤◌, ◌⊎◌, Bool, true, false, cond, List, [], ◌∷◌, ◌++◌, Option, Some, None, length, slice_get}
 use Rattle.std.proofs.Common.{slice_set, refl, ap, sym, ◌∙◌, arith, inl, inr, nat_eq, nat_lt, MutBor, if◌then◌else◌}
-use Rattle.std.specs.Prelude.{unwrap_or}
+use Rattle.std.specs.Prelude.{unwrap_or, is_none}
 use Rattle.std.specs.Option.{IsSome, option_copied_mut}
 use Rattle.std.proofs.lemmas.Bool.{cases_lt, eq-eqb, ne_eqb, lt-ltb, le-ltb}
 use Rattle.model_loop.specs.Parts.{Future}
@@ -14,10 +14,10 @@ use Rattle.aio_future.proofs.TableLemmas.{set-table, push-table, at_held, at_rel
 abbrev pub Puts : List (ℕ × Future) → List (ℕ × Future) → ℕ → Option Future → Type 0
 Puts es after k w = (q : ℕ) → held_in after q ≡ cond (nat_eq k q) w (held_in es q)
 
-put_same : (es after : List (ℕ × Future)) (k : ℕ) (w : Option Future) → Puts es after k w → held_in after k ≡ w
+pub put_same : (es after : List (ℕ × Future)) (k : ℕ) (w : Option Future) → Puts es after k w → held_in after k ≡ w
 put_same es after k w u = u k ∙ rw (eq-eqb k k refl) refl
 
-put_other : (es after : List (ℕ × Future)) (k : ℕ) (w : Option Future) → Puts es after k w → (j : ℕ) → j ≢ k → held_in after j ≡ held_in es j
+pub put_other : (es after : List (ℕ × Future)) (k : ℕ) (w : Option Future) → Puts es after k w → (j : ℕ) → j ≢ k → held_in after j ≡ held_in es j
 put_other es after k w u j n = u j ∙ rw (ne_eqb k j (λ e. n (sym e))) refl
 
 pub put-table : (es after : List (ℕ × Future)) (n k : ℕ) (w : Option Future) → k < n → Puts es after k w
@@ -46,7 +46,20 @@ pending_held es n k fs view p = go (held_in es k) refl (cases_lt k n)
     go None e (inl l) = not (slice_get fs k) false (rw (← view) (ap is_pending_at (at_released es n k l (sym e)))) refl p
     go None e (inr l) = not (slice_get fs k) false (rw (← view) (ap is_pending_at (get-table_past (held_in es) n k l))) refl p
 
-some_is : {X : Type 0} (o : Option X) (x : X) → Some x ≡ o → IsSome o
+none_is : {X : Type 0} (o : Option X) → is_none o ≡ true → o ≡ None
+none_is None e = refl
+none_is (Some x) e = absurd (cc)
+
+-- a pending future has no outcome
+pub open_there : (es : List (ℕ × Future)) (n k : ℕ) (fs : List Future) (r : Option (MutBor Future)) (m : MutBor Future)
+    → IsBelow es n → table (held_in es) n ≡ fs → option_copied_mut r ≡ held_in es k → r ≡ Some m
+    → is_pending_at (slice_get fs k) ≡ true → m.now.outcome ≡ None
+open_there es n k fs r m below view value is pending =
+    let there : Some m.now ≡ held_in es k = ap option_copied_mut (sym is) ∙ value in
+    let here : slice_get fs k ≡ Some m.now = rw (← view) (at_held es n k m.now below there) in
+    none_is m.now.outcome (rw here at pending)
+
+pub some_is : {X : Type 0} (o : Option X) (x : X) → Some x ≡ o → IsSome o
 some_is (Some y) x e = refl
 some_is None x e = absurd (cc)
 
@@ -116,6 +129,15 @@ set_same : {X : Type 0} (xs : List X) (k : ℕ) (v : X) → slice_get xs k ≡ S
 set_same [] k v e = refl
 set_same (x ∷ xs) zero v e = let same : x ≡ v = cc in ap (λ z. z ∷ xs) (sym same)
 set_same (x ∷ xs) (suc k) v e = ap (λ ys. x ∷ ys) (set_same xs k v e)
+
+-- a future that stands as a released one is let go
+pub let_go_same : (fs : List Future) (k : ℕ) → slice_get fs k ≡ Some released
+    → (if nat_lt k (length fs) then slice_set fs k released else fs) ≡ fs
+let_go_same fs k e = go (nat_lt k (length fs))
+  where
+    go : (b : Bool) → (if b then slice_set fs k released else fs) ≡ fs
+    go true = set_same fs k released e
+    go false = refl
 
 -- a released future that is asked
 pub ask_released : (es : List (ℕ × Future)) (n k : ℕ) (fs : List Future) → table (held_in es) n ≡ fs → None ≡ held_in es k

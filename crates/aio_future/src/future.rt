@@ -1,12 +1,15 @@
 //! One future.
-ghost use Rattle.std.specs.Prelude.{◌≡◌, ◌+◌, ◌<◌, ◌^◌, IfSome, [], ◌∷◌, ◌++◌, None, Some, slice_get, is_some};
+ghost use Rattle.std.specs.Prelude.{◌≡◌, ◌+◌, ◌<◌, ◌^◌, IfSome, true, false, [], ◌∷◌, ◌++◌, None, Some, slice_get, is_some, if◌then◌else◌};
+ghost use Rattle.std.specs.List.{list_any};
 ghost use Rattle.std.specs.Option.{option_copied};
 ghost use Rattle.model_loop.specs.Futures.{asked_kind};
 ghost use Rattle.law_parts.specs.Shape.{stands_of, members_of};
-ghost use Rattle.law_parts.specs.Forgotten.{released};
 ghost use Rattle.aio_ready.specs.Queue.{soon_all};
 ghost use Rattle.aio_future.specs.Kinds.{kind_of, is_asked_kind};
+ghost use Rattle.aio_future.specs.Awaited.{is_step, alone_after};
+ghost use Rattle.aio_future.specs.Bare.{future_of};
 
+use crate::bare::Bare;
 use aio_base::{Action, Outcome};
 use aio_ready::{Callbacks, Ready, Ticket};
 use law_parts::FutureState;
@@ -26,12 +29,29 @@ pub enum FutureKind {
     Many { members: Vec<FutureId>, asked: bool },
 }
 
+/// From which number on no future has members, after one of a kind was made: `next` is the number
+/// after its own, and `alone` that from which on none before it had members.
+pub fn alone_after(kind: &FutureKind, next: FutureId, alone: FutureId) -> FutureId
+    ensures { result ≡ alone_after (kind_of kind.now) next alone }
+{
+    match kind {
+        FutureKind::Plain => alone,
+        FutureKind::OfTask(_) => alone,
+        FutureKind::Many {
+            members: _,
+            asked: _,
+        } => next,
+    }
+}
+
 /// A future is pending while it has no outcome. Contracts see the plain future.
 #[derive(Drop)]
 pub struct Future {
     kind: FutureKind,
     outcome: Option<Outcome>,
     callbacks: Callbacks,
+    // whether a step of a task was ever among the callbacks
+    wakes: bool,
 }
 
 impl Model for Future {
@@ -46,6 +66,39 @@ impl Model for Future {
 
     ghost view = { λ a.
         record { kind = kind_of a.kind; outcome = a.outcome; callbacks = a.callbacks } };
+
+    ghost use Rattle.aio_future.specs.Awaited.{WakesNone};
+
+    ghost invariant = { λ a. WakesNone a.wakes a.callbacks };
+}
+
+// Whether a step of a task was among the callbacks, with one callback more.
+fn wakes_with(wakes: bool, action: &Action) -> bool
+    ensures { result ≡ (if is_step action.now then true else wakes) }
+{
+    match action {
+        Action::Step(_) => true,
+        Action::StepInCircle { .. } => true,
+        Action::Wakeup(_) => true,
+        Action::SleepDone { .. }
+        | Action::GroupDone { .. }
+        | Action::Fires(_)
+        | Action::MainDone
+        | Action::Made(_)
+        | Action::StartRead(_)
+        | Action::Lost { .. }
+        | Action::HandlerDone { .. }
+        | Action::ReadableServer(_)
+        | Action::Readable(_)
+        | Action::Writable(_)
+        | Action::Up(_)
+        | Action::Down(_)
+        | Action::WritableChild(_)
+        | Action::ChildItem { .. }
+        | Action::LostChild { .. }
+        | Action::ExtraItem { .. }
+        | Action::Extra(_) => wakes,
+    }
 }
 
 impl Future {
@@ -57,17 +110,7 @@ impl Future {
             kind,
             outcome: None,
             callbacks: Callbacks::new(),
-        }
-    }
-
-    /// The future that stands for a released one.
-    pub fn over() -> Future
-        ensures { result ≡ released }
-    {
-        Future {
-            kind: FutureKind::Plain,
-            outcome: Some(Outcome::Cancelled),
-            callbacks: Callbacks::new(),
+            wakes: false,
         }
     }
 
@@ -94,11 +137,29 @@ impl Future {
         ready.soon_all(&mut self.callbacks);
     }
 
+    /// The one that takes no room, where it is such a one and calls nothing any more.
+    pub fn bare(&self) -> Option<Bare>
+        ensures { IfSome result (λ bare. self.now.callbacks ≡ [] → future_of bare ≡ self.now) }
+    {
+        match &self.outcome {
+            Some(ended) => Bare::of(&self.kind, ended),
+            None => None,
+        }
+    }
+
     /// Adds a callback behind the others, with the memory of its handle.
     pub fn add(&mut self, ticket: Ticket, action: Action)
         ensures { self.new ≡ record self.old { callbacks = self.old.callbacks ++ action ∷ [] } }
     {
+        self.wakes = wakes_with(self.wakes, &action);
         self.callbacks.add(ticket, action);
+    }
+
+    /// Whether a step of a task may be among its callbacks. It is among none where this is false.
+    pub fn wakes(&self) -> bool
+        ensures { result ≡ false → list_any is_step self.now.callbacks ≡ false }
+    {
+        self.wakes
     }
 
     /// Notes that a cancel of a future that stands for several reached a member; of any other nothing.

@@ -9,8 +9,11 @@ ghost use Rattle.law_parts.specs.Forgotten.{released};
 ghost use Rattle.aio_ready.specs.Queue as queue;
 ghost use Rattle.aio_future.specs.Kinds.{kind_of, is_asked};
 ghost use Rattle.aio_future.specs.Settled.{settled, called, registered, soon_if_done, asked};
+ghost use Rattle.aio_future.specs.Awaited.{IsUnawaited};
 
-use crate::future::{Future, FutureId, FutureKind};
+use crate::ends::Ends;
+use crate::future::{FutureId, FutureKind, alone_after};
+use crate::held::HeldFuture;
 use aio_base::{Action, Memory, Outcome};
 use aio_ready::{Ready, Ticket};
 use indexmap::IndexMap;
@@ -22,10 +25,14 @@ use std::marker::Model;
 /// stands as a done one without callbacks.
 #[derive(Drop)]
 pub struct Futures {
-    held: IndexMap<FutureId, Future>,
+    held: IndexMap<FutureId, HeldFuture>,
     next: FutureId,
+    // none of this number or a later one has members, which are made before what stands for them
+    alone: FutureId,
     // what stands for a released one
-    over: Future,
+    over: HeldFuture,
+    // the outcomes of those that have no room of their own
+    ends: Ends,
 }
 
 impl Model for Futures {
@@ -40,10 +47,12 @@ impl Model for Futures {
     ghost coded = { coded_list coded_future };
 
     ghost use Rattle.aio_future.specs.Table.{table, held_in, IsBelow};
+    ghost use Rattle.aio_future.specs.Awaited.{HasNoMembersFrom};
 
     ghost view = { λ a. table (held_in a.held.entries) a.next };
 
-    ghost invariant = { λ a. IsBelow a.held.entries a.next × (a.over ≡ released) };
+    ghost invariant = { λ a. IsBelow a.held.entries a.next
+        × ((a.over ≡ released) × HasNoMembersFrom a.held.entries a.alone) };
 }
 
 impl Futures {
@@ -52,11 +61,14 @@ impl Futures {
         ensures { IfOk result (λ futures. futures ≡ []) }
     {
         let held = IndexMap::new(alloc);
-        let over = Future::over();
+        let over = HeldFuture::over();
+        let ends = Ends::new();
         Ok(Futures {
             held,
             next: 0,
+            alone: 0,
             over,
+            ends,
         })
     }
 
@@ -83,7 +95,7 @@ impl Futures {
     }
 
     /// A pending future, and its number.
-    pub fn make(&mut self, _alloc: Global, kind: FutureKind) -> Result<FutureId, Memory>
+    pub fn make(&mut self, alloc: Global, kind: FutureKind) -> Result<FutureId, Memory>
         ensures number { IfOk result (λ id. id ≡ length self.old) }
         ensures after { OnOk result (self.new ≡
             self.old ++ record { kind = kind_of kind; outcome = None; callbacks = [] } ∷ []) }
@@ -93,8 +105,11 @@ impl Futures {
         let Some(next) = id.checked_add(1) else {
             return Err(Memory);
         };
-        self.held.insert(id, Future::new(kind))?;
+        let alone = alone_after(&kind, next, self.alone);
+        let future = HeldFuture::new(alloc, kind)?;
+        self.held.insert(id, future)?;
         self.next = next;
+        self.alone = alone;
         Ok(id)
     }
 
@@ -116,6 +131,7 @@ impl Futures {
             return false;
         }
         self.end(id, outcome, ready);
+        self.let_go(id);
         true
     }
 
@@ -136,7 +152,7 @@ impl Futures {
         ensures { option_copied result ≡ outcome_at (slice_get self.now id) }
     {
         match self.at(id) {
-            Some(future) => future.outcome(),
+            Some(future) => future.outcome(&self.ends),
             None => None,
         }
     }
@@ -180,6 +196,21 @@ impl Futures {
         }
     }
 
+    /// Whether a task or a future that stands for several may wait for this one. None does where
+    /// the answer is false. It looks at no other future: whatever was made before the last one that
+    /// stands for several may be a member.
+    pub fn may_be_awaited(&self, id: FutureId) -> bool
+        ensures { result ≡ false → IsUnawaited id self.now }
+    {
+        let Some(future) = self.held.get(&id) else {
+            return true;
+        };
+        if id < self.alone {
+            return true;
+        }
+        future.wakes()
+    }
+
     /// How a future stands for whoever walks over futures.
     pub fn stands(&self, id: FutureId) -> FutureState
         ensures { result ≡ stands_at (slice_get self.now id) }
@@ -201,7 +232,25 @@ impl Futures {
         }
     }
 
-    fn at(&self, id: FutureId) -> Option<&Future>
+    // One that stands as a released one does takes no memory.
+    fn let_go(&mut self, id: FutureId)
+        ensures { self.new ≡ self.old }
+    {
+        if self.is_released(id) {
+            self.release(id);
+        }
+    }
+
+    fn is_released(&self, id: FutureId) -> bool
+        ensures { result ≡ true → slice_get self.now id ≡ Some released }
+    {
+        match self.at(id) {
+            Some(future) => future.is_released(),
+            None => false,
+        }
+    }
+
+    fn at(&self, id: FutureId) -> Option<&HeldFuture>
         ensures { option_copied result ≡ slice_get self.now id }
     {
         match self.held.get(&id) {
@@ -210,7 +259,7 @@ impl Futures {
         }
     }
 
-    fn released_at(&self, id: FutureId) -> Option<&Future>
+    fn released_at(&self, id: FutureId) -> Option<&HeldFuture>
         ensures { option_copied result
             ≡ (if nat_lt id (length self.now) then Some released else None) }
     {

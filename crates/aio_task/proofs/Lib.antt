@@ -9,3 +9,4 @@ pub mod KeptSteps
 pub mod Nothing
 pub mod Sizes
 pub mod Plainly
+pub mod NoWaiter

@@ -1,6 +1,6 @@
 -- The loop's parts in code, as contracts see them: the time and the profile, the queue, the timers, the futures and the
 -- tasks, and whose step is going on.
-use Rattle.std.specs.Prelude.{◌≡◌, ℕ, Bool, true, false, not, ◌&&◌, List, [], Option, Some, None}
+use Rattle.std.specs.Prelude.{◌≡◌, ℕ, Bool, false, not, ◌&&◌, List, [], Option, Some, None}
 use Rattle.std.specs.List.{list_any}
 use Rattle.model_value.specs.Action.{Action, Circle}
 use Rattle.model_value.specs.declared.action.Action.TheVariants.{Step, StepInCircle, Wakeup}
@@ -10,6 +10,7 @@ use Rattle.aio_ready.specs.declared.handle.HandleName.{HandleName}
 use Rattle.aio_ready.specs.Names.{is_same}
 use Rattle.aio_ready.specs.Queue.{Queue, no_handles}
 use Rattle.aio_timer.specs.Schedule.{Schedule, no_timers}
+use Rattle.aio_future.specs.Awaited as future
 use Rattle.aio_cancel.specs.Awaitables as cancel
 use Rattle.aio_cancel.specs.Awaitables.{waiting}
 use Rattle.aio_task.specs.declared.suspension.Suspension.{Suspension}
@@ -48,10 +49,7 @@ stepped_at (Some action) = stepped action
 
 -- whether an action is a step or a wakeup of a task
 abbrev pub is_step : Action → Bool
-is_step (Step task) = true
-is_step (StepInCircle task circle) = true
-is_step (Wakeup task) = true
-is_step _ = false
+is_step = future.is_step
 
 -- whether a handle has a name, and is a step or a wakeup that isn't dead
 abbrev pub steps_as : HandleName → Handle → Bool

@@ -1,10 +1,11 @@
 //! A task's step ends with the await of a future that isn't done.
-ghost use Rattle.std.specs.Prelude.{◌≡◌, None, Some};
+ghost use Rattle.std.specs.Prelude.{◌≡◌, true, None, Some};
 ghost use Rattle.model_loop.specs.Circles.{circle};
 ghost use Rattle.model_loop.specs.Owning.{OwnsFutures};
 ghost use Rattle.model_loop.specs.Sound.{HasNoCircle};
 ghost use Rattle.model_loop.specs.Suspend.{suspend as suspend_of};
-ghost use Rattle.model_loop.specs.Tasks.{is_marked as is_marked_in};
+ghost use Rattle.model_loop.specs.Tasks.{is_marked as is_marked_in, lives};
+ghost use Rattle.model_loop.specs.Ways.{HasOneWay};
 ghost use Rattle.model_loop.specs.Suspend.{cancel_wait};
 ghost use Rattle.aio_cancel.specs.Awaitables.{parts, Appended};
 ghost use Rattle.aio_cancel.specs.Noted.{HasNoNotes};
@@ -18,7 +19,8 @@ use aio_cancel::{Awaitables, Marks, Notes, WalkStack, cancel, leads};
 use aio_future::FutureId;
 use aio_ready::Ticket;
 
-// Why a task can't wait for a future, if it can't.
+// Why a task can't wait for a future, if it can't. Where nobody waits for the task, no circle goes
+// through it, and there is nothing to look for.
 fn find_circle(
     task: u32,
     on: FutureId,
@@ -27,6 +29,9 @@ fn find_circle(
     notes: &mut Notes,
     stack: &mut WalkStack,
 ) -> Option<Circle>
+    requires owns { OwnsFutures (parts body.now) }
+    requires one_way { HasOneWay (Some task) (parts body.now) }
+    requires lives { lives (parts body.now) task ≡ true }
     requires no_circle { HasNoCircle (parts body.now) }
     requires room { HasRoom body.now stack.old seen.old notes.old }
     ensures answer { result ≡ circle (parts body.now) task on }
@@ -37,6 +42,10 @@ fn find_circle(
     let own = future_of(body, task);
     if on == own {
         return Some(Circle::Itself);
+    }
+    let awaited = body.may_be_awaited(own);
+    if !awaited {
+        return None;
     }
     if leads(on, own, body, seen, notes, stack) {
         Some(Circle::ItsWaiter)
@@ -71,7 +80,7 @@ fn cancel_waiting(
     }
 }
 
-/// A task awaits a pending future.
+/// The running task awaits a pending future.
 pub fn suspend(
     task: u32,
     on: FutureId,
@@ -82,6 +91,8 @@ pub fn suspend(
     stack: &mut WalkStack,
 ) -> Suspension
     requires owns { OwnsFutures (parts body.old) }
+    requires one_way { HasOneWay (Some task) (parts body.old) }
+    requires lives { lives (parts body.old) task ≡ true }
     requires no_circle { HasNoCircle (parts body.old) }
     requires room { HasRoom body.old stack.old seen.old notes.old }
     ensures answer { result ≡ suspension_of (circle (parts body.old) task on) }

@@ -1,13 +1,14 @@
 -- The parts as the code sees them: the futures that it released stand as done ones.
 use Rattle.std.specs.Prelude.{◌≡◌, ℕ, suc, Bool, true, cond, List, [], ◌∷◌, Some, None}
-use Rattle.model_value.specs.declared.outcome.Outcome.TheVariants.{Cancelled}
+use Rattle.model_value.specs.Value.{Nothing}
+use Rattle.model_value.specs.declared.outcome.Outcome.TheVariants.{Value}
 use Rattle.model_loop.specs.Parts.{Plain, Future, Parts}
 use Rattle.model_loop.specs.Cancel.{CancelRequest}
 use Rattle.law_parts.specs.Quiet.{stage_at}
 
--- what stands for a future that was released
+-- what stands for a future that was released: one that ended with None, as most do
 abbrev pub released : Future
-released = record { kind = Plain; outcome = Some Cancelled; callbacks = [] }
+released = record { kind = Plain; outcome = Some (Value Nothing); callbacks = [] }
 
 abbrev pub forget_from : (ℕ → Bool) → ℕ → List Future → List Future
 forget_from gone number [] = []

@@ -54,6 +54,29 @@ fn wait_in_a_row(count: u32, end: FutureId, still: &mut Still) -> bool {
     right
 }
 
+/// Each task awaits the one that was made before it, which waits already, the first a future, and a
+/// cancel of the last goes down to it. No await looks along the chain.
+pub fn chain_upwards(alloc: Global, count: u32, still: &mut Still) -> Result<bool, Memory> {
+    let end = still.plain(alloc)?;
+    spawn_all(alloc, count, still)?;
+    let waits = wait_for_those_before(count, end, still);
+    let last = still.parts().future_of(count.saturating_sub(1));
+    let reached = still.cancel(last);
+    let ended = !still.parts().is_pending(end);
+    Ok(waits && reached && ended && still.parts().cancelling(0) == 1)
+}
+
+// Each of so many tasks awaits the one that was made before it, the first this future.
+fn wait_for_those_before(count: u32, end: FutureId, still: &mut Still) -> bool {
+    let mut right = true;
+    let mut on = end;
+    for task in 0..count {
+        right = right && still.step(Then::Awaits(on)) == CameTo::Sent(task);
+        on = still.parts().future_of(task);
+    }
+    right
+}
+
 /// Each future stands for the one before twice, and a cancel goes through each once.
 pub fn many_of_manys(alloc: Global, count: u32, still: &mut Still) -> Result<bool, Memory> {
     let end = still.plain(alloc)?;

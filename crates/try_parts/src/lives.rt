@@ -2,6 +2,7 @@
 use crate::step::{CameTo, Then};
 use crate::still::Still;
 use aio_base::Memory;
+use aio_task::FutureId;
 use std::alloc::Global;
 
 /// A task pauses, awaits another, is woken once that is done, and returns.
@@ -46,6 +47,37 @@ pub fn await_of_itself(alloc: Global, still: &mut Still) -> Result<bool, Memory>
     still.set_bar();
     let ended = still.step(Then::Raises) == CameTo::Sent(task);
     Ok(first && free && ended && !still.parts().is_pending(own) && !still.cancel(own))
+}
+
+/// Of two tasks that await each other the second is refused.
+pub fn await_of_its_waiter(alloc: Global, still: &mut Still) -> Result<bool, Memory> {
+    let first = still.spawn(alloc)?;
+    let second = still.spawn(alloc)?;
+    let on = still.parts().future_of(second);
+    Ok(second_is_refused(first, second, on, still))
+}
+
+/// A task awaits what stands for another one and a future; the other is refused to await the task.
+pub fn await_through_many(alloc: Global, still: &mut Still) -> Result<bool, Memory> {
+    let first = still.spawn(alloc)?;
+    let second = still.spawn(alloc)?;
+    let other = still.parts().future_of(second);
+    let end = still.plain(alloc)?;
+    let both = still.many(alloc, other, end)?;
+    Ok(second_is_refused(first, second, both, still))
+}
+
+// The first task awaits this future, which leads to the second, and the second the first task.
+fn second_is_refused(first: u32, second: u32, on: FutureId, still: &mut Still) -> bool {
+    let own = still.parts().future_of(first);
+    still.set_bar();
+    let awaited = still.step(Then::Awaits(on)) == CameTo::Sent(first)
+        && still.step(Then::Awaits(own)) == CameTo::Sent(second);
+    let waiter = still.parts().waiter(first);
+    let free = still.parts().waiter(second).is_none();
+    still.set_bar();
+    let goes_on = still.step(Then::Returns) == CameTo::Sent(second);
+    awaited && waiter == Some(on) && free && goes_on
 }
 
 /// Callbacks run in order of registration, once the future is done, and at once where it is.

@@ -18,22 +18,31 @@ use still::Still;
 enum PartsCase {
     ManyWithDoneMember,
     Chain,
+    ChainUpwards,
     ManyOfManys,
     AwaitsAnother,
     MarkIsUsedUp,
     AwaitOfItself,
+    AwaitOfItsWaiter,
+    AwaitThroughMany,
     CallbacksInOrder,
     TimersByDeadline,
     ManyTimers,
 }
 
-const CASES: [(&str, PartsCase); 9] = [
+const CASES: [(&str, PartsCase); 12] = [
     ("many_with_done_member", PartsCase::ManyWithDoneMember),
     ("chain_of_100000_waits_is_cancelled", PartsCase::Chain),
+    (
+        "chain_of_100000_awaits_of_those_that_wait",
+        PartsCase::ChainUpwards,
+    ),
     ("many_of_1000_manys_is_cancelled", PartsCase::ManyOfManys),
     ("awaits_another", PartsCase::AwaitsAnother),
     ("mark_is_used_up", PartsCase::MarkIsUsedUp),
     ("await_of_itself", PartsCase::AwaitOfItself),
+    ("await_of_its_waiter", PartsCase::AwaitOfItsWaiter),
+    ("await_through_many", PartsCase::AwaitThroughMany),
     ("callbacks_in_order", PartsCase::CallbacksInOrder),
     ("timers_by_deadline", PartsCase::TimersByDeadline),
     ("100000_timers_fall_due", PartsCase::ManyTimers),
@@ -44,10 +53,13 @@ impl PartsCase {
         match self {
             PartsCase::ManyWithDoneMember => chains::many_with_done_member(alloc, still),
             PartsCase::Chain => chains::chain(alloc, 100_000, still),
+            PartsCase::ChainUpwards => chains::chain_upwards(alloc, 100_000, still),
             PartsCase::ManyOfManys => chains::many_of_manys(alloc, 1_000, still),
             PartsCase::AwaitsAnother => lives::awaits_another(alloc, still),
             PartsCase::MarkIsUsedUp => lives::mark_is_used_up(alloc, still),
             PartsCase::AwaitOfItself => lives::await_of_itself(alloc, still),
+            PartsCase::AwaitOfItsWaiter => lives::await_of_its_waiter(alloc, still),
+            PartsCase::AwaitThroughMany => lives::await_through_many(alloc, still),
             PartsCase::CallbacksInOrder => lives::callbacks_in_order(alloc, still),
             PartsCase::TimersByDeadline => lives::timers_by_deadline(alloc, still),
             PartsCase::ManyTimers => lives::many_timers(alloc, 100_000, still),
