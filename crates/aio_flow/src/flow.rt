@@ -115,6 +115,7 @@ impl Flow {
         ensures { self.new ≡ sending.took count self.old }
     {
         self.unsent.advance(count);
+        self.let_go();
         let unsent = self.unsent.len();
         let resume = if self.whole { 0 } else { self.low };
         self.paused = (self.paused || unsent > self.high) && unsent > resume;
@@ -132,7 +133,17 @@ impl Flow {
         ensures { self.new ≡ sending.set_ended self.old }
     {
         self.unsent.clear();
+        self.let_go();
         self.ended = true;
+    }
+
+    // Where nothing is unsent, no memory is kept for it.
+    fn let_go(&mut self)
+        ensures { self.new ≡ self.old }
+    {
+        if self.unsent.is_empty() {
+            self.unsent = BytesMut::new(*self.unsent.allocator());
+        }
     }
 
     /// How many bytes are unsent.

@@ -38,7 +38,7 @@ StandsAt program code coroutine arguments tape (Some waiting) =
     (plain_waiting waiting)
 
 abbrev pub StandsFor : Program → Code → (coroutine : ℕ) → (arguments : List Value) → Tape → Gen → Type 0
-StandsFor program code coroutine arguments tape gen = StandsAt program code coroutine arguments tape gen.waiting
+StandsFor program code coroutine arguments tape gen = StandsAt program code coroutine arguments tape gen.waiting.value
 
 -- What is said after moves, and what waits then, is what the coroutine says after its tape, whatever comes after.
 abbrev pub SaysAfter : (limit : ℕ) → Program → (codes : ℕ → CoroutineCode) → (coroutine : ℕ) → (arguments : List Value) → Tape → GenOut
@@ -54,4 +54,4 @@ SaysAfter limit program codes coroutine arguments tape Runaway next = ComesTo li
 
 -- memory was refused, or the coroutine has returned, raised or run away
 abbrev pub IsOver : Gen → Type 0
-IsOver gen = gen.waiting ≡ None
+IsOver gen = gen.waiting.value ≡ None

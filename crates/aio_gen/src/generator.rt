@@ -38,7 +38,8 @@ pub struct Waiting {
 /// A coroutine that is resumed with one input at a time. It holds the open frames, and no tape.
 #[derive(Drop)]
 pub struct Gen {
-    waiting: Option<Waiting>,
+    // in memory of its own, so that a place for a coroutine is small
+    waiting: Box<Option<Waiting>>,
 }
 
 impl Gen {
@@ -59,10 +60,11 @@ impl Gen {
             callers: Vec::new(alloc),
             left: STEP_LIMIT,
         };
-        let waiting = Some(Waiting {
+        let waiting = Waiting {
             frames,
             use_of: AnswerUse::Ignored,
-        });
+        };
+        let waiting = Box::new(alloc, Some(waiting))?;
         Ok(Gen { waiting })
     }
 
@@ -98,7 +100,7 @@ impl Gen {
             return Err(Memory);
         };
         let (out, next) = resumed(alloc, code, waiting, input, fresh)?;
-        put(&mut self.waiting, next);
+        put(&mut *self.waiting, next);
         Ok(out)
     }
 }

@@ -67,6 +67,7 @@ impl Buffer {
         let front = Vec::from_slice(alloc, &self.bytes.as_slice()[..within])?;
         self.clear = 0;
         self.bytes.advance(within);
+        self.let_go();
         Ok(Blob::of(front))
     }
 
@@ -77,6 +78,19 @@ impl Buffer {
         let within = count.min(self.bytes.len());
         self.clear = 0;
         self.bytes.advance(within);
+        self.let_go();
+    }
+
+    // Where it holds nothing, it keeps no memory.
+    fn let_go(&mut self)
+        ensures { self.new ≡ self.old }
+    {
+        if self.bytes.is_empty() {
+            let alloc = *self.bytes.allocator();
+            self.clear = 0;
+            self.bytes = BytesMut::new(alloc);
+            self.sought = Vec::new(alloc);
+        }
     }
 
     /// The bytes in order.
