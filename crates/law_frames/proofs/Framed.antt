@@ -128,12 +128,12 @@ module _ (whom : Handed) where
 
 -- ---- a connection
 recv_of : (id : ℕ) → IsCallOf (to.Conn id) (call.Recv id)
-recv_of id (to.Conn other) apart came = refl
-recv_of id (to.Child other) apart came = refl
+recv_of id (to.Conn other) apart = (refl, λ came. refl)
+recv_of id (to.Child other) apart = (refl, λ came. refl)
 
 shut_of : (id : ℕ) → IsCallOf (to.Conn id) (call.Shut id)
-shut_of id (to.Conn other) apart came = refl
-shut_of id (to.Child other) apart came = refl
+shut_of id (to.Conn other) apart = (refl, λ came. refl)
+shut_of id (to.Child other) apart = (refl, λ came. refl)
 
 module _ (id : ℕ) where
   abbrev it : Handed
@@ -246,8 +246,8 @@ module _ (id : ℕ) where
 
 -- ---- a child
 kill_of : (id : ℕ) → IsCallOf (to.Child id) (call.Kill id)
-kill_of id (to.Conn other) apart came = refl
-kill_of id (to.Child other) apart came = refl
+kill_of id (to.Conn other) apart = (refl, λ came. refl)
+kill_of id (to.Child other) apart = (refl, λ came. refl)
 
 module _ (id : ℕ) where
   abbrev its : Handed

@@ -11,13 +11,13 @@ use Rattle.model_value.specs.declared.action.Action.TheVariants as action
 use Rattle.model_stream.specs.Doing.{Doing, Ends, Changes, Asks, Change, CallSoon, MakeFuture, Settle, and_then, settles}
 use Rattle.model_stream.specs.History.{is_same}
 use Rattle.law_sender.specs.SoundSenders.{outlet_of}
-use Rattle.law_sender.specs.Ways.{Move, Did, Heard, Always, handed_in, is_loss, losses, one_if}
+use Rattle.law_sender.specs.Ways.{Move, Did, Heard, Always, closes, handed_in, is_close, is_loss, losses, one_if}
 use Rattle.law_sender.proofs.SoundSenders.{make_quiet, settle_quiet}
 use Rattle.law_sender.proofs.Along.{always_map}
 use Rattle.law_frames.specs.Frames.{IsActionOf, IsApart, IsCallOf, IsFramed}
 
 pub apart_start : (whom : Handed) → IsApart whom []
-apart_start whom = record { hands = refl; loses = refl }
+apart_start whom = record { hands = refl; loses = refl; closes = refl }
 
 pub none_and : (some : ℕ) (b : Bool) → b ≡ false → some ≡ 0 → one_if b + some ≡ 0
 none_and some true is same = absurd (let bad : ⊥ = cc in bad)
@@ -26,7 +26,7 @@ none_and some false is same = omega (arith, same)
 pub apart_did : (whom : Handed) (change : Change) (moves : List Move) → is_loss whom change ≡ false → IsApart whom moves
     → IsApart whom (Did change ∷ moves)
 apart_did whom change moves none it =
-    record { hands = it.hands; loses = none_and (losses whom moves) (is_loss whom change) none it.loses }
+    record { hands = it.hands; loses = none_and (losses whom moves) (is_loss whom change) none it.loses; closes = it.closes }
 
 -- ---- put together
 module _ (whom : Handed) where
@@ -52,7 +52,7 @@ module _ (whom : Handed) where
   -- along every way
   pub framed_hands : {A : Type 0} (other : Handed) → is_same other whom ≡ false → (doing : Doing A) → IsFramed whom doing
       → Always (λ moves result. IsApart other moves) doing
-  framed_hands other apart (Ends result) h = record { hands = refl; loses = refl }
+  framed_hands other apart (Ends result) h = apart_start other
   framed_hands other apart (Changes MakeFuture rest) h =
       always_map (λ moves result. IsApart other moves) (λ moves result. IsApart other (Did MakeFuture ∷ moves)) rest
       (λ moves result it. apart_did other MakeFuture moves (make_quiet other) it) (framed_hands other apart rest h)
@@ -65,7 +65,11 @@ module _ (whom : Handed) where
   framed_hands other apart (Asks call rest) h =
       λ answer fit.
       always_map (λ moves result. IsApart other moves) (λ moves result. IsApart other (Heard call answer ∷ moves)) (rest answer)
-      (λ moves result it. record { hands = ap (λ bytes. bytes ++ handed_in other moves) (h.0 other apart answer) ∙ it.hands; loses = it.loses })
+      (λ moves result it. record {
+        hands = ap (λ bytes. bytes ++ handed_in other moves) ((h.0 other apart).1 answer) ∙ it.hands;
+        loses = it.loses;
+        closes = none_and (closes other moves) (is_close other call) (h.0 other apart).0 it.closes;
+      })
       (framed_hands other apart (rest answer) (h.1 answer))
 
 -- ---- the calls of each
@@ -82,16 +86,16 @@ child_hands id other bytes apart (answer.Took count) = apart_taken (eqb other id
 child_hands id other bytes apart _ = refl
 
 pub sends_of : (whom : Handed) (bytes : List ℕ) → IsCallOf whom ((outlet_of whom).sends bytes)
-sends_of (to.Conn id) bytes (to.Conn other) apart came = conn_hands id other bytes apart came
-sends_of (to.Conn id) bytes (to.Child other) apart came = refl
-sends_of (to.Child id) bytes (to.Conn other) apart came = refl
-sends_of (to.Child id) bytes (to.Child other) apart came = child_hands id other bytes apart came
+sends_of (to.Conn id) bytes (to.Conn other) apart = (refl, conn_hands id other bytes apart)
+sends_of (to.Conn id) bytes (to.Child other) apart = (refl, λ came. refl)
+sends_of (to.Child id) bytes (to.Conn other) apart = (refl, λ came. refl)
+sends_of (to.Child id) bytes (to.Child other) apart = (refl, child_hands id other bytes apart)
 
 pub closes_of : (whom : Handed) → IsCallOf whom (outlet_of whom).closes
-closes_of (to.Conn id) (to.Conn other) apart came = refl
-closes_of (to.Conn id) (to.Child other) apart came = refl
-closes_of (to.Child id) (to.Conn other) apart came = refl
-closes_of (to.Child id) (to.Child other) apart came = refl
+closes_of (to.Conn id) (to.Conn other) apart = (apart, λ came. refl)
+closes_of (to.Conn id) (to.Child other) apart = (refl, λ came. refl)
+closes_of (to.Child id) (to.Conn other) apart = (refl, λ came. refl)
+closes_of (to.Child id) (to.Child other) apart = (apart, λ came. refl)
 
 pub loses_of : (whom : Handed) (broken : Bool) → IsActionOf whom ((outlet_of whom).loses broken)
 loses_of (to.Conn id) broken (to.Conn other) apart = apart

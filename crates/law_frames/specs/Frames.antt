@@ -1,5 +1,5 @@
--- What is done for one connection or child is no matter of another: along every way, it hands it nothing and schedules no loss
--- of it.
+-- What is done for one connection or child is no matter of another: along every way, it hands it nothing, schedules no loss of
+-- it, and doesn't ask the outside to close it.
 use Rattle.std.specs.Prelude.{◌≡◌, false, List, []}
 use Rattle.model_value.specs.Action.{Action}
 use Rattle.model_wire.specs.declared.event.Handed.{Handed}
@@ -7,11 +7,12 @@ use Rattle.model_wire.specs.Call.{Call, Answer}
 use Rattle.model_wire.specs.Event.{handed_by}
 use Rattle.model_stream.specs.Doing.{Doing, Ends, Changes, Asks, CallSoon, MakeFuture, Settle}
 use Rattle.model_stream.specs.History.{is_same}
-use Rattle.law_sender.specs.Ways.{Move, handed_in, is_loss, losses}
+use Rattle.law_sender.specs.Ways.{Move, closes, handed_in, is_close, is_loss, losses}
 
--- a call that hands nothing to another
+-- a call that hands nothing to another, and closes no other
 abbrev pub IsCallOf : Handed → Call → Type 0
-IsCallOf whom call = (other : Handed) → is_same other whom ≡ false → (came : Answer) → handed_by other call came ≡ []
+IsCallOf whom call =
+    (other : Handed) → is_same other whom ≡ false → (is_close other call ≡ false) × ((came : Answer) → handed_by other call came ≡ [])
 
 -- a callback that is no loss of another
 abbrev pub IsActionOf : Handed → Action → Type 0
@@ -28,3 +29,4 @@ IsFramed whom (Asks call rest) = IsCallOf whom call × ((answer : Answer) → Is
 pub record IsApart (whom : Handed) (moves : List Move) : Type 0 where
   pub hands : handed_in whom moves ≡ []
   pub loses : losses whom moves ≡ 0
+  pub closes : closes whom moves ≡ 0

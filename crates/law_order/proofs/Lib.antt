@@ -1,5 +1,4 @@
 pub mod Beginning
 pub mod Losing
 pub mod Moving
-pub mod Replying
-pub mod Turning
+pub mod Walking

@@ -1,5 +1,5 @@
 -- Of each connection and child at most one loss is to come or ran, in every state of a run.
-use Rattle.std.proofs.Common.{◌≡◌, ℕ, zero, suc, ◌+◌, ◌≤◌, Bool, true, false, not, ◌&&◌, cond, List, [], ◌∷◌, ◌++◌, refl, ap, le_refl, arith}
+use Rattle.std.proofs.Common.{◌≡◌, ℕ, zero, suc, ◌+◌, ◌≤◌, Bool, true, false, List, [], ◌∷◌, ◌++◌, refl, ap, subst, le_refl, arith}
 use Rattle.model_tree.specs.Syntax.{Program}
 use Rattle.model_wire.specs.declared.event.Event.TheVariants as event
 use Rattle.model_wire.specs.declared.event.Handed.{Handed}
@@ -7,20 +7,19 @@ use Rattle.model_wire.specs.declared.event.Handed.TheVariants as to
 use Rattle.model_wire.specs.Event.{Event}
 use Rattle.model_wire.specs.Journal.{Entry}
 use Rattle.model_loop.specs.Parts.{Handle, Parts}
-use Rattle.model_stream.specs.Doing.{MakeFuture, CallSoon, Settle}
 use Rattle.model_stream.specs.Streams.{Streams}
-use Rattle.model_machine.specs.Does.{changed}
 use Rattle.model_machine.specs.State.{State, start}
 use Rattle.law_quiet.specs.Quiet.{IsQuiet as Quiet, RegistersNone, losses_pending}
-use Rattle.law_quiet.proofs.Parts.{make_quiet, settle_quiet}
-use Rattle.law_sender.specs.Ways.{Move, Did, Heard, is_loss, losses, one_if, told_by}
-use Rattle.law_sides.specs.Sides.{AreKept, standing_of}
-use Rattle.law_timeouts.proofs.Entries.{entries-soon}
-use Rattle.law_timeouts.proofs.Quiet.{handles-first}
-use Rattle.model_loop.specs.Parts.{Plain}
-use Rattle.law_order.specs.Order.{In, IsLostOnce, losses_ran}
+use Rattle.law_quiet.proofs.Moves.{first_goes, first_runs, loss_of, losses_counted, made_by}
+use Rattle.law_quiet.proofs.Parts.{losses_of}
+use Rattle.law_sender.specs.SoundSenders.{outlet_of}
+use Rattle.law_sender.specs.Ways.{Move, Did, Heard, one_if, told_by}
+use Rattle.law_fronts.specs.Fronts.{GoesOn, Loses, MayGiveUp, Way}
+use Rattle.law_sides.specs.Sides.{AreKeptBy, standing_of}
+use Rattle.law_walk.specs.Walks.{In, made_on}
+use Rattle.law_order.specs.Order.{IsLostOnce, losses_ran}
 use Rattle.law_order.proofs.Beginning.{begins}
-use Rattle.law_order.proofs.Moving.{IsKept, IsQuiet, made_on, order_kept}
+use Rattle.law_order.proofs.Moving.{IsKept, IsQuiet, order_kept, order_tree}
 
 -- ---- what ran
 ran_both : (whom : Handed) (events more : List Event) → losses_ran whom (events ++ more) ≡ losses_ran whom events + losses_ran whom more
@@ -34,57 +33,6 @@ none_told : (whom : Handed) (moves : List Move) → losses_ran whom (told_by mov
 none_told whom [] = refl
 none_told whom (Did change ∷ moves) = none_told whom moves
 none_told whom (Heard it came ∷ moves) = none_told whom moves
-
--- ---- what moves schedule is to come
-pub record IsMade (moves : List Move) (p q : Parts) : Type 0 where
-  pub registers : RegistersNone q
-  pub pending : (whom : Handed) → losses_pending whom q ≤ losses_pending whom p + losses whom moves
-
-made_by : (moves : List Move) (p : Parts) → RegistersNone p → IsMade moves p (made_on moves p)
-made_by [] p none = record { registers = none; pending = λ whom. omega arith }
-made_by (Heard it came ∷ moves) p none =
-    let rest = made_by moves p none in record { registers = rest.registers; pending = rest.pending }
-made_by (Did MakeFuture ∷ moves) p none =
-    let first = make_quiet Plain p in
-    let rest = made_by moves (changed MakeFuture p) (first.registers none) in
-    record {
-      registers = rest.registers;
-      pending = λ whom. let a = first.pending none whom in let b = rest.pending whom in omega (arith, a, b);
-    }
-made_by (Did (Settle future outcome) ∷ moves) p none =
-    let first = settle_quiet future outcome p in
-    let rest = made_by moves (changed (Settle future outcome) p) (first.registers none) in
-    record {
-      registers = rest.registers;
-      pending = λ whom. let a = first.pending none whom in let b = rest.pending whom in omega (arith, a, b);
-    }
-made_by (Did (CallSoon it) ∷ moves) p none =
-    let rest = made_by moves (changed (CallSoon it) p) none in
-    record {
-      registers = rest.registers;
-      pending = λ whom.
-          let a : losses_pending whom (changed (CallSoon it) p) ≡ losses_pending whom p + one_if (is_loss whom (CallSoon it)) =
-          entries-soon (λ tag act. is_loss whom (CallSoon act)) it p in
-          let b = rest.pending whom in
-          omega (arith, a, b);
-    }
-
--- ---- one that runs is to come no more
-live_one : (dead b : Bool) → dead ≡ false → cond (not dead && b) 1 0 ≡ one_if b
-live_one true b is = absurd (let bad : ⊥ = cc in bad)
-live_one false b is = refl
-
-first_runs : (whom : Handed) (p : Parts) (handle : Handle) (rest : List Handle) → p.pending ≡ handle ∷ rest → handle.dead ≡ false
-    → losses_pending whom p ≡ one_if (is_loss whom (CallSoon handle.action)) + losses_pending whom (record p { pending = rest })
-first_runs whom p handle rest first live =
-    let a = handles-first (λ tag act. is_loss whom (CallSoon act)) handle rest p first in
-    let b = live_one handle.dead (is_loss whom (CallSoon handle.action)) live in
-    omega (arith, a, b)
-
-first_goes : (whom : Handed) (p : Parts) (handle : Handle) (rest : List Handle) → p.pending ≡ handle ∷ rest
-    → losses_pending whom (record p { pending = rest }) ≤ losses_pending whom p
-first_goes whom p handle rest first =
-    let a = handles-first (λ tag act. is_loss whom (CallSoon act)) handle rest p first in omega (arith, a)
 
 -- ---- it is kept
 module _ (s : Streams) (events : List Event) (p : Parts) (it : IsLostOnce s events p) where
@@ -105,7 +53,7 @@ module _ (s : Streams) (events : List Event) (p : Parts) (it : IsLostOnce s even
       record {
         ordered = order_kept.loops s events p q quiet it.ordered;
         registers = quiet.registers it.registers;
-        once = λ whom. let a = quiet.pending it.registers whom in let b = it.once whom in omega (arith, a, b);
+        once = λ whom. let a = quiet.pending it.registers (loss_of whom) (losses_of whom) in let b = it.once whom in omega (arith, a, b);
       }
 
   lost_taken : (handle : Handle) (rest : List Handle) → p.pending ≡ handle ∷ rest → handle.dead ≡ true → IsLostOnce s events (record p { pending = rest })
@@ -113,7 +61,7 @@ module _ (s : Streams) (events : List Event) (p : Parts) (it : IsLostOnce s even
       record {
         ordered = order_kept.taken s events p handle rest first dead it.ordered;
         registers = it.registers;
-        once = λ whom. let a = first_goes whom p handle rest first in let b = it.once whom in omega (arith, a, b);
+        once = λ whom. let a = first_goes (loss_of whom) p handle rest first in let b = it.once whom in omega (arith, a, b);
       }
 
   lost_runs : (handle : Handle) (rest : List Handle) → p.pending ≡ handle ∷ rest → handle.dead ≡ false
@@ -123,26 +71,37 @@ module _ (s : Streams) (events : List Event) (p : Parts) (it : IsLostOnce s even
         ordered = order_kept.runs s events p handle rest first live it.ordered;
         registers = it.registers;
         once = λ whom.
-            let a = first_runs whom p handle rest first live in
+            let a = first_runs (loss_of whom) p handle rest first live in
             let b = ran_both whom events (event.Ran handle.action ∷ []) in
             let c = it.once whom in
             omega (arith, a, b, c);
       }
 
-  lost_tree : (moves : List Move) (after : Streams) → AreKept s moves after → IsLostOnce after (events ++ told_by moves) (made_on moves p)
-  lost_tree moves after kept =
+  lost_tree : (way : Way) (moves : List Move) (after : Streams) → AreKeptBy way s moves after
+      → IsLostOnce after (events ++ told_by moves) (made_on moves p)
+  lost_tree way moves after kept =
       let parts = made_by moves p it.registers in
       record {
-        ordered = order_kept.tree s events p moves after kept it.ordered;
+        ordered = order_tree way s events p (made_on moves p) moves after kept it.ordered;
         registers = parts.registers;
         once = λ whom.
-            let a = parts.pending whom in
+            let a = parts.pending (loss_of whom) (losses_of whom) in
             let b = ran_both whom events (told_by moves) in
             let c = none_told whom moves in
             let d = it.once whom in
-            let e = (kept whom (it.ordered whom).sound).1.keeps.losses in
-            omega (arith, a, b, c, d, e);
+            let e = (kept whom (it.ordered whom).sound).1.keeps.once in
+            let f = losses_counted whom moves in
+            omega (arith, a, b, c, d, e, f);
       }
+
+lost_loses : (who : Handed) (broken : Bool) (s : Streams) (events : List Event) (p : Parts) (it : IsLostOnce s events p) (handle : Handle)
+    (rest : List Handle) → p.pending ≡ handle ∷ rest → handle.dead ≡ false → handle.action ≡ (outlet_of who).loses broken → (moves : List Move)
+    (after : Streams) → AreKeptBy (Loses who broken) s moves after
+    → IsLostOnce after ((events ++ event.Ran ((outlet_of who).loses broken) ∷ []) ++ told_by moves) (made_on moves (record p { pending = rest }))
+lost_loses who broken s events p it handle rest first live is moves after kept =
+    subst (λ act. IsLostOnce after ((events ++ event.Ran act ∷ []) ++ told_by moves) (made_on moves (record p { pending = rest }))) is
+    (lost_tree s (events ++ event.Ran handle.action ∷ []) (record p { pending = rest }) (lost_runs s events p it handle rest first live)
+    (Loses who broken) moves after kept)
 
 pub lost_kept : IsKept IsLostOnce
 lost_kept =
@@ -151,7 +110,10 @@ lost_kept =
       loops = λ s events p q quiet it. lost_loops s events p it q quiet;
       taken = λ s events p handle rest first dead it. lost_taken s events p it handle rest first dead;
       runs = λ s events p handle rest first live it. lost_runs s events p it handle rest first live;
-      tree = λ s events p moves after kept it. lost_tree s events p it moves after kept;
+      tree = λ s events p moves after kept it. lost_tree s events p it GoesOn moves after kept;
+      gives_up = λ conn s events p moves after giving kept it. lost_tree s events p it (MayGiveUp conn) moves after kept;
+      loses = λ who broken s events p handle rest first live is moves after kept it.
+          lost_loses who broken s events p it handle rest first live is moves after kept;
     }
 
 -- ---- a run begins so

@@ -1,26 +1,21 @@
--- What a tree does in the machine leaves a state in order, where it keeps the order of each sending side.
+-- What goes on with each small thing that the machine does: the order of each sending side, and that one is over.
 use Rattle.std.proofs.Common.{◌≡◌, ℕ, Bool, true, false, List, [], ◌∷◌, ◌++◌, Option, Some, None, refl, sym, ap, subst, ◌∙◌}
 use Rattle.std.proofs.lemmas.List.{append-nil, append_assoc}
 use Rattle.model_value.specs.Action.{Action}
 use Rattle.model_wire.specs.declared.event.Event.TheVariants as event
 use Rattle.model_wire.specs.declared.event.Handed.{Handed}
-use Rattle.model_wire.specs.Call.{Call, Answer}
-use Rattle.model_wire.specs.Event.{Event, handed_by}
-use Rattle.model_wire.specs.Fits.{fits}
-use Rattle.model_wire.specs.Journal.{Entry, Answered, Refused}
-use Rattle.model_wire.specs.Trace.{End}
-use Rattle.model_stream.specs.Doing.{Doing, Ends, Changes, Asks}
+use Rattle.model_wire.specs.Call.{Call}
+use Rattle.model_wire.specs.Event.{Event}
+use Rattle.model_loop.specs.Parts.{Handle, Parts}
 use Rattle.model_stream.specs.History.{handed, handed_after, handed_in as handed_to, written_to}
 use Rattle.model_stream.specs.Streams.{Streams}
-use Rattle.model_machine.specs.Does.{changed, does}
-use Rattle.model_machine.specs.State.{State, noted, unbooked_in, with_streams}
-use Rattle.model_machine.specs.Went.{answered_so, ask_so, fitted_so}
 use Rattle.law_quiet.specs.Quiet.{IsQuiet as Quiet}
-use Rattle.law_reach.specs.Reaches.{IsUnmet}
-use Rattle.model_loop.specs.Parts.{Handle, Parts}
-use Rattle.law_sender.specs.Ways.{Move, Did, Heard, Always, handed_in, told_by}
-use Rattle.law_sides.specs.Sides.{AreKept, IsFront, standing_of}
-use Rattle.law_order.specs.Order.{AreInOrder, In, IsOver, losses_ran}
+use Rattle.law_sender.specs.SoundSenders.{outlet_of}
+use Rattle.law_sender.specs.Ways.{Move, Did, Heard, handed_in, told_by}
+use Rattle.law_fronts.specs.Fronts.{GoesOn, IsFront, Loses, MayGiveUp, Way}
+use Rattle.law_sides.specs.Sides.{AreKept, AreKeptBy, standing_of}
+use Rattle.law_walk.specs.Walks.{made_on}
+use Rattle.law_order.specs.Order.{AreInOrder, IsOver, closes_asked, losses_ran, may_give_up}
 
 -- ---- what events hand on, one after another
 -- events that say for themselves what they hand on, whatever call came before
@@ -47,18 +42,20 @@ pub record HandsOnNone (more : List Event) : Type 0 where
   pub say : (whom : Handed) → SayAll whom more
   pub none : (whom : Handed) → handed whom more ≡ []
 
--- and in which no loss runs
+-- and in which no loss runs, and the outside is asked to close none
 pub record IsQuiet (more : List Event) : Type 0 where
   pub hands : HandsOnNone more
   pub losses : (whom : Handed) → losses_ran whom more ≡ 0
+  pub closes : (whom : Handed) → closes_asked whom more ≡ 0
+
+-- events of which the last is a callback in which a connection may be given up
+pub record EndsGiving (events : List Event) : Type 0 where
+  pub front : List Event
+  pub it : Action
+  pub ends : events ≡ front ++ event.Ran it ∷ []
+  pub giving : may_give_up it ≡ true
 
 -- ---- what whatever is done keeps
--- the parts after these moves
-abbrev pub made_on : List Move → Parts → Parts
-made_on [] p = p
-made_on (Did change ∷ moves) p = made_on moves (changed change p)
-made_on (Heard it came ∷ moves) p = made_on moves p
-
 pub record IsKept (Holds : Streams → List Event → Parts → Type 0) : Type 0 where
   -- events in which no handle runs, and which hand on nothing
   pub quiet : (s : Streams) (events more : List Event) (p : Parts) → IsQuiet more → Holds s events p → Holds s (events ++ more) p
@@ -69,27 +66,36 @@ pub record IsKept (Holds : Streams → List Event → Parts → Type 0) : Type 0
       → handle.dead ≡ true → Holds s events p → Holds s events (record p { pending = rest })
   pub runs : (s : Streams) (events : List Event) (p : Parts) (handle : Handle) (rest : List Handle) → p.pending ≡ handle ∷ rest
       → handle.dead ≡ false → Holds s events p → Holds s (events ++ event.Ran handle.action ∷ []) (record p { pending = rest })
+  -- something is done, by which each goes on
   pub tree : (s : Streams) (events : List Event) (p : Parts) (moves : List Move) (after : Streams) → AreKept s moves after → Holds s events p
       → Holds after (events ++ told_by moves) (made_on moves p)
+  -- a connection that is being made may be given up
+  pub gives_up : (conn : ℕ) (s : Streams) (events : List Event) (p : Parts) (moves : List Move) (after : Streams) → EndsGiving events
+      → AreKeptBy (MayGiveUp conn) s moves after → Holds s events p → Holds after (events ++ told_by moves) (made_on moves p)
+  -- a loss that was scheduled runs
+  pub loses : (who : Handed) (broken : Bool) (s : Streams) (events : List Event) (p : Parts) (handle : Handle) (rest : List Handle)
+      → p.pending ≡ handle ∷ rest → handle.dead ≡ false → handle.action ≡ (outlet_of who).loses broken → (moves : List Move) (after : Streams)
+      → AreKeptBy (Loses who broken) s moves after → Holds s events p
+      → Holds after ((events ++ event.Ran ((outlet_of who).loses broken) ∷ []) ++ told_by moves) (made_on moves (record p { pending = rest }))
 
-quiet_same : (whom : Handed) (events more : List Event) → HandsOnNone more → handed whom (events ++ more) ≡ handed whom events
+pub quiet_same : (whom : Handed) (events more : List Event) → HandsOnNone more → handed whom (events ++ more) ≡ handed whom events
 quiet_same whom events more quiet =
     handed_then whom None events more (quiet.say whom) ∙ ap (λ bytes. handed whom events ++ bytes) (quiet.none whom) ∙ append-nil (handed whom events)
 
-told_same : (whom : Handed) (events : List Event) (moves : List Move) → handed whom (events ++ told_by moves) ≡ handed whom events ++ handed_in whom moves
+pub told_same : (whom : Handed) (events : List Event) (moves : List Move) → handed whom (events ++ told_by moves) ≡ handed whom events ++ handed_in whom moves
 told_same whom events moves = handed_then whom None events (told_by moves) (told_say whom moves)
 
 -- the order is
-order_quiet : (s : Streams) (events more : List Event) (p q : Parts) → HandsOnNone more → AreInOrder s events p → AreInOrder s (events ++ more) q
+pub order_quiet : (s : Streams) (events more : List Event) (p q : Parts) → HandsOnNone more → AreInOrder s events p → AreInOrder s (events ++ more) q
 order_quiet s events more p q quiet ordered whom =
     record {
       sound = (ordered whom).sound;
       order = subst (λ bytes. IsFront (written_to whom s.written) bytes (standing_of whom s)) (sym (quiet_same whom events more quiet)) (ordered whom).order;
     }
 
-order_tree : (s : Streams) (events : List Event) (p q : Parts) (moves : List Move) (after : Streams) → AreKept s moves after → AreInOrder s events p
-    → AreInOrder after (events ++ told_by moves) q
-order_tree s events p q moves after kept ordered whom =
+pub order_tree : (way : Way) (s : Streams) (events : List Event) (p q : Parts) (moves : List Move) (after : Streams) → AreKeptBy way s moves after
+    → AreInOrder s events p → AreInOrder after (events ++ told_by moves) q
+order_tree way s events p q moves after kept ordered whom =
     let one = kept whom (ordered whom).sound in
     record {
       sound = one.1.keeps.sound;
@@ -99,7 +105,7 @@ order_tree s events p q moves after kept ordered whom =
           (one.1.keeps.order (written_to whom s.written) (handed whom events) (ordered whom).order));
     }
 
-ran_hands : (it : Action) → HandsOnNone (event.Ran it ∷ [])
+pub ran_hands : (it : Action) → HandsOnNone (event.Ran it ∷ [])
 ran_hands it = record { say = λ whom last. refl; none = λ whom. refl }
 
 pub order_kept : IsKept AreInOrder
@@ -109,7 +115,13 @@ order_kept =
       loops = λ s events p q quiet ordered. ordered;
       taken = λ s events p handle rest first dead ordered. ordered;
       runs = λ s events p handle rest first live ordered. order_quiet s events (event.Ran handle.action ∷ []) p p (ran_hands handle.action) ordered;
-      tree = λ s events p moves after kept ordered. order_tree s events p (made_on moves p) moves after kept ordered;
+      tree = λ s events p moves after kept ordered. order_tree GoesOn s events p (made_on moves p) moves after kept ordered;
+      gives_up = λ conn s events p moves after giving kept ordered.
+          order_tree (MayGiveUp conn) s events p (made_on moves p) moves after kept ordered;
+      loses = λ who broken s events p handle rest first live is moves after kept ordered.
+          let ran = event.Ran ((outlet_of who).loses broken) ∷ [] in
+          order_tree (Loses who broken) s (events ++ ran) p (made_on moves (record p { pending = rest })) moves after kept
+          (order_quiet s events ran p p (ran_hands ((outlet_of who).loses broken)) ordered);
     }
 
 -- and that one is over
@@ -125,6 +137,16 @@ over_quiet whom bytes s events more p q quiet it =
 over_same : (whom : Handed) (bytes : List ℕ) (s : Streams) (events : List Event) (p q : Parts) → IsOver whom bytes s events p → IsOver whom bytes s events q
 over_same whom bytes s events p q it = record { ordered = it.ordered; over = it.over; hands = it.hands }
 
+over_tree : (whom : Handed) (bytes : List ℕ) (way : Way) (s : Streams) (events : List Event) (p q : Parts) (moves : List Move) (after : Streams)
+    → AreKeptBy way s moves after → IsOver whom bytes s events p → IsOver whom bytes after (events ++ told_by moves) q
+over_tree whom bytes way s events p q moves after kept it =
+    let keeps = (kept whom (it.ordered whom).sound).1.keeps in
+    record {
+      ordered = order_tree way s events p q moves after kept it.ordered;
+      over = keeps.stays it.over;
+      hands = told_same whom events moves ∙ ap (λ more. handed whom events ++ more) (keeps.silent it.over) ∙ append-nil (handed whom events) ∙ it.hands;
+    }
+
 pub over_kept : (whom : Handed) (bytes : List ℕ) → IsKept (IsOver whom bytes)
 over_kept whom bytes =
     record {
@@ -133,83 +155,11 @@ over_kept whom bytes =
       taken = λ s events p handle rest first dead it. over_same whom bytes s events p (record p { pending = rest }) it;
       runs = λ s events p handle rest first live it.
           over_quiet whom bytes s events (event.Ran handle.action ∷ []) p (record p { pending = rest }) (ran_hands handle.action) it;
-      tree = λ s events p moves after kept it.
-          let keeps = (kept whom (it.ordered whom).sound).1.keeps in
-          record {
-            ordered = order_tree s events p (made_on moves p) moves after kept it.ordered;
-            over = keeps.stays it.over;
-            hands = told_same whom events moves ∙ ap (λ more. handed whom events ++ more) (keeps.silent it.over) ∙ append-nil (handed whom events) ∙ it.hands;
-          };
+      tree = λ s events p moves after kept it. over_tree whom bytes GoesOn s events p (made_on moves p) moves after kept it;
+      gives_up = λ conn s events p moves after giving kept it.
+          over_tree whom bytes (MayGiveUp conn) s events p (made_on moves p) moves after kept it;
+      loses = λ who broken s events p handle rest first live is moves after kept it.
+          let ran = event.Ran ((outlet_of who).loses broken) ∷ [] in
+          over_tree whom bytes (Loses who broken) s (events ++ ran) p (made_on moves (record p { pending = rest })) moves after kept
+          (over_quiet whom bytes s events ran p p (ran_hands ((outlet_of who).loses broken)) it);
     }
-
--- ---- what a task says
-pub said_kept : {S : Type 0} {Holds : Streams → List Event → Parts → Type 0} (kept : IsKept Holds) (task : ℕ) (text : List ℕ) (s : State S) → In Holds s
-    → In Holds (noted (event.Said task text) s)
-said_kept kept task text s holds =
-    kept.quiet s.streams s.events (event.Said task text ∷ []) s.loop.parts
-    (record { hands = record { say = λ whom last. refl; none = λ whom. refl }; losses = λ whom. refl }) holds
-
--- a call that hands on nothing, whatever comes
-abbrev pub HandsNone : Call → Type 0
-HandsNone it = (whom : Handed) (came : Answer) → handed_by whom it came ≡ []
-
--- ---- a tree
--- the state after these moves of it
-pub record IsMoved {S : Type 0} (s : State S) (moves : List Move) (t : State S) : Type 0 where
-  pub streams : t.streams ≡ s.streams
-  pub events : t.events ≡ s.events ++ told_by moves
-  pub parts : t.loop.parts ≡ made_on moves s.loop.parts
-
-pub tree_kept : {S : Type 0} {Holds : Streams → List Event → Parts → Type 0} (kept : IsKept Holds) (s t : State S) (moves : List Move) (streams : Streams)
-    → In Holds s → IsMoved s moves t → AreKept s.streams moves streams → In Holds (with_streams streams t)
-tree_kept {Holds = Holds} kept s t moves streams holds moved it =
-    subst (λ events. Holds streams events t.loop.parts) (sym moved.events)
-    (subst (Holds streams (s.events ++ told_by moves)) (sym moved.parts) (kept.tree s.streams s.events s.loop.parts moves streams it holds))
-
-module _ {S R : Type 0} (halts : End → State S → R) (Comes : R → Type 0) (unmet : (how : End) (last : State S) → IsUnmet how → Comes (halts how last)) where
-  -- one call
-  pub asked_comes : (it : Call) (next : Answer → State S → R) (s : State S)
-      → ((came : Answer) (left : List Entry) → fits it came ≡ true
-      → Comes (next came (noted (event.Got came) (record (noted (event.Called it) s) { answers = left }))))
-      → Comes (ask_so halts it next s)
-  asked_comes it next s each = by s.answers
-    where
-      fit : (b : Bool) (came : Answer) (left : List Entry) → fits it came ≡ b
-          → Comes (fitted_so halts b it came next (noted (event.Got came) (record (noted (event.Called it) s) { answers = left })))
-      fit true came left is = each came left is
-      fit false came left is = unmet _ _ tt
-
-      by : (entries : List Entry) → Comes (answered_so halts entries it next (noted (event.Called it) s))
-      by [] = unmet _ _ tt
-      by (Refused line cause ∷ entries) = unmet _ _ tt
-      by (Answered came ∷ entries) = fit (fits it came) came entries refl
-
-  pub does_comes : {A : Type 0} (tree : Doing A) (next : A → State S → R) (s : State S) (Holds : List Move → A → Type 0) → Always Holds tree
-      → ((moves : List Move) (result : A) (t : State S) → IsMoved s moves t → Holds moves result → Comes (next result t))
-      → Comes (does halts tree next s)
-  does_comes (Ends result) next s Holds here each = each [] result s (record { streams = refl; events = sym (append-nil s.events); parts = refl }) here
-  does_comes (Changes change rest) next s Holds here each =
-      does_comes rest next (unbooked_in (changed change) s) (λ moves. Holds (Did change ∷ moves)) here
-      (λ moves result t moved. each (Did change ∷ moves) result t (record { streams = moved.streams; events = moved.events; parts = moved.parts }))
-  does_comes (Asks it rest) next s Holds here each =
-      asked_comes it (λ came. does halts (rest came) next) s
-      (λ came left fit.
-      does_comes (rest came) next (noted (event.Got came) (record (noted (event.Called it) s) { answers = left }))
-      (λ moves. Holds (Heard it came ∷ moves)) (here came fit)
-      (λ moves result t moved. each (Heard it came ∷ moves) result t (record {
-        streams = moved.streams;
-        events = moved.events ∙ append_assoc (s.events ++ event.Called it ∷ []) (event.Got came ∷ []) (told_by moves)
-            ∙ append_assoc s.events (event.Called it ∷ []) (event.Got came ∷ told_by moves);
-        parts = moved.parts;
-      })))
-
--- a call that hands on nothing was answered
-pub heard_kept : {S : Type 0} {Holds : Streams → List Event → Parts → Type 0} (kept : IsKept Holds) (it : Call) (came : Answer) (left : List Entry)
-    (s : State S) → HandsNone it → In Holds s → In Holds (noted (event.Got came) (record (noted (event.Called it) s) { answers = left }))
-heard_kept {Holds = Holds} kept it came left s none holds =
-    subst (λ events. Holds s.streams events s.loop.parts) (sym (append_assoc s.events (event.Called it ∷ []) (event.Got came ∷ [])))
-    (kept.quiet s.streams s.events (event.Called it ∷ event.Got came ∷ []) s.loop.parts
-    (record {
-      hands = record { say = λ whom last. refl; none = λ whom. ap (λ bytes. bytes ++ []) (none whom came) };
-      losses = λ whom. refl;
-    }) holds)

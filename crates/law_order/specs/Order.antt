@@ -1,6 +1,8 @@
 -- A state of a run in which each sending side is sound and in order: what the events say that it was handed is a front of what
 -- the streams say was written to it, and what is unsent is the rest, until a loss is scheduled.
-use Rattle.std.specs.Prelude.{◌≡◌, ℕ, zero, suc, ◌+◌, ◌≤◌, ◌⊎◌, true, List, [], ◌∷◌}
+use Rattle.std.specs.Prelude.{◌≡◌, ℕ, ◌+◌, ◌≤◌, Bool, true, false, List, [], ◌∷◌}
+use Rattle.model_value.specs.declared.action.Action.TheVariants as action
+use Rattle.model_value.specs.Action.{Action}
 use Rattle.model_wire.specs.declared.event.Event.TheVariants as event
 use Rattle.model_wire.specs.declared.event.Handed.{Handed}
 use Rattle.model_wire.specs.Event.{Event}
@@ -9,16 +11,13 @@ use Rattle.model_stream.specs.Doing.{CallSoon}
 use Rattle.model_stream.specs.History.{handed, written_to}
 use Rattle.model_stream.specs.Streams.{Streams}
 use Rattle.model_machine.specs.Extra.{Extra}
-use Rattle.model_machine.specs.Mids.{mids}
-use Rattle.model_machine.specs.Replies.{RequestReply, Answers, Raises, Rests, Halts}
 use Rattle.model_machine.specs.State.{State}
-use Rattle.model_machine.specs.Turn.{turn}
-use Rattle.model_machine.specs.Went.{Went, Goes, Stops}
 use Rattle.law_quiet.specs.Quiet.{RegistersNone, losses_pending}
 use Rattle.law_sender.specs.SoundSenders.{IsSoundSender}
-use Rattle.law_sender.specs.Ways.{is_loss, one_if}
-use Rattle.law_sides.specs.Sides.{IsFront, standing_of}
-use Rattle.law_reach.specs.Reaches.{IsUnmet}
+use Rattle.law_sender.specs.Ways.{is_close, is_loss, one_if}
+use Rattle.law_fronts.specs.Fronts.{IsFront}
+use Rattle.law_sides.specs.Sides.{standing_of}
+use Rattle.law_walk.specs.Walks.{In, IsRunIn}
 
 -- of this one
 pub record IsSideInOrder (whom : Handed) (s : Streams) (events : List Event) : Type 0 where
@@ -27,36 +26,6 @@ pub record IsSideInOrder (whom : Handed) (s : Streams) (events : List Event) : T
 
 abbrev pub AreInOrder : Streams → List Event → Parts → Type 0
 AreInOrder s events p = (whom : Handed) → IsSideInOrder whom s events
-
--- ---- what holds of a state, told by its streams, its events and the loop's parts
-abbrev pub In : {S : Type 0} → (Streams → List Event → Parts → Type 0) → State S → Type 0
-In Holds s = Holds s.streams s.events s.loop.parts
-
--- Where a call in the middle of something has no answer that fits, the run is over with that half done, and nothing is said.
-abbrev pub Leaves : {S : Type 0} → (Streams → List Event → Parts → Type 0) → Went S → Type 0
-Leaves Holds (Goes now) = In Holds now
-Leaves Holds (Stops how last) = IsUnmet how ⊎ In Holds last
-
-abbrev pub LeavesBy : {S : Type 0} → (Streams → List Event → Parts → Type 0) → RequestReply S → Type 0
-LeavesBy Holds (Answers value now) = In Holds now
-LeavesBy Holds (Raises fault now) = In Holds now
-LeavesBy Holds (Rests now) = In Holds now
-LeavesBy Holds (Halts how last) = IsUnmet how ⊎ In Holds last
-
-abbrev pub AreAllIn : {S : Type 0} → (Streams → List Event → Parts → Type 0) → List (State S) → Type 0
-AreAllIn Holds [] = Unit {0}
-AreAllIn Holds (s ∷ states) = In Holds s × AreAllIn Holds states
-
--- what comes after a turn, if the run goes on
-abbrev pub AfterTurn : {S : Type 0} → (Streams → List Event → Parts → Type 0) → (State S → Type 0) → Went S → Type 0
-AfterTurn Holds goes_on (Goes now) = goes_on now
-AfterTurn Holds goes_on (Stops how last) = IsUnmet how ⊎ In Holds last
-
--- Every state of so many turns: where each begins, between its callbacks, and where the run ends.
-abbrev pub IsRunIn : {S : Type 0} → (Streams → List Event → Parts → Type 0) → (limit : ℕ) → Extra S → (turns : ℕ) → State S → Type 0
-IsRunIn Holds limit added zero s = In Holds s
-IsRunIn Holds limit added (suc turns) s =
-    In Holds s × AreAllIn Holds (mids limit added s) × AfterTurn Holds (IsRunIn Holds limit added turns) (turn limit added s)
 
 -- ---- in order
 abbrev pub IsInOrder : {S : Type 0} → State S → Type 0
@@ -79,6 +48,23 @@ losses_ran whom (event.Ran it ∷ events) = one_if (is_loss whom (CallSoon it)) 
 losses_ran whom (event.Called call ∷ events) = losses_ran whom events
 losses_ran whom (event.Got answer ∷ events) = losses_ran whom events
 losses_ran whom (event.Said task text ∷ events) = losses_ran whom events
+
+-- how often the outside was asked to close one
+abbrev pub closes_asked : Handed → List Event → ℕ
+closes_asked whom [] = 0
+closes_asked whom (event.Called it ∷ events) = one_if (is_close whom it) + closes_asked whom events
+closes_asked whom (event.Got answer ∷ events) = closes_asked whom events
+closes_asked whom (event.Ran it ∷ events) = closes_asked whom events
+closes_asked whom (event.Said task text ∷ events) = closes_asked whom events
+
+-- Callbacks in which a connection that is still being made may be given up: the outside says that it can't be made, or the task
+-- that waits for it is thrown an exception.
+abbrev pub may_give_up : Action → Bool
+may_give_up (action.Down conn) = true
+may_give_up (action.Step task) = true
+may_give_up (action.StepInCircle task circle) = true
+may_give_up (action.Wakeup task) = true
+may_give_up _ = false
 
 -- In order, with no loss registered on a future; and of each at most one loss ran or is to come, and none before it was
 -- scheduled.

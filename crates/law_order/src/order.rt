@@ -14,8 +14,9 @@ ghost use Rattle.model_machine.specs.Mids.{mids};
 ghost use Rattle.model_machine.specs.State.{State, start};
 ghost use Rattle.model_machine.specs.Turn.{run_below, turn};
 ghost use Rattle.law_sides.specs.Sides.{standing_of};
-ghost use Rattle.law_order.specs.Order.{AreAllIn, AreInOrder, In, IsInOrder, IsLostOnce, IsOver};
-ghost use Rattle.law_order.specs.Order.{IsRunIn, IsRunInOrder, Leaves, losses_ran};
+ghost use Rattle.law_walk.specs.Walks.{AreAllIn, In, IsRunIn, Leaves};
+ghost use Rattle.law_order.specs.Order.{AreInOrder, IsInOrder, IsLostOnce, IsOver, IsRunInOrder};
+ghost use Rattle.law_order.specs.Order.{losses_ran};
 ghost use Rattle.law_quiet.specs.Quiet.{losses_pending};
 
 /// Each state of each run of every program, over whatever the outside answers, is in order: between

@@ -24,24 +24,39 @@ use Rattle.law_settling.proofs.Settling.{IsSettled, count_fewer, settle_cases}
 use Rattle.law_timeouts.proofs.Due.{due-entries, due-futures}
 use Rattle.law_timeouts.proofs.Entries.{entries-soon, entries-later, entries-revoke}
 use Rattle.law_sender.specs.Ways.{is_loss}
-use Rattle.law_quiet.specs.Quiet.{IsQuiet, MayQuietParts, RegistersNone, is_a_loss, losses_pending}
+use Rattle.law_quiet.specs.Quiet.{IsOfLosses, IsQuiet, MayQuietParts, RegistersNone, is_a_loss, pending_of}
 
 -- ---- put together
 pub same : (p : Parts) → IsQuiet p p
-same p = record { registers = λ none. none; pending = λ none whom. le_refl _ }
+same p = record { registers = λ none. none; pending = λ none counts of. le_refl _ }
 
 pub next : (p q r : Parts) → IsQuiet p q → IsQuiet q r → IsQuiet p r
 next p q r first second =
     record {
       registers = λ none. second.registers (first.registers none);
-      pending = λ none whom.
-          let a = first.pending none whom in
-          let b = second.pending (first.registers none) whom in
+      pending = λ none counts of.
+          let a = first.pending none counts of in
+          let b = second.pending (first.registers none) counts of in
           omega (arith, a, b);
     }
 
--- what is no loss is no loss of one
-pub no_loss : (whom : Handed) (it : Action) → is_a_loss it ≡ false → is_loss whom (CallSoon it) ≡ false
+-- what is no loss is none of a kind of losses
+no_both : (b : Bool) → b ≡ false → b ≡ true → ⊥
+no_both true f t = let bad : ⊥ = cc in bad
+no_both false f t = let bad : ⊥ = cc in bad
+
+none_of : (counts : Action → Bool) → IsOfLosses counts → (it : Action) → is_a_loss it ≡ false → counts it ≡ false
+none_of counts of it none = by (counts it) refl
+  where
+    by : (b : Bool) → counts it ≡ b → b ≡ false
+    by true e = absurd (no_both (is_a_loss it) none (of it e))
+    by false e = refl
+
+adds_none : (counts : Action → Bool) → IsOfLosses counts → (it : Action) → is_a_loss it ≡ false → ◌≡◌ {A = ℕ} (cond (counts it) 1 0) 0
+adds_none counts of it none = ap (λ b. cond b 1 0) (none_of counts of it none)
+
+-- those of one are
+no_loss : (whom : Handed) (it : Action) → is_a_loss it ≡ false → is_loss whom (CallSoon it) ≡ false
 no_loss (to.Conn id) (action.Lost conn broken) none = absurd (let bad : ⊥ = cc in bad)
 no_loss (to.Conn id) (action.LostChild child broken) none = refl
 no_loss (to.Conn id) _ none = refl
@@ -49,19 +64,26 @@ no_loss (to.Child id) (action.Lost conn broken) none = refl
 no_loss (to.Child id) (action.LostChild child broken) none = absurd (let bad : ⊥ = cc in bad)
 no_loss (to.Child id) _ none = refl
 
-abbrev mine : Handed → ℕ → Action → Bool
-mine whom tag it = is_loss whom (CallSoon it)
+pub losses_of : (whom : Handed) → IsOfLosses (λ it. is_loss whom (CallSoon it))
+losses_of whom it is = by (is_a_loss it) refl
+  where
+    by : (b : Bool) → is_a_loss it ≡ b → b ≡ true
+    by true e = refl
+    by false e = absurd (no_both (is_loss whom (CallSoon it)) (no_loss whom it e) is)
 
-adds_none : (whom : Handed) (it : Action) → is_a_loss it ≡ false → ◌≡◌ {A = ℕ} (cond (is_loss whom (CallSoon it)) 1 0) 0
-adds_none whom it none = ap (λ b. cond b 1 0) (no_loss whom it none)
+abbrev kind : (Action → Bool) → ℕ → Action → Bool
+kind counts tag it = counts it
+
+abbrev NoneMore : Parts → Parts → Type 0
+NoneMore p q = (counts : Action → Bool) → IsOfLosses counts → pending_of counts q ≤ pending_of counts p
 
 -- futures keep their callbacks, and no more losses are to come
 same_callbacks : (p q : Parts) → ((id : ℕ) → count_by is_a_loss (callbacks_of q id) ≡ count_by is_a_loss (callbacks_of p id))
-    → ((whom : Handed) → losses_pending whom q ≤ losses_pending whom p) → IsQuiet p q
+    → NoneMore p q → IsQuiet p q
 same_callbacks p q callbacks fewer =
-    record { registers = λ none id. callbacks id ∙ none id; pending = λ none whom. fewer whom }
+    record { registers = λ none id. callbacks id ∙ none id; pending = λ none counts of. fewer counts of }
 
-same_futures : (p q : Parts) → q.futures ≡ p.futures → ((whom : Handed) → losses_pending whom q ≤ losses_pending whom p) → IsQuiet p q
+same_futures : (p q : Parts) → q.futures ≡ p.futures → NoneMore p q → IsQuiet p q
 same_futures p q futures fewer =
     same_callbacks p q (λ id. ap (λ (fs : List Future). count_by is_a_loss (callbacks_at (slice_get fs id))) futures) fewer
 
@@ -69,15 +91,15 @@ same_futures p q futures fewer =
 pub soon_quiet : (it : Action) (p : Parts) → is_a_loss it ≡ false → IsQuiet p (soon it p)
 soon_quiet it p none =
     same_futures p (soon it p) refl
-    (λ whom. let a = entries-soon (mine whom) it p in let b = adds_none whom it none in omega (arith, a, b))
+    (λ counts of. let a = entries-soon (kind counts) it p in let b = adds_none counts of it none in omega (arith, a, b))
 
 later_quiet : (when : ℕ) (it : Action) (p : Parts) → is_a_loss it ≡ false → IsQuiet p (later when it p)
 later_quiet when it p none =
     same_futures p (later when it p) refl
-    (λ whom. let a = entries-later (mine whom) when it p in let b = adds_none whom it none in omega (arith, a, b))
+    (λ counts of. let a = entries-later (kind counts) when it p in let b = adds_none counts of it none in omega (arith, a, b))
 
 revoke_quiet : (tag : ℕ) (p : Parts) → IsQuiet p (revoke tag p)
-revoke_quiet tag p = same_futures p (revoke tag p) refl (λ whom. let a = entries-revoke (mine whom) tag p in omega (arith, a))
+revoke_quiet tag p = same_futures p (revoke tag p) refl (λ counts of. let a = entries-revoke (kind counts) tag p in omega (arith, a))
 
 push_callbacks : (xs : List Future) (kind : FutureKind) (id : ℕ)
     → callbacks_at (slice_get (xs ++ record { kind = kind; outcome = None; callbacks = [] } ∷ []) id) ≡ callbacks_at (slice_get xs id)
@@ -88,18 +110,7 @@ push_callbacks (x ∷ xs) kind (suc id) = push_callbacks xs kind id
 
 pub make_quiet : (kind : FutureKind) (p : Parts) → IsQuiet p (make_future kind p)
 make_quiet kind p =
-    same_callbacks p (make_future kind p) (λ id. ap (count_by is_a_loss) (push_callbacks p.futures kind id)) (λ whom. le_refl _)
-
-harder : (whom : Handed) (it : Action) → is_loss whom (CallSoon it) ≡ true → is_a_loss it ≡ true
-harder whom it is = by (is_a_loss it) refl
-  where
-    by : (b : Bool) → is_a_loss it ≡ b → b ≡ true
-    by true e = refl
-    by false e = absurd (no_both (is_loss whom (CallSoon it)) (no_loss whom it e) is)
-      where
-        no_both : (b : Bool) → b ≡ false → b ≡ true → ⊥
-        no_both true f t = let bad : ⊥ = cc in bad
-        no_both false f t = let bad : ⊥ = cc in bad
+    same_callbacks p (make_future kind p) (λ id. ap (count_by is_a_loss) (push_callbacks p.futures kind id)) (λ counts of. le_refl _)
 
 pub settle_quiet : (id : ℕ) (outcome : Outcome) (p : Parts) → IsQuiet p (settle id outcome p)
 settle_quiet id outcome p = settle_cases (IsQuiet p) id outcome p (same p) settled
@@ -108,11 +119,11 @@ settle_quiet id outcome p = settle_cases (IsQuiet p) id outcome p (same p) settl
     settled q it =
         record {
           registers = λ none other. at none other (cases_eq id other);
-          pending = λ none whom.
-              let called = it.called (λ act. is_loss whom (CallSoon act)) in
-              let fewer = count_fewer (λ act. is_loss whom (CallSoon act)) is_a_loss (harder whom) (callbacks_of p id) in
+          pending = λ none counts of.
+              let called = it.called counts in
+              let fewer = count_fewer counts is_a_loss of (callbacks_of p id) in
               let zero_of = none id in
-              let timers = ap (timers_where (mine whom)) it.timers in
+              let timers = ap (timers_where (kind counts)) it.timers in
               omega (arith, called, fewer, zero_of, timers);
         }
       where
@@ -125,7 +136,7 @@ changed_quiet : (at : ℕ) (p : Parts) (old new : Future) → slice_get p.future
     → count_by is_a_loss new.callbacks ≡ count_by is_a_loss old.callbacks → IsQuiet p (with_future at new p)
 changed_quiet at p old new found alike =
     same_callbacks p (with_future at new p)
-    (λ id. get-set_kept (λ o. count_by is_a_loss (callbacks_at o)) p.futures at id old new found alike) (λ whom. le_refl _)
+    (λ id. get-set_kept (λ o. count_by is_a_loss (callbacks_at o)) p.futures at id old new found alike) (λ counts of. le_refl _)
 
 pub register_quiet : (at : ℕ) (it : Action) (p : Parts) → is_a_loss it ≡ false → IsQuiet p (register at it p)
 register_quiet at it p none = by (slice_get p.futures at) refl
@@ -155,14 +166,14 @@ task_quiet id change p = at (slice_get p.tasks id)
   where
     at : (o : Option Task) → IsQuiet p (option_map_or (λ (task : Task). record p { tasks = slice_set p.tasks id (change task) }) o p)
     at None = same p
-    at (Some task) = same_futures p (record p { tasks = slice_set p.tasks id (change task) }) refl (λ whom. le_refl _)
+    at (Some task) = same_futures p (record p { tasks = slice_set p.tasks id (change task) }) refl (λ counts of. le_refl _)
 
 spawn_quiet : (p : Parts) → IsQuiet p (spawn p)
 spawn_quiet p =
     same_callbacks p (spawn p) (λ id. ap (count_by is_a_loss) (push_callbacks p.futures _ id))
-    (λ whom.
-    let a = entries-soon (mine whom) (action.Step (next_task p)) p in
-    let b = adds_none whom (action.Step (next_task p)) refl in
+    (λ counts of.
+    let a = entries-soon (kind counts) (action.Step (next_task p)) p in
+    let b = adds_none counts of (action.Step (next_task p)) refl in
     omega (arith, a, b))
 
 pub change_quiet : (change : PartsChange) (p : Parts) → MayQuietParts change p → IsQuiet p (made_of_parts change p)
@@ -179,6 +190,6 @@ change_quiet (Marks task) p may = task_quiet task _ p
 change_quiet (Unmarks task) p may = task_quiet task _ p
 change_quiet (Counts task) p may = task_quiet task _ p
 change_quiet (Uncounts task) p may = task_quiet task _ p
-change_quiet (Passes now) p may = same_futures p (made_of_parts (Passes now) p) refl (λ whom. le_refl _)
-change_quiet FallsDue p may = same_futures p (due p) (due-futures p) (λ whom. let a = due-entries (mine whom) p in omega (arith, a))
+change_quiet (Passes now) p may = same_futures p (made_of_parts (Passes now) p) refl (λ counts of. le_refl _)
+change_quiet FallsDue p may = same_futures p (due p) (due-futures p) (λ counts of. let a = due-entries (kind counts) p in omega (arith, a))
 change_quiet (LeavesPending rest) p may = absurd may

@@ -12,14 +12,16 @@ ghost use Rattle.model_stream.specs.Requests.{StreamReader};
 ghost use Rattle.model_stream.specs.Senders.{Drain};
 ghost use Rattle.model_stream.specs.Streams as plain;
 ghost use Rattle.model_stream.specs.Streams.{Streams};
-ghost use Rattle.law_sides.specs.Sides.{AreKept, KeepsAll, KeepsAllWith};
+ghost use Rattle.law_fronts.specs.Fronts.{MayGiveUp, way_of};
+ghost use Rattle.law_sides.specs.Sides.{AreKept, KeepsAll, KeepsAllBy, KeepsAllWith};
 
 /// Whatever a callback does, and a listener, a connect and a launch, keeps each sound sending side
 /// sound and in order: what was handed on stays a front of what was written, and what is unsent
-/// the rest, until a loss is scheduled.
+/// the rest, until a loss is scheduled. None without an exception drops anything, but where a
+/// connection is given up before it stands.
 pub fn callbacks_keep_each_in_order()
     ensures acts { (next : ℕ) (returned : Bool) (it : Action) (s : Streams)
-        → KeepsAll s (plain.act next returned it s) }
+        → KeepsAllBy (way_of it) s (plain.act next returned it s) }
     ensures listens { (port handler : ℕ) (s : Streams)
         → KeepsAllWith {R = Option ℕ} s (plain.listen port handler s) }
     ensures closes { (id : ℕ) (s : Streams) → KeepsAll s (plain.close_server id s) }
@@ -39,7 +41,8 @@ pub fn requests_keep_each_in_order()
     ensures limits { (high low : Option ℤ) (whom : Handed) (s : Streams)
         → KeepsAllWith {R = Limited} s (requests.limits high low whom s) }
     ensures close { (whom : Handed) (s : Streams) → KeepsAll s (requests.close whom s) }
-    ensures drop_connect { (id : ℕ) (s : Streams) → KeepsAll s (requests.drop_connect id s) }
+    ensures drop_connect { (id : ℕ) (s : Streams)
+        → KeepsAllBy (MayGiveUp id) s (requests.drop_connect id s) }
     ensures read { (next : ℕ) (op : ReadOp) (from : StreamReader) (s : Streams)
         → KeepsAllWith {R = StreamGot} s (requests.read next op from s) }
     ensures read_all { (next : ℕ) (from : StreamReader) (s : Streams)

@@ -1,0 +1,4 @@
+pub mod AllFed
+pub mod AllLooks
+pub mod Fed
+pub mod Looks

@@ -1,0 +1,5 @@
+pub mod Beginning
+pub mod Replying
+pub mod Rows
+pub mod Trees
+pub mod Turning
