@@ -1,11 +1,12 @@
 //! The variables of a coroutine.
-ghost use Rattle.std.specs.Prelude.{◌≡◌, IfOk, slice_set};
+ghost use Rattle.std.specs.Prelude.{◌≡◌, IfOk, IfSome, slice_set};
+ghost use Rattle.model_value.specs.Value.{Int};
 ghost use Rattle.model_says.specs.Variables.{held, assigned};
 ghost use Rattle.law_locals.specs.Numbered.{holding};
 ghost use Rattle.aio_expr.specs.Values.{value_in};
 
 use crate::local::Local;
-use aio_base::Value;
+use aio_base::{Value, ValueCase};
 use std::alloc::AllocError;
 use std::marker::Model;
 
@@ -44,6 +45,13 @@ impl Env {
         held_in(self.values.as_slice(), local)
     }
 
+    /// The number that a variable holds; None where it holds anything else.
+    pub fn number(&self, local: Local) -> Option<i64>
+        ensures { IfSome result (λ number. held self.now local ≡ Int number) }
+    {
+        number_held_in(self.values.as_slice(), local)
+    }
+
     /// A variable holds the value from now on. Where there is none, nothing changes.
     pub fn assign(&mut self, local: Local, value: Value)
         ensures { self.new ≡ assigned local value self.old }
@@ -64,6 +72,30 @@ fn value_in(values: &[Value], number: usize) -> Result<Value, AllocError>
     match values.get(number) {
         Some(value) => Ok(value.clone()?),
         None => Ok(Value::nothing()),
+    }
+}
+
+fn number_held_in(values: &[Value], local: Local) -> Option<i64>
+    ensures { IfSome result (λ number. held (holding 0 values.now) local ≡ Int number) }
+{
+    number_in(values, local.number())
+}
+
+fn number_in(values: &[Value], number: usize) -> Option<i64>
+    ensures { IfSome result (λ found. value_in values.now number ≡ Int found) }
+{
+    match values.get(number) {
+        Some(value) => number_of(value),
+        None => None,
+    }
+}
+
+fn number_of(value: &Value) -> Option<i64>
+    ensures { IfSome result (λ number. value.now ≡ Int number) }
+{
+    match value.case() {
+        ValueCase::Int(number) => Some(number),
+        _ => None,
     }
 }
 

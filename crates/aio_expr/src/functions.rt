@@ -14,6 +14,7 @@ use std::alloc::Global;
 use std::str;
 
 /// What a function gives for its argument.
+#[inline(never)]
 #[tactic(auto, using(law_value::proofs::Rows::rows))]
 pub fn applied(alloc: Global, function: Function, argument: &Value) -> Result<Value, OperationFault>
     ensures { Gives (applied function argument.now) result }
@@ -83,6 +84,7 @@ fn members_of(alloc: Global, exc: &Exc) -> Result<Value, OperationFault>
 }
 
 /// `error(KIND, t)`.
+#[inline(never)]
 pub fn error_made(alloc: Global, kind: Kind, message: &Value) -> Result<Value, OperationFault>
     ensures { Gives (error_made kind message.now) result }
 {

@@ -11,6 +11,7 @@ use aio_base::{Value, ValueCase, ValueList};
 use std::alloc::Global;
 
 /// A list of these values.
+#[inline(never)]
 pub fn list_of(alloc: Global, items: Vec<Value>) -> Result<Value, OperationFault>
     ensures { Gives (bounded (Items (values items.items))) result }
 {
@@ -35,6 +36,7 @@ pub fn joined_lists(
 }
 
 /// `x[i]`.
+#[inline(never)]
 #[tactic(auto, using(law_value::proofs::Rows::rows))]
 pub fn indexed(sequence: &Value, index: &Value) -> Result<Value, OperationFault>
     ensures { Gives (indexed sequence.now index.now) result }

@@ -14,9 +14,11 @@ mod numbers;
 mod operation_fault;
 mod operators;
 mod order;
+mod plain;
 mod value;
 
 pub use env::Env;
 pub use flat_expr::{FlatExpr, FlatExprCase, FlatExprList};
 pub use local::Local;
+pub use plain::{number_of, truth_of};
 pub use value::{ExprFault, value_of};

@@ -1,5 +1,6 @@
 //! What the operators give for values.
-ghost use Rattle.std.specs.Prelude.{◌≡◌, IfOk, IfErr};
+ghost use Rattle.std.specs.Prelude.{◌≡◌, Ok, IfOk, IfErr};
+ghost use Rattle.model_value.specs.Value.{Int, Truth};
 ghost use Rattle.model_says.specs.Operations.{sum, difference, product, quotient, remainder, calculated, negative, compared, negation, order};
 ghost use Rattle.aio_expr.specs.declared.operation_fault.OperationFault.TheVariants.{BadOperand};
 ghost use Rattle.aio_expr.specs.Gives.{Gives};
@@ -15,6 +16,7 @@ use std::alloc::Global;
 use std::cmp::Ordering;
 
 /// An arithmetic operator with two operands.
+#[inline(never)]
 pub fn calculated(
     alloc: Global,
     operator: Operator,
@@ -29,6 +31,23 @@ pub fn calculated(
         Operator::Multiply => product(alloc, left, right),
         Operator::FloorDivide => quotient(left, right),
         Operator::Remainder => remainder(left, right),
+    }
+}
+
+/// An arithmetic operator with two numbers.
+pub fn calculated_numbers(
+    operator: Operator,
+    left: i64,
+    right: i64,
+) -> Result<Value, OperationFault>
+    ensures { Gives (calculated operator (Int left) (Int right)) result }
+{
+    match operator {
+        Operator::Add => numbers::sum(left, right),
+        Operator::Subtract => numbers::difference(left, right),
+        Operator::Multiply => numbers::product(left, right),
+        Operator::FloorDivide => numbers::quotient(left, right),
+        Operator::Remainder => numbers::remainder(left, right),
     }
 }
 
@@ -116,6 +135,7 @@ pub fn negation(value: &Value) -> Result<Value, OperationFault>
 }
 
 /// A comparison.
+#[inline(never)]
 pub fn compared(
     comparison: Comparison,
     left: &Value,
@@ -130,6 +150,20 @@ pub fn compared(
         Comparison::LessOrEqual => Ok(Value::bool(ordering_of(left, right)?.is_le())),
         Comparison::Greater => Ok(Value::bool(ordering_of(left, right)?.is_gt())),
         Comparison::GreaterOrEqual => Ok(Value::bool(ordering_of(left, right)?.is_ge())),
+    }
+}
+
+/// A comparison of two numbers.
+pub fn compared_numbers(comparison: Comparison, left: i64, right: i64) -> bool
+    ensures { compared comparison (Int left) (Int right) ≡ Ok (Truth result) }
+{
+    match comparison {
+        Comparison::Equal => left == right,
+        Comparison::NotEqual => left != right,
+        Comparison::Less => left.cmp(&right).is_lt(),
+        Comparison::LessOrEqual => left.cmp(&right).is_le(),
+        Comparison::Greater => left.cmp(&right).is_gt(),
+        Comparison::GreaterOrEqual => left.cmp(&right).is_ge(),
     }
 }
 

@@ -21,6 +21,7 @@ const MOST_CALLERS: usize = 63;
 
 impl Frames {
     /// A call by `yield from`: opens a frame. RecursionError past 64 frames, after the arguments.
+    #[inline(never)]
     pub fn call(
         &mut self,
         alloc: Global,

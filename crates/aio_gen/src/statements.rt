@@ -16,6 +16,7 @@ use std::alloc::Global;
 
 impl Frames {
     /// `name = value`.
+    #[inline(never)]
     pub fn assign(&mut self, alloc: Global, name: &Local, value: &FlatExpr) -> Result<Move, Memory>
         requires { self.old.frame.place + 1 < 2 ^ 64 }
         ensures { IfOk result (λ moving. (codes : ℕ → CoroutineCode) →
@@ -33,6 +34,7 @@ impl Frames {
     }
 
     /// `print items`: asks for it with the items' values.
+    #[inline(never)]
     pub fn print(&mut self, alloc: Global, items: &FlatExprList) -> Result<Move, Memory>
         requires { self.old.frame.place + 1 < 2 ^ 64 }
         ensures { IfOk result (λ moving. (codes : ℕ → CoroutineCode) →
@@ -49,6 +51,7 @@ impl Frames {
     }
 
     /// `raise fault`; TypeError where the value is no exception.
+    #[inline(never)]
     pub fn raise(&mut self, alloc: Global, fault: &FlatExpr) -> Result<Move, Memory>
         ensures { IfOk result (λ moving. (codes : ℕ → CoroutineCode) →
             plain_move moving self.new
@@ -72,6 +75,7 @@ impl Frames {
     }
 
     /// `return value`, or `return`: on the way out `finally` parts and exits come first.
+    #[inline(never)]
     pub fn return_value(&mut self, alloc: Global, value: &Option<FlatExpr>) -> Result<Move, Memory>
         ensures { IfOk result (λ moving. (codes : ℕ → CoroutineCode) →
             plain_move moving self.new
@@ -87,6 +91,7 @@ impl Frames {
     }
 
     /// The test of an `if`: where it is False, on at `otherwise`. TypeError where it is no Bool.
+    #[inline(never)]
     pub fn test(&mut self, alloc: Global, test: &FlatExpr, otherwise: usize) -> Result<Move, Memory>
         requires { self.old.frame.place + 1 < 2 ^ 64 }
         ensures { IfOk result (λ moving. (codes : ℕ → CoroutineCode) →
@@ -100,6 +105,7 @@ impl Frames {
     }
 
     /// The test of a `while`: where it is True, on at `body`. TypeError where it is no Bool.
+    #[inline(never)]
     pub fn repeat(&mut self, alloc: Global, test: &FlatExpr, body: usize) -> Result<Move, Memory>
         requires { self.old.frame.place + 1 < 2 ^ 64 }
         ensures { IfOk result (λ moving. (codes : ℕ → CoroutineCode) →
@@ -138,6 +144,7 @@ impl Frames {
     }
 
     /// A `try` begins: its handlers are open from here.
+    #[inline(never)]
     pub fn guard(&mut self, number: usize) -> Result<Move, Memory>
         requires { self.old.frame.place + 1 < 2 ^ 64 }
         ensures { IfOk result (λ moving. (codes : ℕ → CoroutineCode) →
@@ -150,6 +157,7 @@ impl Frames {
     }
 
     /// Asks to enter a `with group`.
+    #[inline(never)]
     pub fn enter_group(&mut self, name: &Local, range: usize) -> Result<Move, Memory>
         requires { self.old.frame.place + 1 < 2 ^ 64 }
         ensures { IfOk result (λ moving. (codes : ℕ → CoroutineCode) →
@@ -162,6 +170,7 @@ impl Frames {
     }
 
     /// Asks to enter a `with timeout(delay)`, with the delay's value.
+    #[inline(never)]
     pub fn enter_timeout(
         &mut self,
         alloc: Global,
@@ -188,6 +197,7 @@ impl Frames {
     }
 
     /// The request of an exit, after which the way out is taken as after a `finally`.
+    #[inline(never)]
     pub fn ask_exit(&mut self, of_group: bool) -> Result<Move, Memory>
         requires { self.old.frame.place + 1 < 2 ^ 64 }
         ensures { IfOk result (λ moving. plain_move moving self.new

@@ -38,6 +38,7 @@ impl Frames {
     }
 
     /// What a variable holds is awaited.
+    #[inline(never)]
     pub fn await_name(&mut self, into: &Option<Local>, name: &Local) -> Result<Move, Memory>
         requires { self.old.frame.place + 1 < 2 ^ 64 }
         ensures { IfOk result (λ moving. (codes : ℕ → CoroutineCode) →
@@ -49,6 +50,7 @@ impl Frames {
     }
 
     /// Asks a request whose arguments are all values, once they are evaluated.
+    #[inline(never)]
     pub fn ask(
         &mut self,
         alloc: Global,
@@ -71,6 +73,7 @@ impl Frames {
     }
 
     /// Asks for a task of a coroutine, with the values of its arguments.
+    #[inline(never)]
     pub fn spawn(
         &mut self,
         alloc: Global,
@@ -96,6 +99,7 @@ impl Frames {
     }
 
     /// Asks for a task of a group, with the values of its arguments.
+    #[inline(never)]
     pub fn create(
         &mut self,
         alloc: Global,
@@ -126,6 +130,7 @@ impl Frames {
     }
 
     /// Asks for a listener on a port, with its handler.
+    #[inline(never)]
     pub fn listen(
         &mut self,
         alloc: Global,

@@ -105,6 +105,7 @@ impl Frames {
     }
 
     /// Out through the innermost open handler, or out of the frame.
+    #[inline(never)]
     pub fn way_out(&mut self, body: &FlatBody, way: Way) -> Result<Move, Memory>
         ensures { IfOk result (λ moving. plain_move moving self.new
             ≡ way_out (plain_body body.now) way (plain_frames self.old).frame.handlers

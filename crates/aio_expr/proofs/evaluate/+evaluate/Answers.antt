@@ -1,49 +1,51 @@
-use Rattle.std.proofs.Common.{rules, ◌≡◌, ◌+◌, ◌*◌, ◌<◌, ◌++◌, [], ◌∷◌, take, Ok, sym, ◌∙◌, ap, subst, arith}
+use Rattle.std.proofs.Common.{rules, ◌≡◌, ◌+◌, ◌*◌, ◌<◌, ◌++◌, [], ◌∷◌, take, Ok, refl, sym, ◌∙◌, ap, arith}
 use Rattle.std.proofs.lemmas.List.{take_more}
-use Rattle.model_tree.specs.Syntax.{exprs}
+use Rattle.model_tree.specs.Syntax.{Or, And, Compare, Calculate, Index, exprs}
 use Rattle.model_says.specs.Expressions.{value_of, values_of}
 use Rattle.model_says.specs.Operations.{compared, calculated, indexed}
 use Rattle.aio_syntax.specs.ExprSize.{expr_size, expr_list_size}
 use Rattle.aio_syntax.proofs.Sizes.{expr_size-item}
-use Rattle.aio_expr.specs.Gives.{Fails, AllFail}
+use Rattle.aio_expr.specs.Gives.{AllFail}
 use Rattle.aio_expr.proofs.Evaluated.{gives-err, if-err, or-fails, and-fails, values_of-push, all-fail}
 use Rattle.aio_expr.proofs.evaluate.+evaluate.Goals as goal
 
-pub evaluate-returns-in_err-decided-in-Or : goal.evaluate-returns-in_err-decided-in-Or
-evaluate-returns-in_err-decided-in-Or t c =
-    let cause = c.in_err-decided-in-Or.field-0.0 in
-    gives-err (value_of c.args.expr.now c.args.env.now) c.from_residual.result cause c.from_residual.ensures.1
-    (or-fails c.args.expr.now c.in-Or.left.now c.in-Or.right.now c.args.env.now cause c.in-Or.ensures c.in_err-decided-in-Or.ensures.fault)
+pub evaluate_or-returns-in_err-decided : goal.evaluate_or-returns-in_err-decided
+evaluate_or-returns-in_err-decided t c =
+    let cause = c.in_err-decided.field-0.0 in
+    let left = c.args.left.now in
+    let right = c.args.right.now in
+    let env = c.args.env.now in
+    gives-err (value_of (Or left right) env) c.from_residual.result cause c.from_residual.ensures.1
+    (or-fails (Or left right) left right env cause refl c.in_err-decided.ensures.fault)
 
-pub evaluate-returns-in_err-decided-in-And : goal.evaluate-returns-in_err-decided-in-And
-evaluate-returns-in_err-decided-in-And t c =
-    let cause = c.in_err-decided-in-And.field-0.0 in
-    gives-err (value_of c.args.expr.now c.args.env.now) c.from_residual-in_err-decided-in-And.result cause c.from_residual-in_err-decided-in-And.ensures.1
-    (and-fails c.args.expr.now c.in-And.left.now c.in-And.right.now c.args.env.now cause c.in-And.ensures c.in_err-decided-in-And.ensures.fault)
+pub evaluate_and-returns-in_err-decided : goal.evaluate_and-returns-in_err-decided
+evaluate_and-returns-in_err-decided t c =
+    let cause = c.in_err-decided.field-0.0 in
+    let left = c.args.left.now in
+    let right = c.args.right.now in
+    let env = c.args.env.now in
+    gives-err (value_of (And left right) env) c.from_residual.result cause c.from_residual.ensures.1
+    (and-fails (And left right) left right env cause refl c.in_err-decided.ensures.fault)
 
-pub evaluate-returns-in_err-left-in-Compare : goal.evaluate-returns-in_err-left-in-Compare
-evaluate-returns-in_err-left-in-Compare t c =
-    let cause = c.in_err-left-in-Compare.field-0.0 in
-    gives-err (value_of c.args.expr.now c.args.env.now) c.from_residual-in_err-left-in-Compare.result cause c.from_residual-in_err-left-in-Compare.ensures.1
-    (subst (λ e. Fails (value_of e c.args.env.now) cause) c.in-Compare.ensures (c.in_err-left-in-Compare.ensures.fault (compared c.in-Compare.comparison)))
+pub compare_values-returns-in_err-left : goal.compare_values-returns-in_err-left
+compare_values-returns-in_err-left t c =
+    gives-err (value_of (Compare c.args.comparison c.args.left.now c.args.right.now) c.args.env.now) c.from_residual.result c.in_err-left.field-0.0 c.from_residual.ensures.1
+    (c.in_err-left.ensures.fault (compared c.args.comparison))
 
-pub evaluate-returns-in_err-left-in-Calculate : goal.evaluate-returns-in_err-left-in-Calculate
-evaluate-returns-in_err-left-in-Calculate t c =
-    let cause = c.in_err-left-in-Calculate.field-0.0 in
-    gives-err (value_of c.args.expr.now c.args.env.now) c.from_residual-in_err-left-in-Calculate.result cause c.from_residual-in_err-left-in-Calculate.ensures.1
-    (subst (λ e. Fails (value_of e c.args.env.now) cause) c.in-Calculate.ensures
-    (c.in_err-left-in-Calculate.ensures.fault (calculated c.in-Calculate.operator)))
+pub calculate_values-returns-in_err-left : goal.calculate_values-returns-in_err-left
+calculate_values-returns-in_err-left t c =
+    gives-err (value_of (Calculate c.args.operator c.args.left.now c.args.right.now) c.args.env.now) c.from_residual.result c.in_err-left.field-0.0 c.from_residual.ensures.1
+    (c.in_err-left.ensures.fault (calculated c.args.operator))
 
-pub evaluate-returns-in_err-sequence-in-Index : goal.evaluate-returns-in_err-sequence-in-Index
-evaluate-returns-in_err-sequence-in-Index t c =
-    let cause = c.in_err-sequence-in-Index.field-0.0 in
-    gives-err (value_of c.args.expr.now c.args.env.now) c.from_residual-in_err-sequence-in-Index.result cause c.from_residual-in_err-sequence-in-Index.ensures.1
-    (subst (λ e. Fails (value_of e c.args.env.now) cause) c.in-Index.ensures (c.in_err-sequence-in-Index.ensures.fault indexed))
+pub evaluate_index-returns-in_err-sequence : goal.evaluate_index-returns-in_err-sequence
+evaluate_index-returns-in_err-sequence t c =
+    gives-err (value_of (Index c.args.sequence.now c.args.index.now) c.args.env.now) c.from_residual.result c.in_err-sequence.field-0.0 c.from_residual.ensures.1
+    (c.in_err-sequence.ensures.fault indexed)
 
 pub evaluate_all-evaluate-requires : goal.evaluate_all-evaluate-requires
 evaluate_all-evaluate-requires t c =
     let smaller = expr_size-item c.args.items.now c.loop-item.item-index c.item-item.result c.loop-item-test.true c.item-item.is in
-    let falls : 2 * expr_size c.item-item.result < 2 * expr_list_size c.args.items.now = omega (arith, smaller) in
+    let falls : 4 * expr_size c.item-item.result < 4 * expr_list_size c.args.items.now = omega (arith, smaller) in
     search rules
 
 pub evaluate_all-returns-in_err-evaluate-clause-fault : goal.evaluate_all-returns-in_err-evaluate-clause-fault
