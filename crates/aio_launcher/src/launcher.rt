@@ -1,17 +1,17 @@
 //! The launcher of the system's programs.
-ghost use Rattle.std.specs.Prelude.{◌≤◌, IfOk, OnErr};
+ghost use Rattle.std.specs.Prelude.{◌≡◌, ◌≤◌, IfOk, OnErr};
 ghost use Rattle.aio_hub.specs.Launches.{LaunchAnswers, StartsNone};
 ghost use Rattle.aio_launcher.specs.Counts.{untold_launches};
 
-use crate::process::Process;
-use crate::pumps::Reports;
+use crate::reports::Reports;
 use crate::slot::Slot;
 use crate::starter;
-use crate::starter::{Order, Told};
+use crate::starter::{Launch, Order, Told};
 use aio_base::Memory;
 use aio_hub::{Launched, Launcher, PumpKit, PumpReports};
 use aio_inbox::{Inbox, InboxName, Poster};
 use aio_poller::PollerBell;
+use aio_process::Process;
 use aio_wire::WordList;
 use indexmap::IndexMap;
 use std::alloc::Global;
@@ -25,7 +25,7 @@ use std::time::Clock;
 #[derive(Drop)]
 pub struct Run<N: InboxName> {
     child: u32,
-    reports: Reports<N>,
+    reports: Arc<Reports<N>, Global>,
 }
 
 /// The programs of the system, each with four pumps on threads of their own. A thread of its own starts and joins them. It
@@ -47,23 +47,33 @@ where
 {
     /// No child so far. Each pump rings a bell of this one after each of its posts.
     pub fn make(rt: R, alloc: Global, bell: PollerBell) -> Result<RealLauncher<R, N>, Memory> {
-        let orders = Arc::new(alloc, Slot::new())?;
-        let told = Arc::new(alloc, Slot::new())?;
-        let (theirs, answers) = (Arc::try_clone(&orders)?, Arc::try_clone(&told)?);
-        let Ok(starter) = thread::spawn(
+        let (orders, theirs) = shared(alloc, Slot::new())?;
+        let (told, answers) = match shared(alloc, Slot::new()) {
+            Ok(both) => both,
+            Err(error) => {
+                drop(orders);
+                drop(theirs);
+                return Err(error);
+            }
+        };
+        match thread::spawn(
             &rt,
             move || starter::serve(rt, alloc, bell, &theirs, &answers),
-        ) else {
-            return Err(Memory);
-        };
-        Ok(RealLauncher {
-            rt,
-            orders,
-            told,
-            starter,
-            processes: IndexMap::new(alloc),
-            faults: 0,
-        })
+        ) {
+            Ok(starter) => Ok(RealLauncher {
+                rt,
+                orders,
+                told,
+                starter,
+                processes: IndexMap::new(alloc),
+                faults: 0,
+            }),
+            Err(_) => {
+                drop(orders);
+                drop(told);
+                Err(Memory)
+            }
+        }
     }
 
     /// Ends the thread that starts the others.
@@ -71,11 +81,83 @@ where
         let RealLauncher {
             rt,
             orders,
+            told,
             starter,
-            ..
+            processes,
+            faults: _,
         } = self;
+        drop(told);
+        drop(processes);
         orders.put(&rt, Order::Quit);
         starter.join(&rt);
+        drop(orders);
+    }
+}
+
+impl<R, N: InboxName> RealLauncher<R, N> {
+    // Has the starter launch a child, and gives the places for what its pumps do.
+    fn order(
+        &self,
+        alloc: Global,
+        words: &WordList,
+        kit: PumpKit<Inbox<N>, Poster<N>>,
+    ) -> Result<Arc<Reports<N>, Global>, Memory>
+    where
+        R: Wait,
+    {
+        let words = match copied(alloc, words) {
+            Ok(words) => words,
+            Err(error) => {
+                drop(kit);
+                return Err(error);
+            }
+        };
+        let (reports, theirs) = match shared(alloc, Reports::new()) {
+            Ok(both) => both,
+            Err(error) => {
+                drop(kit);
+                drop(words);
+                return Err(error);
+            }
+        };
+        self.orders.put(
+            &self.rt,
+            Order::Launch(Launch {
+                words,
+                kit,
+                reports: theirs,
+            }),
+        );
+        Ok(reports)
+    }
+
+    // Keeps a child that runs, for which there is room.
+    fn keep(
+        &mut self,
+        child: u32,
+        process: Arc<Process, Global>,
+        reports: Arc<Reports<N>, Global>,
+    ) -> Result<Run<N>, Memory>
+        ensures { self.new.faults ≡ self.old.faults }
+    {
+        if self.processes.insert(child, process).is_err() {
+            drop(reports);
+            return Err(Memory);
+        }
+        Ok(Run { child, reports })
+    }
+
+    // Leaves this child, and with it all others: nobody asks whether one has ended before the run is over.
+    fn leave_all(&self, child: u32) {
+        let Some(asked) = self.processes.get(&child) else {
+            return;
+        };
+        if asked.is_left() {
+            return;
+        }
+        for process in self.processes.values() {
+            process.leave();
+        }
     }
 }
 
@@ -97,29 +179,19 @@ impl<R: Wait, N: InboxName> Launcher<Inbox<N>, Poster<N>> for RealLauncher<R, N>
         ensures later { self.old.faults ≤ self.new.faults }
     {
         let child = kit.child;
-        self.processes.reserve(1)?;
-        let words = copied(alloc, words)?;
-        let Ok(reports) = Reports::new(alloc) else {
+        if self.processes.reserve(1).is_err() {
+            drop(kit);
             return Err(Memory);
-        };
-        let Ok(theirs) = reports.again() else {
-            return Err(Memory);
-        };
-        self.orders.put(
-            &self.rt,
-            Order::Launch {
-                words,
-                kit,
-                reports: theirs,
-            },
-        );
+        }
+        let reports = self.order(alloc, words, kit)?;
         match self.told.next(&self.rt) {
-            Told::Running(process) => {
-                self.processes.insert(child, process)?;
-                Ok(Launched::Running(Run { child, reports }))
+            Told::Running(process) => Ok(Launched::Running(self.keep(child, process, reports)?)),
+            Told::Memory => {
+                drop(reports);
+                Err(Memory)
             }
-            Told::Memory => Err(Memory),
             Told::Refused => {
+                drop(reports);
                 self.faults = self.faults.saturating_add(1);
                 Ok(Launched::Refused)
             }
@@ -132,10 +204,10 @@ impl<R: Wait, N: InboxName> Launcher<Inbox<N>, Poster<N>> for RealLauncher<R, N>
         }
     }
 
+    /// A hub asks it at its end alone, of one child after the other. The first question leaves all children, so that all
+    /// who wait for a pipe give up in the same quarter of a second.
     fn has_ended(&self, run: &Run<N>) -> bool {
-        if let Some(process) = self.processes.get(&run.child) {
-            process.leave();
-        }
+        self.leave_all(run.child);
         run.reports.are_there(&self.rt)
     }
 
@@ -144,22 +216,39 @@ impl<R: Wait, N: InboxName> Launcher<Inbox<N>, Poster<N>> for RealLauncher<R, N>
         if let Some(process) = self.processes.get(&child) {
             process.leave();
         }
-        let done = PumpReports {
-            stdin: reports.stdin.next(&self.rt),
-            out: reports.out.next(&self.rt),
-            errs: reports.errs.next(&self.rt),
-            exit: reports.exit.next(&self.rt),
-        };
+        let done = reports.next(&self.rt);
         self.orders.put(&self.rt, Order::Join(child));
         self.processes.swap_remove(&child);
         done
     }
 }
 
+// A value for two who share it.
+fn shared<T: Drop>(alloc: Global, value: T) -> Result<(Arc<T, Global>, Arc<T, Global>), Memory> {
+    let own = Arc::new(alloc, value)?;
+    match Arc::try_clone(&own) {
+        Ok(theirs) => Ok((own, theirs)),
+        Err(error) => {
+            drop(own);
+            Err(Memory::from(error))
+        }
+    }
+}
+
 fn copied(alloc: Global, words: &WordList) -> Result<Vec<String>, Memory> {
     let mut all = Vec::with_capacity(alloc, words.items().len())?;
+    match copy_all(alloc, words, &mut all) {
+        Ok(()) => Ok(all),
+        Err(error) => {
+            drop(all);
+            Err(error)
+        }
+    }
+}
+
+fn copy_all(alloc: Global, words: &WordList, all: &mut Vec<String>) -> Result<(), Memory> {
     for word in words.items() {
         all.push(String::from_str(alloc, word.as_str())?)?;
     }
-    Ok(all)
+    Ok(())
 }

@@ -1,60 +1,22 @@
 //! The four pumps of a child, each on a thread of its own. A pump gives back what it did in a slot, where whoever takes the
 //! child in waits for it.
-use crate::exit::ChildExit;
-use crate::pipes::{PipeSink, PipeSource};
-use crate::process::Process;
-use crate::slot::Slot;
+use crate::reports::Reports;
+use crate::shares::{Share, Shares};
 use aio_hub::PumpKit;
 use aio_inbox::{Inbox, InboxName, Poster};
+use aio_lane::Tail;
 use aio_poller::PollerBell;
-use aio_pump::{PumpReport, pump_exit, pump_in, pump_out};
+use aio_process::{ChildExit, PipeSink, PipeSource, Process};
+use aio_pump::{pump_exit, pump_in, pump_out};
 use model_pump::Stream;
 use std::alloc::Global;
+use std::io::Read;
+use std::os::fd::AsRawFd;
 use std::process::{ChildStderr, ChildStdin, ChildStdout};
 use std::sync::{Arc, Wait};
 use std::thread::{JoinHandle, Threads};
 use std::time::Clock;
 use std::{io, thread};
-
-/// Where a pump puts what it did.
-pub type Report<N> = Arc<Slot<PumpReport<Poster<N>>>, Global>;
-
-/// The places for what the four pumps of a child did.
-#[derive(Drop)]
-pub struct Reports<N: InboxName> {
-    pub stdin: Report<N>,
-    pub out: Report<N>,
-    pub errs: Report<N>,
-    pub exit: Report<N>,
-}
-
-impl<N: InboxName> Reports<N> {
-    pub fn new(alloc: Global) -> io::Result<Reports<N>> {
-        Ok(Reports {
-            stdin: Arc::new(alloc, Slot::new())?,
-            out: Arc::new(alloc, Slot::new())?,
-            errs: Arc::new(alloc, Slot::new())?,
-            exit: Arc::new(alloc, Slot::new())?,
-        })
-    }
-
-    /// Whether all four are there.
-    pub fn are_there<R: Wait>(&self, rt: &R) -> bool {
-        self.stdin.is_there(rt)
-            && self.out.is_there(rt)
-            && self.errs.is_there(rt)
-            && self.exit.is_there(rt)
-    }
-
-    pub fn again(&self) -> io::Result<Reports<N>> {
-        Ok(Reports {
-            stdin: Arc::try_clone(&self.stdin)?,
-            out: Arc::try_clone(&self.out)?,
-            errs: Arc::try_clone(&self.errs)?,
-            exit: Arc::try_clone(&self.exit)?,
-        })
-    }
-}
 
 /// The pipes of a child.
 #[derive(Drop)]
@@ -72,6 +34,31 @@ pub struct Running {
     pub out: JoinHandle<()>,
     pub errs: JoinHandle<()>,
     pub exit: JoinHandle<()>,
+}
+
+/// What a pump of a pipe is started with.
+#[derive(Drop)]
+struct Job<N: InboxName, P> {
+    tail: Tail,
+    pipe: P,
+    seat: Poster<N>,
+    share: Share<N>,
+}
+
+/// What the pump of the exit is started with.
+#[derive(Drop)]
+struct ExitJob<N: InboxName> {
+    seat: Poster<N>,
+    share: Share<N>,
+}
+
+/// What the four pumps of a child are started with.
+#[derive(Drop)]
+struct Jobs<N: InboxName> {
+    stdin: Job<N, ChildStdin>,
+    out: Job<N, ChildStdout>,
+    errs: Job<N, ChildStderr>,
+    exit: ExitJob<N>,
 }
 
 impl Running {
@@ -99,13 +86,28 @@ pub fn start<R, N: InboxName + Send + Sync + 'static>(
     kit: PumpKit<Inbox<N>, Poster<N>>,
     process: &Arc<Process, Global>,
     pipes: Pipes,
-    reports: Reports<N>,
+    reports: &Arc<Reports<N>, Global>,
 ) -> io::Result<Running>
 where
     R: Threads + Wait + Clock + Copy + Send + 'static,
 {
+    match Shares::of(bell, &kit.inbox, process, reports) {
+        Ok(shares) => start_all(rt, alloc, kit.child, jobs_of(kit, pipes, shares)),
+        Err(error) => {
+            drop(kit);
+            drop(pipes);
+            Err(io::Error::from(error))
+        }
+    }
+}
+
+fn jobs_of<N: InboxName>(
+    kit: PumpKit<Inbox<N>, Poster<N>>,
+    pipes: Pipes,
+    shares: Shares<N>,
+) -> Jobs<N> {
     let PumpKit {
-        child,
+        child: _,
         inbox,
         stdin: stdin_tail,
         out: out_tail,
@@ -115,86 +117,196 @@ where
         errs_seat,
         exit_seat,
     } = kit;
-    let Reports {
-        stdin: stdin_report,
-        out: out_report,
-        errs: errs_report,
-        exit: exit_report,
-    } = reports;
-    let mut stdin_bell = bell.again()?;
-    let mut out_bell = bell.again()?;
-    let mut errs_bell = bell.again()?;
-    let mut exit_bell = bell.again()?;
-    let (stdin_inbox, out_inbox, errs_inbox) = (
-        Arc::try_clone(&inbox)?,
-        Arc::try_clone(&inbox)?,
-        Arc::try_clone(&inbox)?,
-    );
-    let (out_process, errs_process, exit_process) = (
-        Arc::try_clone(process)?,
-        Arc::try_clone(process)?,
-        Arc::try_clone(process)?,
-    );
+    drop(inbox);
     let Pipes { stdin, out, errs } = pipes;
-    let stdin_sink = PipeSink::make(stdin, Arc::try_clone(process)?);
-    let out_source = PipeSource::make(out, Arc::try_clone(process)?);
-    let errs_source = PipeSource::make(errs, Arc::try_clone(process)?);
-    let stdin = thread::spawn(&rt, move || {
-        let mut sink = stdin_sink;
-        let report = pump_in(
-            &rt,
-            alloc,
-            stdin_tail,
-            &mut sink,
-            &stdin_inbox,
-            stdin_seat,
-            &mut stdin_bell,
-        );
-        drop(sink);
-        stdin_report.put(&rt, report);
-    })?;
-    let out = thread::spawn(&rt, move || {
-        let mut source = out_source;
-        let report = pump_out(
-            &rt,
-            alloc,
-            out_tail,
-            &mut source,
-            &out_inbox,
-            out_seat,
-            Stream::Out,
-            &mut out_bell,
-        );
-        drop(source);
-        out_process.stir();
-        out_report.put(&rt, report);
-    })?;
-    let errs = thread::spawn(&rt, move || {
-        let mut source = errs_source;
-        let report = pump_out(
-            &rt,
-            alloc,
-            errs_tail,
-            &mut source,
-            &errs_inbox,
-            errs_seat,
-            Stream::Errs,
-            &mut errs_bell,
-        );
-        drop(source);
-        errs_process.stir();
-        errs_report.put(&rt, report);
-    })?;
-    let exit = thread::spawn(&rt, move || {
-        let mut source = ChildExit::make(rt, exit_process);
-        let report = pump_exit(&rt, alloc, &mut source, &inbox, exit_seat, &mut exit_bell);
-        exit_report.put(&rt, report);
-    })?;
-    Ok(Running {
-        child,
+    let Shares {
+        stdin: stdin_share,
+        out: out_share,
+        errs: errs_share,
+        exit: exit_share,
+    } = shares;
+    Jobs {
+        stdin: Job {
+            tail: stdin_tail,
+            pipe: stdin,
+            seat: stdin_seat,
+            share: stdin_share,
+        },
+        out: Job {
+            tail: out_tail,
+            pipe: out,
+            seat: out_seat,
+            share: out_share,
+        },
+        errs: Job {
+            tail: errs_tail,
+            pipe: errs,
+            seat: errs_seat,
+            share: errs_share,
+        },
+        exit: ExitJob {
+            seat: exit_seat,
+            share: exit_share,
+        },
+    }
+}
+
+fn start_all<R, N: InboxName + Send + Sync + 'static>(
+    rt: R,
+    alloc: Global,
+    child: u32,
+    jobs: Jobs<N>,
+) -> io::Result<Running>
+where
+    R: Threads + Wait + Clock + Copy + Send + 'static,
+{
+    let Jobs {
         stdin,
         out,
         errs,
         exit,
-    })
+    } = jobs;
+    let stdin = match start_in(rt, alloc, stdin) {
+        Ok(thread) => thread,
+        Err(error) => {
+            drop(out);
+            drop(errs);
+            drop(exit);
+            return Err(error);
+        }
+    };
+    let out = match start_out(rt, alloc, Stream::Out, out) {
+        Ok(thread) => thread,
+        Err(error) => {
+            drop(stdin);
+            drop(errs);
+            drop(exit);
+            return Err(error);
+        }
+    };
+    let errs = match start_out(rt, alloc, Stream::Errs, errs) {
+        Ok(thread) => thread,
+        Err(error) => {
+            drop(stdin);
+            drop(out);
+            drop(exit);
+            return Err(error);
+        }
+    };
+    match start_exit(rt, alloc, exit) {
+        Ok(exit) => Ok(Running {
+            child,
+            stdin,
+            out,
+            errs,
+            exit,
+        }),
+        Err(error) => {
+            drop(stdin);
+            drop(out);
+            drop(errs);
+            Err(error)
+        }
+    }
+}
+
+fn start_in<R, N: InboxName + Send + Sync + 'static>(
+    rt: R,
+    alloc: Global,
+    job: Job<N, ChildStdin>,
+) -> io::Result<JoinHandle<()>>
+where
+    R: Threads + Wait + Clock + Copy + Send + 'static,
+{
+    Ok(thread::spawn(&rt, move || run_in(rt, alloc, job))?)
+}
+
+fn run_in<R: Wait + Clock + Copy, N: InboxName>(rt: R, alloc: Global, job: Job<N, ChildStdin>) {
+    let Job {
+        tail,
+        pipe,
+        seat,
+        share,
+    } = job;
+    let Share {
+        inbox,
+        mut bell,
+        process,
+        reports,
+    } = share;
+    let mut sink = PipeSink::make(pipe, process);
+    let report = pump_in(&rt, alloc, tail, &mut sink, &inbox, seat, &mut bell);
+    drop(sink);
+    reports.stdin.put(&rt, report);
+}
+
+fn start_out<R, N: InboxName + Send + Sync + 'static, P>(
+    rt: R,
+    alloc: Global,
+    stream: Stream,
+    job: Job<N, P>,
+) -> io::Result<JoinHandle<()>>
+where
+    R: Threads + Wait + Clock + Copy + Send + 'static,
+    P: Read + AsRawFd + Drop + Send + 'static,
+{
+    Ok(thread::spawn(&rt, move || run_out(rt, alloc, stream, job))?)
+}
+
+fn run_out<R: Wait + Copy, N: InboxName, P: Read + AsRawFd + Drop>(
+    rt: R,
+    alloc: Global,
+    stream: Stream,
+    job: Job<N, P>,
+) {
+    let Job {
+        tail,
+        pipe,
+        seat,
+        share,
+    } = job;
+    let Share {
+        inbox,
+        mut bell,
+        process,
+        reports,
+    } = share;
+    let mut source = PipeSource::make(pipe, process);
+    let report = pump_out(
+        &rt,
+        alloc,
+        tail,
+        &mut source,
+        &inbox,
+        seat,
+        stream,
+        &mut bell,
+    );
+    source.close();
+    reports.of(stream).put(&rt, report);
+}
+
+fn start_exit<R, N: InboxName + Send + Sync + 'static>(
+    rt: R,
+    alloc: Global,
+    job: ExitJob<N>,
+) -> io::Result<JoinHandle<()>>
+where
+    R: Threads + Wait + Clock + Copy + Send + 'static,
+{
+    Ok(thread::spawn(&rt, move || run_exit(rt, alloc, job))?)
+}
+
+fn run_exit<R: Wait + Clock + Copy, N: InboxName>(rt: R, alloc: Global, job: ExitJob<N>) {
+    let ExitJob { seat, share } = job;
+    let Share {
+        inbox,
+        mut bell,
+        process,
+        reports,
+    } = share;
+    let mut source = ChildExit::make(rt, process);
+    let report = pump_exit(&rt, alloc, &mut source, &inbox, seat, &mut bell);
+    drop(source);
+    reports.exit.put(&rt, report);
 }

@@ -2,12 +2,13 @@
 //!
 //! A method of a trait can't start threads for a runtime that it doesn't know, and the handle of a thread stays with the
 //! thread that started it. So one thread does both, as it is told.
-use crate::process::Process;
-use crate::pumps::{Pipes, Reports, Running, start};
+use crate::pumps::{Pipes, Running, start};
+use crate::reports::Reports;
 use crate::slot::Slot;
 use aio_hub::PumpKit;
 use aio_inbox::{Inbox, InboxName, Poster};
 use aio_poller::PollerBell;
+use aio_process::Process;
 use std::alloc::Global;
 use std::io;
 use std::io::ErrorKind;
@@ -16,14 +17,18 @@ use std::sync::{Arc, Wait};
 use std::thread::Threads;
 use std::time::Clock;
 
+/// A child that is to be started.
+#[derive(Drop)]
+pub struct Launch<N: InboxName> {
+    pub words: Vec<String>,
+    pub kit: PumpKit<Inbox<N>, Poster<N>>,
+    pub reports: Arc<Reports<N>, Global>,
+}
+
 /// What the thread is told.
 #[derive(Drop)]
 pub enum Order<N: InboxName> {
-    Launch {
-        words: Vec<String>,
-        kit: PumpKit<Inbox<N>, Poster<N>>,
-        reports: Reports<N>,
-    },
+    Launch(Launch<N>),
     /// The pumps of this child have ended: their threads are joined.
     Join(u32),
     Quit,
@@ -51,24 +56,11 @@ where
     let mut running = Vec::new(alloc);
     for _ in rt.forever() {
         match orders.next(&rt) {
-            Order::Quit => break,
-            Order::Launch {
-                words,
-                kit,
-                reports,
-            } => {
-                let answer = launched(
-                    rt,
-                    alloc,
-                    &bell,
-                    words.as_slice(),
-                    kit,
-                    reports,
-                    &mut running,
-                );
-                told.put(&rt, answer);
+            Order::Launch(launch) => {
+                told.put(&rt, launched(rt, alloc, &bell, launch, &mut running));
             }
             Order::Join(child) => join(&rt, &mut running, child),
+            Order::Quit => break,
         }
     }
 }
@@ -83,59 +75,116 @@ fn launched<R, N: InboxName + Send + Sync + 'static>(
     rt: R,
     alloc: Global,
     bell: &PollerBell,
-    words: &[String],
-    kit: PumpKit<Inbox<N>, Poster<N>>,
-    reports: Reports<N>,
+    launch: Launch<N>,
     running: &mut Vec<Running>,
 ) -> Told
 where
     R: Processes<Started = SystemProcess> + Threads + Wait + Clock + Copy + Send + 'static,
 {
-    if running.reserve(1).is_err() {
+    let Launch {
+        words,
+        kit,
+        reports,
+    } = launch;
+    let begun = if running.reserve(1).is_ok() {
+        begin(rt, alloc, bell, words.as_slice(), kit, &reports)
+    } else {
+        drop(kit);
+        Err(io::Error::from(ErrorKind::OutOfMemory))
+    };
+    drop(words);
+    drop(reports);
+    match begun {
+        Ok((one, process)) => noted(running, one, process),
+        Err(error) => told_of(&error),
+    }
+}
+
+// A child that runs, for which there is room.
+fn noted(running: &mut Vec<Running>, one: Running, process: Arc<Process, Global>) -> Told {
+    if running.push(one).is_err() {
+        drop(process);
         return Told::Memory;
     }
-    match launch(rt, alloc, bell, words, kit, reports) {
-        Ok((one, process)) => match running.push(one) {
-            Ok(()) => Told::Running(process),
-            Err(_) => Told::Memory,
-        },
-        Err(error) if is_memory(&error) => Told::Memory,
-        Err(_) => Told::Refused,
+    Told::Running(process)
+}
+
+fn told_of(error: &io::Error) -> Told {
+    if is_memory(error) {
+        Told::Memory
+    } else {
+        Told::Refused
     }
 }
 
 /// The process's own memory was refused, and no call of the system.
-pub fn is_memory(error: &io::Error) -> bool {
+fn is_memory(error: &io::Error) -> bool {
     error.kind() == ErrorKind::OutOfMemory && error.raw_os_error().is_none()
 }
 
-/// Starts a child and its pumps. Where the pumps can't be started, the child is ended.
-fn launch<R, N: InboxName + Send + Sync + 'static>(
+/// Starts a child and its pumps.
+fn begin<R, N: InboxName + Send + Sync + 'static>(
     rt: R,
     alloc: Global,
     bell: &PollerBell,
     words: &[String],
     kit: PumpKit<Inbox<N>, Poster<N>>,
-    reports: Reports<N>,
+    reports: &Arc<Reports<N>, Global>,
 ) -> io::Result<(Running, Arc<Process, Global>)>
 where
     R: Processes<Started = SystemProcess> + Threads + Wait + Clock + Copy + Send + 'static,
 {
-    let mut child = spawned(&rt, alloc, words)?;
+    let mut child = match spawned(&rt, alloc, words) {
+        Ok(child) => child,
+        Err(error) => {
+            drop(kit);
+            return Err(error);
+        }
+    };
     let pipes = pipes_of(&mut child);
-    let process = Arc::new(alloc, Process::of(child))?;
+    match Arc::new(alloc, Process::of(child)) {
+        Ok(process) => served(rt, alloc, bell, kit, process, pipes, reports),
+        Err(error) => {
+            drop(kit);
+            drop(pipes);
+            Err(io::Error::from(error))
+        }
+    }
+}
+
+// Starts the pumps of a child that runs. Where they can't be started, the child is ended.
+fn served<R, N: InboxName + Send + Sync + 'static>(
+    rt: R,
+    alloc: Global,
+    bell: &PollerBell,
+    kit: PumpKit<Inbox<N>, Poster<N>>,
+    process: Arc<Process, Global>,
+    pipes: Option<Pipes>,
+    reports: &Arc<Reports<N>, Global>,
+) -> io::Result<(Running, Arc<Process, Global>)>
+where
+    R: Threads + Wait + Clock + Copy + Send + 'static,
+{
     let started = match pipes {
         Some(pipes) => start(rt, alloc, bell, kit, &process, pipes, reports),
-        None => Err(io::Error::from(ErrorKind::BrokenPipe)),
+        None => {
+            drop(kit);
+            Err(io::Error::from(ErrorKind::BrokenPipe))
+        }
     };
     match started {
         Ok(one) => Ok((one, process)),
         Err(error) => {
-            let _ = process.kill(&rt);
-            let _ = process.wait(&rt);
+            end(&rt, &process);
+            drop(process);
             Err(error)
         }
     }
+}
+
+fn end<R: Wait + Clock>(rt: &R, process: &Process) {
+    let _ = process.kill(rt);
+    let _ = process.wait(rt);
 }
 
 fn pipes_of(child: &mut Child) -> Option<Pipes> {
@@ -155,6 +204,15 @@ where
         return Err(io::Error::from(ErrorKind::InvalidInput));
     };
     let mut command = Command::new(alloc, program.as_str())?;
+    let child = run(rt, &mut command, rest);
+    drop(command);
+    child
+}
+
+fn run<R>(rt: &R, command: &mut Command, rest: &[String]) -> io::Result<Child>
+where
+    R: Processes<Started = SystemProcess>,
+{
     for word in rest {
         command.arg(word.as_str())?;
     }

@@ -1,22 +1,22 @@
 //! The exit of a child.
-ghost use Rattle.aio_launcher.specs.Counts.{unwaited};
+ghost use Rattle.std.specs.Prelude.{◌≡◌, None, IfSome};
+ghost use Rattle.aio_pump.specs.Exits.{ExitAnswers};
+ghost use Rattle.aio_process.specs.Codes.{code_of};
+ghost use Rattle.aio_process.specs.Counts.{unwaited};
 
+use crate::ended::Ended;
 use crate::process::Process;
 use aio_pump::{ExitSource, Exited};
 use std::alloc::Global;
-use std::os::unix::process::ExitStatusExt;
-use std::process::ExitStatus;
 use std::sync::{Arc, Wait};
 use std::time::Clock;
-
-/// What is told of a child that neither ended by itself nor by a signal.
-const UNKNOWN: i32 = -128;
 
 /// The exit of a child of the system. It tells nothing of the code before it is there.
 #[derive(Drop)]
 pub struct ChildExit<R> {
     rt: R,
     process: Arc<Process, Global>,
+    ended: Option<Ended>,
     faults: u64,
 }
 
@@ -25,6 +25,7 @@ impl<R> ChildExit<R> {
         ChildExit {
             rt,
             process,
+            ended: None,
             faults: 0,
         }
     }
@@ -34,22 +35,23 @@ impl<R: Wait + Clock> ExitSource for ChildExit<R> {
     ghost seen = { λ exit. unwaited exit.faults };
 
     /// Waits for the child: its code, or minus the signal that ended it.
-    fn wait(&mut self) -> Exited {
+    fn wait(&mut self) -> Exited
+        ensures answers { ExitAnswers (unwaited self.old.faults) result (unwaited self.new.faults) }
+        ensures ended { IfSome self.new.ended
+            (λ ended. result ≡ Exited.Code (code_of ended.status)) }
+        ensures failed { self.new.ended ≡ None → result ≡ Exited.Failed }
+    {
         match self.process.wait(&self.rt) {
-            Ok(status) => Exited::Code(code_of(&status)),
+            Ok(ended) => {
+                let code = ended.code();
+                self.ended = Some(ended);
+                Exited::Code(code)
+            }
             Err(_) => {
+                self.ended = None;
                 self.faults = self.faults.saturating_add(1);
                 Exited::Failed
             }
         }
-    }
-}
-
-/// Source: the library reference, `subprocess.Popen.returncode`.
-fn code_of(status: &ExitStatus) -> i32 {
-    match (status.code(), status.signal()) {
-        (Some(code), _) => code,
-        (None, Some(signal)) => 0i32.saturating_sub(signal),
-        (None, None) => UNKNOWN,
     }
 }

@@ -1,6 +1,7 @@
 //! A child's process, which one thread waits for while others may kill it.
+use crate::ended::Ended;
 use std::io;
-use std::process::{Child, ExitStatus};
+use std::process::Child;
 use std::sync::atomic::{AtomicBool, Ordering};
 use std::sync::{Condvar, Mutex, Wait};
 use std::time::{Clock, Duration};
@@ -49,12 +50,12 @@ impl Process {
     }
 
     /// How the child ended. It looks at once, then after a pause that doubles, and right after each stir.
-    pub fn wait<R: Wait + Clock>(&self, rt: &R) -> io::Result<ExitStatus> {
+    pub fn wait<R: Wait + Clock>(&self, rt: &R) -> io::Result<Ended> {
         let mut pause = 1;
         let mut child = self.child.lock(rt);
         for _ in rt.forever() {
-            if let Some(status) = child.try_wait()? {
-                return Ok(status);
+            if let Some(ended) = Ended::look(&mut *child)? {
+                return Ok(ended);
             }
             let (again, waited) = self
                 .stirred

@@ -1,0 +1,56 @@
+//! What the four pumps of a child did, until it is taken in.
+use crate::slot::Slot;
+use aio_hub::PumpReports;
+use aio_inbox::{InboxName, Poster};
+use aio_pump::PumpReport;
+use model_pump::Stream;
+use std::sync::Wait;
+
+/// Where a pump puts what it did.
+pub type Report<N> = Slot<PumpReport<Poster<N>>>;
+
+/// The places for what the four pumps of a child did. They take no memory.
+#[derive(Drop)]
+pub struct Reports<N: InboxName> {
+    pub stdin: Report<N>,
+    pub out: Report<N>,
+    pub errs: Report<N>,
+    pub exit: Report<N>,
+}
+
+impl<N: InboxName> Reports<N> {
+    pub fn new() -> Reports<N> {
+        Reports {
+            stdin: Slot::new(),
+            out: Slot::new(),
+            errs: Slot::new(),
+            exit: Slot::new(),
+        }
+    }
+
+    /// The place of the pump of this stream.
+    pub fn of(&self, stream: Stream) -> &Report<N> {
+        match stream {
+            Stream::Out => &self.out,
+            Stream::Errs => &self.errs,
+        }
+    }
+
+    /// Whether all four are there.
+    pub fn are_there<R: Wait>(&self, rt: &R) -> bool {
+        self.stdin.is_there(rt)
+            && self.out.is_there(rt)
+            && self.errs.is_there(rt)
+            && self.exit.is_there(rt)
+    }
+
+    /// Takes all four. It waits until they are there.
+    pub fn next<R: Wait>(&self, rt: &R) -> PumpReports<Poster<N>> {
+        PumpReports {
+            stdin: self.stdin.next(rt),
+            out: self.out.next(rt),
+            errs: self.errs.next(rt),
+            exit: self.exit.next(rt),
+        }
+    }
+}

@@ -1,0 +1,13 @@
+//! A child of the system: its process, its pipes and its exit.
+#![tactic(auto)]
+
+mod ended;
+mod exit;
+mod pipes;
+mod process;
+mod readiness;
+
+pub use ended::Ended;
+pub use exit::ChildExit;
+pub use pipes::{PipeSink, PipeSource};
+pub use process::Process;
