@@ -84,7 +84,7 @@ fn number_in(constant: &Constant) -> Option<i64>
 }
 
 fn number_calculated(operator: Operator, left: i64, right: i64) -> Option<i64>
-    ensures { IfSome result (λ number. calculated operator (Int left) (Int right) ≡ Ok (Int number)) }
+    ensures { IfSome result (λ n. calculated operator (Int left) (Int right) ≡ Ok (Int n)) }
 {
     match operator {
         Operator::Add => left.checked_add(right),

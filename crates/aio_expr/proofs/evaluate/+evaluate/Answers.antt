@@ -29,17 +29,20 @@ evaluate_and-returns-in_err-decided t c =
 
 pub compare_values-returns-in_err-left : goal.compare_values-returns-in_err-left
 compare_values-returns-in_err-left t c =
-    gives-err (value_of (Compare c.args.comparison c.args.left.now c.args.right.now) c.args.env.now) c.from_residual.result c.in_err-left.field-0.0 c.from_residual.ensures.1
+    gives-err (value_of (Compare c.args.comparison c.args.left.now c.args.right.now) c.args.env.now)
+    c.from_residual.result c.in_err-left.field-0.0 c.from_residual.ensures.1
     (c.in_err-left.ensures.fault (compared c.args.comparison))
 
 pub calculate_values-returns-in_err-left : goal.calculate_values-returns-in_err-left
 calculate_values-returns-in_err-left t c =
-    gives-err (value_of (Calculate c.args.operator c.args.left.now c.args.right.now) c.args.env.now) c.from_residual.result c.in_err-left.field-0.0 c.from_residual.ensures.1
+    gives-err (value_of (Calculate c.args.operator c.args.left.now c.args.right.now) c.args.env.now)
+    c.from_residual.result c.in_err-left.field-0.0 c.from_residual.ensures.1
     (c.in_err-left.ensures.fault (calculated c.args.operator))
 
 pub evaluate_index-returns-in_err-sequence : goal.evaluate_index-returns-in_err-sequence
 evaluate_index-returns-in_err-sequence t c =
-    gives-err (value_of (Index c.args.sequence.now c.args.index.now) c.args.env.now) c.from_residual.result c.in_err-sequence.field-0.0 c.from_residual.ensures.1
+    gives-err (value_of (Index c.args.sequence.now c.args.index.now) c.args.env.now)
+    c.from_residual.result c.in_err-sequence.field-0.0 c.from_residual.ensures.1
     (c.in_err-sequence.ensures.fault indexed)
 
 pub evaluate_all-evaluate-requires : goal.evaluate_all-evaluate-requires
