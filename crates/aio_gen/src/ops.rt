@@ -1,12 +1,15 @@
 //! Operations.
-ghost use Rattle.std.specs.Prelude.{◌≡◌, ◌+◌, ◌<◌, ◌^◌, Some, IfOk};
-ghost use Rattle.law_flat.specs.Moves.{counted, after_statement, after_op, move_of};
+ghost use Rattle.std.specs.Prelude.{◌≡◌, ℕ, ◌+◌, ◌-◌, ◌<◌, ◌^◌, true, false, Some, IfOk};
+ghost use Rattle.law_flat.specs.Moves.{Goes, at_place, counted, after_statement, after_op, move_of};
+ghost use Rattle.law_flat.specs.Ops.{CoroutineCode};
+ghost use Rattle.law_flat.specs.declared.way.Way.TheVariants.{Passing};
 ghost use Rattle.aio_flat.specs.Code.{codes_of, plain_body};
 ghost use Rattle.aio_gen.specs.Plain.{plain_frames, plain_move};
 
 use crate::frames::Frames;
 use crate::types::{Move, Way};
 use aio_base::{Memory, Value};
+use aio_expr::{number_of, truth_of};
 use aio_flat::{Code, FlatBody, Op};
 use std::alloc::Global;
 
@@ -81,6 +84,7 @@ impl Frames {
         self.after_statement(alloc, code, op)
     }
 
+    #[inline(never)]
     fn after_op(
         &mut self,
         alloc: Global,
@@ -106,6 +110,56 @@ impl Frames {
         }
     }
 
+    /// Does a statement of numbers alone, and tells whether it did. Where it did not, nothing
+    /// changed. So most moves answer no more than a truth.
+    #[inline(never)]
+    fn does_plainly(&mut self, op: &Op) -> bool
+        requires { self.old.frame.place + 1 < 2 ^ 64 }
+        ensures done { result ≡ true → (codes : ℕ → CoroutineCode) (body : CoroutineCode) →
+            after_op codes body (Some op.now) (plain_frames self.old)
+            ≡ Goes Passing (plain_frames self.new) }
+        ensures left { result ≡ false → self.new ≡ self.old }
+    {
+        if self.left == 0 {
+            return false;
+        }
+        match op {
+            Op::Assign { name, value } => match number_of(value, &self.frame.env) {
+                Some(number) => {
+                    self.frame.env.assign(*name, Value::int(number));
+                    self.counted_to(self.frame.place + 1);
+                    true
+                }
+                None => false,
+            },
+            Op::Test { test, otherwise } => match truth_of(test, &self.frame.env) {
+                Some(on) => {
+                    self.counted_to(if on { self.frame.place + 1 } else { *otherwise });
+                    true
+                }
+                None => false,
+            },
+            Op::Repeat { test, body } => match truth_of(test, &self.frame.env) {
+                Some(on) => {
+                    self.counted_to(if on { *body } else { self.frame.place + 1 });
+                    true
+                }
+                None => false,
+            },
+            _ => false,
+        }
+    }
+
+    /// A statement was counted, and it goes on at a place.
+    fn counted_to(&mut self, place: usize)
+        requires { 0 < self.old.left }
+        ensures { plain_frames self.new
+            ≡ record (at_place place (plain_frames self.old)) { left = self.old.left - 1 } }
+    {
+        self.left -= 1;
+        self.frame.place = place;
+    }
+
     /// One move: an operation, or one open handler less.
     pub fn step(
         &mut self,
@@ -119,7 +173,13 @@ impl Frames {
     {
         match way {
             Way::Passing => match body.ops.get(self.frame.place) {
-                Some(op) => self.after_op(alloc, code, body, op),
+                Some(op) => {
+                    if self.does_plainly(op) {
+                        Ok(Move::Goes(Way::Passing))
+                    } else {
+                        self.after_op(alloc, code, body, op)
+                    }
+                }
                 None => self.way_out(body, Way::Passing),
             },
             Way::Returning(value) => self.way_out(body, Way::Returning(value)),
