@@ -1,10 +1,9 @@
 -- When a value is in bounds.
-use Rattle.std.proofs.Common.{◌≡◌, ℕ, ◌+◌, ◌<◌, ◌≤◌, max, Bool, true, false, nat_le, ◌&&◌, if◌then◌else◌, List, [], ◌∷◌, ◌++◌, Ok, Err, refl, ap, ap₂, sym}
-use Rattle.std.proofs.Common.{arith}
+use Rattle.std.proofs.Common.{◌≡◌, ℕ, ◌<◌, ◌≤◌, Bool, true, false, nat_le, ◌&&◌, if◌then◌else◌, Ok, Err, refl, ap, ap₂, sym}
 use Rattle.std.proofs.lemmas.Bool.{false≢true, lt-leb, le-leb}
-use Rattle.model_value.specs.Value.{Value, values}
-use Rattle.model_value.specs.Weight.{weight_of, items_weight}
-use Rattle.model_value.specs.Depth.{depth_of, items_depth}
+use Rattle.model_value.specs.Value.{Value}
+use Rattle.model_value.specs.Weight.{weight_of}
+use Rattle.model_value.specs.Depth.{depth_of}
 use Rattle.model_says.specs.Operations.{bounded, heaviest, deepest, out_of_range}
 
 not_le : (a b : ℕ) → b < a → nat_le a b ≡ false
