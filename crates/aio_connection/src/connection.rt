@@ -1,5 +1,5 @@
 //! A connection, and what its two sides do alone.
-ghost use Rattle.std.specs.Prelude.{◌≡◌, ◌||◌, false, None, Some, IfOk, OnOk, length};
+ghost use Rattle.std.specs.Prelude.{◌≡◌, ◌||◌, false, None, Some, IfOk, IfSome, OnOk, length};
 ghost use Rattle.std.specs.Option.{option_copied};
 ghost use Rattle.model_stream.specs.Connections as plain;
 ghost use Rattle.model_stream.specs.Doing.{Ends, asked_on, on};
@@ -9,6 +9,7 @@ ghost use Rattle.model_stream.specs.Sending as sending;
 ghost use Rattle.law_doing.specs.Tells.{Tells};
 ghost use Rattle.law_over.specs.Gone.{is_over};
 ghost use Rattle.aio_change.specs.Seen.{seen_changed};
+ghost use Rattle.aio_connection.specs.Lost.{connection_of};
 ghost use Rattle.aio_connection.specs.Owned.{OwnsConnection};
 
 mod asking;
@@ -17,6 +18,7 @@ mod receiving;
 mod requests;
 mod sending;
 
+use crate::lost::LostConnection;
 use aio_base::Exc;
 use aio_receiver::Receiver;
 use aio_sender::Sender;
@@ -79,6 +81,40 @@ impl Connection {
             began: false,
             sender: Sender::new(alloc, false, closed),
             receiver: Receiver::new(alloc),
+        }
+    }
+
+    /// The same in few bytes, where it was lost, holds nothing, and nobody waits.
+    pub fn lost(&self) -> Option<LostConnection>
+        ensures { IfSome result (λ lost. connection_of lost ≡ self.now) }
+    {
+        if self.making.is_some() {
+            return None;
+        }
+        let Some(sender) = self.sender.lost() else {
+            return None;
+        };
+        let Some(receiver) = self.receiver.bare() else {
+            return None;
+        };
+        Some(LostConnection {
+            handler: self.handler,
+            sender,
+            receiver,
+            began: self.began,
+        })
+    }
+
+    /// The connection that was lost; takes no memory.
+    pub fn of_lost(alloc: Global, lost: LostConnection) -> Connection
+        ensures { result ≡ connection_of lost }
+    {
+        Connection {
+            making: None,
+            handler: lost.handler,
+            began: lost.began,
+            sender: Sender::of_lost(alloc, lost.sender),
+            receiver: Receiver::of_bare(alloc, lost.receiver),
         }
     }
 

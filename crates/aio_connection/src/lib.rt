@@ -2,7 +2,9 @@
 #![tactic(auto)]
 
 mod connection;
+mod lost;
 
 pub use aio_receiver::{AllGot, StreamGot};
 pub use aio_sender::Drain;
 pub use connection::Connection;
+pub use lost::LostConnection;

@@ -1,8 +1,10 @@
 //! One writer's unsent bytes.
-ghost use Rattle.std.specs.Prelude.{◌≡◌, ◌≤◌, length, IfOk, OnOk, OnErr};
+ghost use Rattle.std.specs.Prelude.{◌≡◌, ◌≤◌, length, IfOk, IfSome, OnOk, OnErr};
 ghost use Rattle.model_stream.specs.Sending as sending;
+ghost use Rattle.aio_flow.specs.Spent.{writer_of};
 
 use crate::marks::marks_of;
+use crate::spent::SpentFlow;
 use aio_base::Memory;
 use bytes::BytesMut;
 use model_stream::{Limited, Put};
@@ -143,6 +145,43 @@ impl Flow {
     {
         if self.unsent.is_empty() {
             self.unsent = BytesMut::new(*self.unsent.allocator());
+        }
+    }
+
+    /// The same in few bytes, where loss is scheduled or done and nothing is unsent. Never of a child's standard input.
+    #[tactic(auto, using(std::proofs::lemmas::List::nil_from_length))]
+    pub fn spent(&self) -> Option<SpentFlow>
+        ensures { IfSome result (λ spent. writer_of spent ≡ self.now) }
+    {
+        if self.whole || !self.ended || self.unsent.len() != 0 {
+            return None;
+        }
+        let Ok(high) = u32::try_from(self.high) else {
+            return None;
+        };
+        let Ok(low) = u32::try_from(self.low) else {
+            return None;
+        };
+        Some(SpentFlow {
+            high,
+            low,
+            paused: self.paused,
+            eof: self.eof,
+        })
+    }
+
+    /// The writer that was spent; takes no memory.
+    pub fn of_spent(alloc: Global, spent: SpentFlow) -> Flow
+        ensures { result ≡ writer_of spent }
+    {
+        Flow {
+            unsent: BytesMut::new(alloc),
+            high: spent.high as usize,
+            low: spent.low as usize,
+            paused: spent.paused,
+            eof: spent.eof,
+            ended: true,
+            whole: false,
         }
     }
 

@@ -3,6 +3,8 @@
 
 mod flow;
 mod marks;
+mod spent;
 
 pub use flow::Flow;
 pub use model_stream::{Limited, Put};
+pub use spent::SpentFlow;

@@ -1,5 +1,5 @@
 //! The marks between which writing is paused and resumed.
-ghost use Rattle.std.specs.Prelude.{◌≡◌};
+ghost use Rattle.std.specs.Prelude.{◌≡◌, ◌<◌, ◌^◌, IfSome};
 ghost use Rattle.model_stream.specs.Sending.{checked_marks, marks_of, natural};
 
 /// The greatest high mark.
@@ -9,7 +9,8 @@ const MOST_HIGH: u64 = 2_147_483_647;
 /// quarter of `high`.
 /// Source: `transports.py`, `_FlowControlMixin._set_write_buffer_limits`.
 pub fn marks_of(high: Option<i64>, low: Option<i64>) -> Option<(usize, usize)>
-    ensures { result ≡ marks_of high low }
+    ensures marks { result ≡ marks_of high low }
+    ensures few { IfSome result (λ marks. (marks.0 < 2 ^ 32) × (marks.1 < 2 ^ 32)) }
 {
     match (high, low) {
         (None, None) => checked(65_536, 16_384),
@@ -36,7 +37,8 @@ fn natural(number: i64) -> Option<u64>
 }
 
 fn checked(high: u64, low: u64) -> Option<(usize, usize)>
-    ensures { result ≡ checked_marks high low }
+    ensures marks { result ≡ checked_marks high low }
+    ensures few { IfSome result (λ marks. (marks.0 < 2 ^ 32) × (marks.1 < 2 ^ 32)) }
 {
     if low <= high && high <= MOST_HIGH {
         Some((high as usize, low as usize))

@@ -1,2 +1,3 @@
+pub mod Bare
 pub mod Code
 pub mod Searched

@@ -1,17 +1,22 @@
 //! One reader.
-ghost use Rattle.std.specs.Prelude.{◌≡◌, ◌+◌, ◌^◌, ◌<◌, ◌≤◌, false, drop, length, IfOk, OnOk, OnErr};
+ghost use Rattle.std.specs.Prelude.{◌≡◌, ◌+◌, ◌^◌, ◌<◌, ◌≤◌, false, drop, length, IfOk, IfSome, OnOk, OnErr};
 ghost use Rattle.std.specs.Option.{option_copied};
 ghost use Rattle.model_value.specs.declared.kind.Kind.TheVariants.{LimitOverrunError};
 ghost use Rattle.model_stream.specs.Reading as reading;
 ghost use Rattle.model_value.specs.Value.{exception_of};
 ghost use Rattle.model_stream.specs.declared.read_op.Taken.TheVariants.{Raises};
 ghost use Rattle.model_stream.specs.Reading.{after_take};
+ghost use Rattle.aio_reader.specs.Bare.{reading_of};
 
+use crate::bare::BareReader;
 use crate::buffer::Buffer;
 use aio_base::{Blob, Exc, Kind, Memory, exception};
 use std::alloc::Global;
 use std::marker::Model;
 use std::rc::RcSlice;
+
+// The limit of a connection's reader, and of a child's.
+const STREAM_LIMIT: usize = 65_536;
 
 /// An operation on a reader.
 pub type ReadOp = model_stream::ReadOp<Blob>;
@@ -60,6 +65,33 @@ impl Reader {
             failed: None,
             limit,
             paused: false,
+        }
+    }
+
+    /// The same in few bytes, where it holds nothing, did not fail, and has the limit of a connection's.
+    #[tactic(auto, using(std::proofs::lemmas::List::nil_from_length))]
+    pub fn bare(&self) -> Option<BareReader>
+        ensures { IfSome result (λ bare. reading_of bare ≡ self.now) }
+    {
+        if self.limit != STREAM_LIMIT || self.failed.is_some() || self.held.len() != 0 {
+            return None;
+        }
+        Some(BareReader {
+            eof: self.eof,
+            paused: self.paused,
+        })
+    }
+
+    /// The reader that was bare; takes no memory.
+    pub fn of_bare(alloc: Global, bare: BareReader) -> Reader
+        ensures { result ≡ reading_of bare }
+    {
+        Reader {
+            held: Buffer::new(alloc),
+            eof: bare.eof,
+            failed: None,
+            limit: STREAM_LIMIT,
+            paused: bare.paused,
         }
     }
 

@@ -1,3 +1,4 @@
+pub mod Bare
 pub mod Code
 pub mod Gotten
 pub mod Woken

@@ -1,14 +1,16 @@
 //! A receiver.
-ghost use Rattle.std.specs.Prelude.{◌≡◌, false, is_some, None, Some, IfOk, OnOk, length};
+ghost use Rattle.std.specs.Prelude.{◌≡◌, false, is_some, None, Some, IfOk, IfSome, OnOk, length};
 ghost use Rattle.std.specs.Option.{option_copied};
 ghost use Rattle.model_stream.specs.Reading as reading;
 ghost use Rattle.model_stream.specs.Receivers as plain;
 ghost use Rattle.aio_change.specs.Owned.{IsOwnIfAny};
+ghost use Rattle.aio_receiver.specs.Bare.{receiver_of};
 ghost use Rattle.aio_receiver.specs.Woken.{seen_woken};
 
 mod reads;
 mod wakes;
 
+use crate::bare::BareReceiver;
 use aio_base::{Blob, Exc, Memory, Outcome, Value};
 use aio_reader::{ReadOp, Reader, Taken};
 use aio_task::{FutureId, Parts};
@@ -52,6 +54,29 @@ impl Receiver {
     {
         Receiver {
             reader: Reader::new(alloc, 65_536),
+            waiter: None,
+        }
+    }
+
+    /// The same in few bytes, where its reader holds nothing and did not fail, and no read waits.
+    pub fn bare(&self) -> Option<BareReceiver>
+        ensures { IfSome result (λ bare. receiver_of bare ≡ self.now) }
+    {
+        if self.is_waiting() {
+            return None;
+        }
+        match self.reader.bare() {
+            Some(reader) => Some(BareReceiver { reader }),
+            None => None,
+        }
+    }
+
+    /// The receiver that was bare; takes no memory.
+    pub fn of_bare(alloc: Global, bare: BareReceiver) -> Receiver
+        ensures { result ≡ receiver_of bare }
+    {
+        Receiver {
+            reader: Reader::of_bare(alloc, bare.reader),
             waiter: None,
         }
     }

@@ -1,3 +1,4 @@
+pub mod Lost
 pub mod Offers
 pub mod Owned
 pub mod SentAs

@@ -1,5 +1,5 @@
 //! A sender.
-ghost use Rattle.std.specs.Prelude.{◌≡◌, ◌≤◌, ◌++◌, [], ◌∷◌, ℕ, None, IfOk, OnOk, OnErr, Some, length};
+ghost use Rattle.std.specs.Prelude.{◌≡◌, ◌≤◌, ◌++◌, [], ◌∷◌, ℕ, None, IfOk, IfSome, OnOk, OnErr, Some, length};
 ghost use Rattle.model_wire.specs.declared.answer.Answer.TheVariants as answer_as;
 ghost use Rattle.model_stream.specs.declared.phase.Phase.TheVariants as phase_as;
 ghost use Rattle.model_stream.specs.Doing.{Ends};
@@ -11,11 +11,13 @@ ghost use Rattle.law_over.specs.Gone.{is_spent};
 ghost use Rattle.law_sender.specs.SoundSenders.{outlet_of};
 ghost use Rattle.aio_change.specs.Owned.{AreOwn, IsOwn, settled_way};
 ghost use Rattle.aio_change.specs.Seen.{seen_changed};
+ghost use Rattle.aio_sender.specs.Lost.{sender_of};
 ghost use Rattle.aio_sender.specs.Owned.{OwnsSender};
 
 mod asking;
 mod requests;
 
+use crate::lost::LostSender;
 use crate::outlet::{loses, sends};
 use crate::sent::{Sent, sent_by};
 use aio_base::{Blob, Exc, Memory, Outcome};
@@ -67,6 +69,41 @@ impl Sender {
             drains: Vec::new(alloc),
             phase: Phase::Open,
             closed,
+        }
+    }
+
+    /// The same in few bytes, where its loss is done and nobody drains.
+    #[tactic(auto, using(std::proofs::lemmas::List::nil_from_length))]
+    pub fn lost(&self) -> Option<LostSender>
+        ensures { IfSome result (λ lost. sender_of lost ≡ self.now) }
+    {
+        let Phase::Lost { broken } = self.phase else {
+            return None;
+        };
+        if self.drains.len() != 0 {
+            return None;
+        }
+        match self.flow.spent() {
+            Some(flow) => Some(LostSender {
+                flow,
+                broken,
+                closed: self.closed,
+            }),
+            None => None,
+        }
+    }
+
+    /// The sender that was lost; takes no memory.
+    pub fn of_lost(alloc: Global, lost: LostSender) -> Sender
+        ensures { result ≡ sender_of lost }
+    {
+        Sender {
+            flow: Flow::of_spent(alloc, lost.flow),
+            drains: Vec::new(alloc),
+            phase: Phase::Lost {
+                broken: lost.broken,
+            },
+            closed: lost.closed,
         }
     }
 

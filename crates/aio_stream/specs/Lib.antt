@@ -1,4 +1,5 @@
 pub mod Code
+pub mod Holdings
 pub mod Kept
 pub mod Owned
 pub mod Standing

@@ -1,6 +1,7 @@
 //! Listeners and connections by number, and the callbacks and requests on them.
 #![tactic(auto)]
 
+mod held;
 mod opened;
 mod server;
 mod streams;

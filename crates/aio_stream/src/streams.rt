@@ -5,16 +5,16 @@ mod opening;
 mod requests;
 mod watching;
 
+use crate::held::HeldConnection;
 use crate::opened::Opened;
 use crate::server::Server;
-use aio_connection::Connection;
 use std::marker::Model;
 
 /// Listeners and connections by number, and what was opened, in order: children too.
 #[derive(Drop)]
 pub struct Streams {
     servers: Vec<Server>,
-    connections: Vec<Connection>,
+    connections: Vec<HeldConnection>,
     opened: Vec<Opened>,
     // how many of each kind can be numbered
     most: u32,

@@ -3,6 +3,7 @@ ghost use Rattle.std.specs.Prelude.{◌≡◌, ◌^◌, ◌<◌, true, IfOk, OnO
 ghost use Rattle.aio_stream.specs.Kept as kept;
 
 use super::Streams;
+use crate::held::HeldConnection;
 use crate::opened::Opened;
 use crate::server::Server;
 use aio_base::Memory;
@@ -45,7 +46,9 @@ impl Streams {
         ensures after { OnOk result (self.new ≡ kept.with_connection connection self.old) }
     {
         let id = self.connections.len() as u32;
-        self.connections.push(connection)?;
+        let alloc = *self.connections.allocator();
+        let held = HeldConnection::new(alloc, connection)?;
+        self.connections.push(held)?;
         self.opened.push(Opened::Conn(id))?;
         Ok(id)
     }

@@ -6,7 +6,7 @@ ghost use Rattle.aio_stream.specs.Kept.{may_connect};
 ghost use Rattle.aio_stream.specs.Watched.{entries};
 
 use super::Streams;
-use aio_connection::Connection;
+use crate::held::HeldConnection;
 use aio_wire::Watch;
 
 impl Streams {
@@ -56,7 +56,7 @@ impl Streams {
 }
 
 // Of a connection that there is.
-fn watched_of_one(id: u32, connection: &Connection) -> Option<Watch>
+fn watched_of_one(id: u32, connection: &HeldConnection) -> Option<Watch>
     ensures { entries result ≡ plain.watched_connection id (Some connection.now) }
 {
     if connection.making().is_some() {

@@ -1,0 +1,7 @@
+use Rattle.aio_stream.proofs.held.HeldConnection.handler_done.Goals as goal
+
+pub returns-clause-tells : goal.returns-clause-tells
+returns-clause-tells c = rw (c.lay.ensures, ← c.in_ok-connection.ensures, ← c.deref_mut.ensures.value) c.handler_done-done.ensures.tells
+
+pub returns-clause-own : goal.returns-clause-own
+returns-clause-own c = rw (c.lay.ensures, ← c.in_ok-connection.ensures, ← c.deref_mut.ensures.value) c.handler_done-done.ensures.own
