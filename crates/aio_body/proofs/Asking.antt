@@ -6,11 +6,12 @@ use Rattle.model_wire.specs.Journal.{Entry}
 use Rattle.model_wire.specs.Trace.{End}
 use Rattle.model_machine.specs.State.{State}
 use Rattle.aio_base.specs.declared.memory.Memory.{Memory}
+use Rattle.aio_wire.specs.Outside.{Outside}
+use Rattle.aio_wire.specs.Port.{Ported}
 use Rattle.aio_wire.specs.declared.stop.Stop.{Stop}
 use Rattle.aio_wire.specs.declared.stop.Stop.TheVariants as stop
 use Rattle.aio_exchange.specs.Among.{AreTold, ExchangedOn}
 use Rattle.aio_exchange.specs.Exchanged.{Exchange, Last, All, Met, Starved, entries_of}
-use Rattle.aio_exchange.specs.Outside.{IsOutside, Outside, Ported}
 use Rattle.aio_exchange.proofs.Among.{on_none, on_starved, on_then, told_none, told_then}
 use Rattle.aio_exchange.proofs.Exchanging.{entries-append}
 use Rattle.aio_extra.specs.Added.{Added}
@@ -28,12 +29,12 @@ pub record HasCome {X W At : Type 0} {a : Added X} (o : Outside W) (from : Setti
   pub exchanged : ExchangedOn o had All old.wire mid.wire
   pub told : (c : Setting a) (at : At) → from (before had c) at → AreTold had All old.events.events mid.events.events × so c at
 
-module _ {X W At : Type 0} {a : Added X} (o : Outside W) (laws : IsOutside o) (from : Setting a → At → Type 0) where
+module _ {X W At : Type 0} {a : Added X} (o : Outside W) (from : Setting a → At → Type 0) where
   -- nothing was asked so far
   pub come_none : (old mid : Ported W) (so : Setting a → At → Type 0) → mid.wire ≡ old.wire
       → ((c : Setting a) (at : At) → from c at → AreTold [] All old.events.events mid.events.events × so c at) → HasCome o from [] old mid so
   come_none old mid so same told = record {
-    exchanged = subst (λ w. ExchangedOn o [] All old.wire w) (sym same) (on_none o laws old.wire);
+    exchanged = subst (λ w. ExchangedOn o [] All old.wire w) (sym same) (on_none o old.wire);
     told = told;
   }
 
@@ -71,7 +72,7 @@ module _ {X W At : Type 0} {a : Added X} (o : Outside W) (laws : IsOutside o) (f
         by All exchanged comes = (
           had ++ second.had,
           record {
-            exchanged = on_then o laws had second.had All old.wire mid.wire new.wire come.exchanged exchanged;
+            exchanged = on_then o had second.had All old.wire mid.wire new.wire come.exchanged exchanged;
             told = λ c at h.
                 let first_ = again second.had first come c at h in
                 let next = on second.had c at first_.1 in
@@ -101,7 +102,7 @@ module _ {X W At : Type 0} {a : Added X} (o : Outside W) (laws : IsOutside o) (f
           by Starved exchanged comes = record {
             had = had ++ second.had;
             last = Starved;
-            exchanged = on_then o laws had second.had Starved old.wire mid.wire new.wire come.exchanged exchanged;
+            exchanged = on_then o had second.had Starved old.wire mid.wire new.wire come.exchanged exchanged;
             comes = (
               comes.0,
               (
@@ -118,7 +119,7 @@ module _ {X W At : Type 0} {a : Added X} (o : Outside W) (laws : IsOutside o) (f
           by (Met call reply) exchanged comes = record {
             had = had ++ second.had;
             last = Met call reply;
-            exchanged = on_then o laws had second.had (Met call reply) old.wire mid.wire new.wire come.exchanged exchanged;
+            exchanged = on_then o had second.had (Met call reply) old.wire mid.wire new.wire come.exchanged exchanged;
             comes = (
               comes.0,
               λ c at h fits.
@@ -137,7 +138,7 @@ module _ {X W At : Type 0} {a : Added X} (o : Outside W) (laws : IsOutside o) (f
           }
 
 -- ---- the whole
-module _ {X W At M R : Type 0} {a : Added X} (o : Outside W) (laws : IsOutside o) (p : Piece a At M R) (had : List Exchange) (old mid : Ported W) where
+module _ {X W At M R : Type 0} {a : Added X} (o : Outside W) (p : Piece a At M R) (had : List Exchange) (old mid : Ported W) where
   -- it ends
   pub comes_ends : (said : R) → HasCome o p.from had old mid (λ c at. p.says c said (p.does at)) → Comes o p old mid (Ok said)
   comes_ends said come = record { had = had; last = All; exchanged = come.exchanged; comes = come.told }
@@ -148,7 +149,7 @@ module _ {X W At M R : Type 0} {a : Added X} (o : Outside W) (laws : IsOutside o
   comes_starved new same come = record {
     had = had;
     last = Starved;
-    exchanged = subst (λ w. ExchangedOn o had Starved old.wire w) (sym same) (on_starved o laws had old.wire mid.wire come.exchanged);
+    exchanged = subst (λ w. ExchangedOn o had Starved old.wire w) (sym same) (on_starved o had old.wire mid.wire come.exchanged);
     comes = (refl, (mid.events.events, come.told));
   }
 
@@ -157,7 +158,7 @@ module _ {X W At M R : Type 0} {a : Added X} (o : Outside W) (laws : IsOutside o
       → HasCome o p.from had old mid (λ c at. (next : At') × (from c next × (p.does at ≡ does next)))
       → Comes o (record { from = from; does = does; ends = p.ends; says = p.says; begins = p.begins }) mid new result → Comes o p old new result
   comes_goes from does new (Err why) come second =
-      comes_stops o laws p.from had old mid (record { from = from; does = does; ends = p.ends; says = p.says; begins = p.begins }) new
+      comes_stops o p.from had old mid (record { from = from; does = does; ends = p.ends; says = p.says; begins = p.begins }) new
       (p.does, (p.ends, (p.says, p.begins))) why
       (record {
         exchanged = come.exchanged;
@@ -169,12 +170,12 @@ module _ {X W At M R : Type 0} {a : Added X} (o : Outside W) (laws : IsOutside o
       })
       second
   comes_goes from does new (Ok said) come second =
-      let all = come_then o laws p.from had old mid (record { from = from; does = does; ends = p.ends; says = p.says; begins = p.begins }) new
+      let all = come_then o p.from had old mid (record { from = from; does = does; ends = p.ends; says = p.says; begins = p.begins }) new
       (λ c at. (next : _) × (from c next × (p.does at ≡ does next))) (λ c at. p.says c said (p.does at)) said come second
       (λ more c at t. (t.0, (t.1.0, λ says. subst (p.says c said) (sym t.1.1) says))) in
       record { had = all.0; last = All; exchanged = all.1.exchanged; comes = all.1.told }
 
-module _ {X W At M R : Type 0} {a : Added X} (o : Outside W) (laws : IsOutside o) (p : Piece a At M R) (old new : Ported W) where
+module _ {X W At M R : Type 0} {a : Added X} (o : Outside W) (p : Piece a At M R) (old new : Ported W) where
   -- where it may begin, the machine's events begin with those that were there
   abbrev BeginsThere : Type 0
   BeginsThere = (c : Setting a) (at : At) → p.from c at → p.begins (c.past ++ old.events.events) (p.does at)
@@ -182,12 +183,12 @@ module _ {X W At M R : Type 0} {a : Added X} (o : Outside W) (laws : IsOutside o
   -- a call that had no memory before it asked
   pub comes_without : BeginsThere → new.wire ≡ old.wire → Comes o p old new (Err stop.Memory)
   comes_without begins same =
-      comes_starved o laws p [] old old new same
-      (come_none o laws p.from old old _ refl (λ c at h. (told_none old.events.events, begins c at h)))
+      comes_starved o p [] old old new same
+      (come_none o p.from old old _ refl (λ c at h. (told_none old.events.events, begins c at h)))
 
   -- a call that asks nothing
   pub comes_alone : BeginsThere → (result : Result R Memory) → new.wire ≡ old.wire
       → IfOk result (λ said. (c : Setting a) (at : At) → p.from c at → AreTold [] All old.events.events new.events.events × p.says c said (p.does at))
       → Comes o p old new (or_stop result)
-  comes_alone begins (Ok said) same told = comes_ends o laws p [] old new said (come_none o laws p.from old new _ same told)
+  comes_alone begins (Ok said) same told = comes_ends o p [] old new said (come_none o p.from old new _ same told)
   comes_alone begins (Err memory) same told = comes_without begins same

@@ -11,13 +11,14 @@ use Rattle.model_machine.specs.Replies.{reply}
 use Rattle.model_machine.specs.State.{State}
 use Rattle.model_machine.specs.Went.{Went, answers_in, state_of}
 use Rattle.aio_wire.specs.EventList.{EventList}
+use Rattle.aio_wire.specs.Outside.{Outside}
+use Rattle.aio_wire.specs.Port.{Ported}
 use Rattle.aio_wire.specs.Told.{refused_of}
 use Rattle.aio_wire.specs.declared.stop.Stop.{Stop}
 use Rattle.aio_wire.specs.declared.stop.Stop.TheVariants as stop
 use Rattle.aio_wire.specs.declared.wire.Reply.TheVariants as reply
 use Rattle.aio_exchange.specs.Among.{AreTold, ExchangedOn}
 use Rattle.aio_exchange.specs.Exchanged.{Exchange, Last, All, Met, Starved, StopsAs, entries_of}
-use Rattle.aio_exchange.specs.Outside.{Outside, Ported}
 use Rattle.aio_base.specs.declared.memory.Memory.{Memory}
 use Rattle.aio_extra.specs.Added.{Added}
 use Rattle.aio_body.specs.declared.body.Body.{Body}

@@ -3,8 +3,8 @@ use Rattle.std.proofs.Common.{◌≡◌, ℕ, ◌+◌, ◌<◌, List, [], ◌∷
 use Rattle.std.proofs.lemmas.List.{take_more}
 use Rattle.model_value.specs.Value.{Outcome}
 use Rattle.model_stream.specs.Doing.{Change, Doing, Settle, settles}
+use Rattle.aio_wire.specs.Outside.{Outside}
 use Rattle.aio_wire.specs.declared.stop.Stop.{Stop}
-use Rattle.aio_exchange.specs.Outside.{IsOutside, Outside}
 use Rattle.law_doing.specs.Follows.{Follows, Reach}
 use Rattle.law_doing.specs.Tells.{Tells}
 use Rattle.law_doing.specs.Ways.{Did, changed_on}
@@ -48,7 +48,7 @@ tells_settles (future ∷ futures) outcome rest old between new result is told =
     tells_changed seen_changed (Settle future outcome) (settles futures outcome rest) old next new result refl
     (tells_settles futures outcome rest next between new result is told)
 
-module _ {W : Type 0} (o : Outside W) (laws : IsOutside o) where
+module _ {W : Type 0} (o : Outside W) where
   pub follows_settles : {A : Type 0} (futures : List ℕ) (outcome : Outcome) (rest : Doing A) (old between new : Reach View W)
       (result : Result A Stop) → between.parts ≡ changed_on seen_changed (settled_way outcome futures) old.parts
       → between.port ≡ old.port → Follows o seen_changed rest between new result
@@ -60,5 +60,5 @@ module _ {W : Type 0} (o : Outside W) (laws : IsOutside o) where
       there x y p q = sym (ap (λ v. record { parts = v; port = y.port }) p ∙ ap (λ w. record { parts = x.parts; port = w }) q)
   follows_settles (future ∷ futures) outcome rest old between new result is same it =
       let next : Reach View W = record old { parts = seen_changed (Settle future outcome) old.parts } in
-      follows_changed o laws seen_changed (Settle future outcome) (settles futures outcome rest) old next new result refl refl
+      follows_changed o seen_changed (Settle future outcome) (settles futures outcome rest) old next new result refl refl
       (follows_settles futures outcome rest next between new result is same it)

@@ -8,8 +8,8 @@ use Rattle.model_value.specs.Value.{Outcome}
 use Rattle.model_stream.specs.Doing.{Change, Doing, MakeFuture, CallSoon, Settle}
 use Rattle.aio_future.specs.Settled.{settled, settled_at, settled_until}
 use Rattle.aio_task.specs.View.{View}
+use Rattle.aio_wire.specs.Outside.{Outside}
 use Rattle.aio_exchange.specs.Exchanged.{Last, All, Met, Starved}
-use Rattle.aio_exchange.specs.Outside.{Outside}
 use Rattle.law_doing.specs.Follows.{EndsBy, Follows, Reach, UnlessStarved}
 use Rattle.law_doing.specs.Tells.{Tells}
 use Rattle.law_doing.specs.Ways.{Move, Did, Heard, changed_on}

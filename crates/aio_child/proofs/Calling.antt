@@ -14,8 +14,8 @@ use Rattle.model_stream.specs.Children.{wait_child, kill}
 use Rattle.model_stream.specs.Doing.{Doing, Ends, Changes, Asks, MakeFuture, and_then, asks, asked_on, on, settles}
 use Rattle.model_stream.specs.Receivers.{Receiver, takes_more}
 use Rattle.model_stream.specs.Senders.{has_unsent, is_closing, is_flushed, schedule_loss, send_more, write}
+use Rattle.aio_wire.specs.Outside.{Outside}
 use Rattle.aio_wire.specs.declared.stop.Stop.{Stop}
-use Rattle.aio_exchange.specs.Outside.{IsOutside, Outside}
 use Rattle.law_doing.specs.Follows.{Follows, Reach}
 use Rattle.law_doing.specs.Tells.{Tells}
 use Rattle.law_doing.specs.Ways.{changed_on}
@@ -101,58 +101,58 @@ module _ (p : Child) where
         (ap (λ a. (a, wait_as.Waits on)) is ∙ ap (λ n. (record p { waits = p.waits ++ n ∷ [] }, wait_as.Waits n)) same)))
 
 -- ---- what asks
-module _ {W : Type 0} (o : Outside W) (laws : IsOutside o) (id : ℕ) (p : Child) where
+module _ {W : Type 0} (o : Outside W) (id : ℕ) (p : Child) where
   -- ---- `writable`
   abbrev feeds_more : Doing Child
   feeds_more = on its_stdin (send_more (inlet id)) p
 
   pub nothing_unsent : (at : Reach View W) → has_unsent p.stdin ≡ false → Follows o seen_changed (feed_more id p) at at (Ok p)
   nothing_unsent at e =
-      follows_unless o laws seen_changed (has_unsent p.stdin) (and_then feeds_more (fed id)) (Ends p) at at (Ok p) e
-      (follows_ends o laws seen_changed p at)
+      follows_unless o seen_changed (has_unsent p.stdin) (and_then feeds_more (fed id)) (Ends p) at at (Ok p) e
+      (follows_ends o seen_changed p at)
 
   pub feeds_then : (between : Child) (old mid new : Reach View W) (result : Result Child Stop) → has_unsent p.stdin ≡ true
       → Follows o seen_changed feeds_more old mid (Ok between) → Follows o seen_changed (fed id between) mid new result
       → Follows o seen_changed (feed_more id p) old new result
   feeds_then between old mid new result e f h =
-      follows_where o laws seen_changed (has_unsent p.stdin) (and_then feeds_more (fed id)) (Ends p) old new result e
-      (follows_then o laws seen_changed feeds_more (fed id) between old mid new result f h)
+      follows_where o seen_changed (has_unsent p.stdin) (and_then feeds_more (fed id)) (Ends p) old new result e
+      (follows_then o seen_changed feeds_more (fed id) between old mid new result f h)
 
   pub feeds_stopped : (why : Stop) (old new : Reach View W) → has_unsent p.stdin ≡ true → Follows o seen_changed feeds_more old new (Err why)
       → Follows o seen_changed (feed_more id p) old new (Err why)
   feeds_stopped why old new e f =
-      follows_where o laws seen_changed (has_unsent p.stdin) (and_then feeds_more (fed id)) (Ends p) old new (Err why) e
-      (follows_stopped o laws seen_changed feeds_more (fed id) why old new f)
+      follows_where o seen_changed (has_unsent p.stdin) (and_then feeds_more (fed id)) (Ends p) old new (Err why) e
+      (follows_stopped o seen_changed feeds_more (fed id) why old new f)
 
   pub fed_on : (at : Reach View W) → (is_flushed p.stdin && is_closing p.stdin) ≡ false → Follows o seen_changed (fed id p) at at (Ok p)
   fed_on at e =
-      follows_unless o laws seen_changed (is_flushed p.stdin && is_closing p.stdin) (lose_child id false p) (Ends p) at at (Ok p) e
-      (follows_ends o laws seen_changed p at)
+      follows_unless o seen_changed (is_flushed p.stdin && is_closing p.stdin) (lose_child id false p) (Ends p) at at (Ok p) e
+      (follows_ends o seen_changed p at)
 
   pub fed_loses : (old new : Reach View W) (result : Result Child Stop) → (is_flushed p.stdin && is_closing p.stdin) ≡ true
       → Follows o seen_changed (lose_child id false p) old new result → Follows o seen_changed (fed id p) old new result
   fed_loses old new result e f =
-      follows_where o laws seen_changed (is_flushed p.stdin && is_closing p.stdin) (lose_child id false p) (Ends p) old new result e f
+      follows_where o seen_changed (is_flushed p.stdin && is_closing p.stdin) (lose_child id false p) (Ends p) old new result e f
 
   -- ---- a write
   pub dropped : (piece : List ℕ) (at : Reach View W) → is_closing p.stdin ≡ true
       → Follows {A = Child × Wrote} o seen_changed (write_child id piece p) at at (Ok (p, wrote.Done))
   dropped piece at e =
-      follows_where o laws seen_changed (is_closing p.stdin) (Ends (p, wrote.Done)) (asked_on its_stdin (write (inlet id) piece) p) at at
-      (Ok (p, wrote.Done)) e (follows_ends o laws seen_changed {A = Child × Wrote} (p, wrote.Done) at)
+      follows_where o seen_changed (is_closing p.stdin) (Ends (p, wrote.Done)) (asked_on its_stdin (write (inlet id) piece) p) at at
+      (Ok (p, wrote.Done)) e (follows_ends o seen_changed {A = Child × Wrote} (p, wrote.Done) at)
 
   pub writes : (piece : List ℕ) (old new : Reach View W) (result : Result (Child × Wrote) Stop) → is_closing p.stdin ≡ false
       → Follows {A = Child × Wrote} o seen_changed (asked_on its_stdin (write (inlet id) piece) p) old new result
       → Follows {A = Child × Wrote} o seen_changed (write_child id piece p) old new result
   writes piece old new result e f =
-      follows_unless o laws seen_changed (is_closing p.stdin) (Ends (p, wrote.Done)) (asked_on its_stdin (write (inlet id) piece) p) old new result e f
+      follows_unless o seen_changed (is_closing p.stdin) (Ends (p, wrote.Done)) (asked_on its_stdin (write (inlet id) piece) p) old new result e f
 
   -- ---- `kill`
   pub kills_none : (at : Reach View W) → is_none p.code ≡ false → Follows o seen_changed (kill id p) at at (Ok p)
   kills_none at e =
-      follows_unless o laws seen_changed (is_none p.code) (asks (call.Kill id) (Ends p)) (Ends p) at at (Ok p) e (follows_ends o laws seen_changed p at)
+      follows_unless o seen_changed (is_none p.code) (asks (call.Kill id) (Ends p)) (Ends p) at at (Ok p) e (follows_ends o seen_changed p at)
 
   pub kills : (old new : Reach View W) (result : Result Child Stop) → is_none p.code ≡ true
       → Follows o seen_changed (Asks (call.Kill id) (λ came. Ends p)) old new result → Follows o seen_changed (kill id p) old new result
   kills old new result e f =
-      follows_where o laws seen_changed (is_none p.code) (asks (call.Kill id) (Ends p)) (Ends p) old new result e f
+      follows_where o seen_changed (is_none p.code) (asks (call.Kill id) (Ends p)) (Ends p) old new result e f

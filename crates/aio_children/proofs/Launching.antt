@@ -8,10 +8,10 @@ use Rattle.model_stream.specs.Answers.{is_child}
 use Rattle.model_stream.specs.Children.{Child, new_child}
 use Rattle.model_stream.specs.Doing.{Doing, Ends, Changes, MakeFuture}
 use Rattle.model_stream.specs.Streams.{OpenedChild, Streams, add_child, launch, launched}
+use Rattle.aio_wire.specs.Outside.{Outside}
 use Rattle.aio_wire.specs.declared.stop.Stop.{Stop}
 use Rattle.aio_wire.specs.declared.stop.Stop.TheVariants as stop
 use Rattle.aio_exchange.specs.Exchanged.{AsksOne}
-use Rattle.aio_exchange.specs.Outside.{IsOutside, Outside}
 use Rattle.law_doing.specs.Follows.{Follows, Reach}
 use Rattle.law_doing.proofs.Following.{follows_ends}
 use Rattle.law_doing.proofs.Telling.{tells_changed, tells_end, tells_where}
@@ -26,18 +26,18 @@ use Rattle.aio_children.specs.Owned.{OwnsChildren}
 use Rattle.aio_children.specs.Standing.{Launches}
 use Rattle.aio_children.proofs.Placing.{kept_children}
 
-module _ {W : Type 0} (o : Outside W) (laws : IsOutside o) (words : List (List ℕ)) (next : ℕ) (k : Kept) where
+module _ {W : Type 0} (o : Outside W) (words : List (List ℕ)) (next : ℕ) (k : Kept) where
   -- no answer came that fits
   pub launch_met : (after : Kept) (why : Stop) (old new : Reach View W) → AsksOne o (call.Launch words) old.port new.port (Err why)
       → new.parts ≡ old.parts → Launches o (launch words next) k after old new (Err why)
   launch_met after why old new one parts s h =
-      (s, (asks_met o laws (call.Launch words) (call.Launch words) (launched next s) refl why old new one parts, tt))
+      (s, (asks_met o (call.Launch words) (call.Launch words) (launched next s) refl why old new one parts, tt))
 
   -- one came, and then memory was refused
   pub launch_starved : (after : Kept) (came : Answer) (old mid new : Reach View W) → AsksOne o (call.Launch words) old.port mid.port (Ok came)
       → mid.parts ≡ old.parts → new.port ≡ mid.port → Launches o (launch words next) k after old new (Err stop.Memory)
   launch_starved after came old mid new one parts port s h =
-      (s, (asks_starved o laws (call.Launch words) (call.Launch words) (launched next s) refl came old mid new one parts port, tt))
+      (s, (asks_starved o (call.Launch words) (call.Launch words) (launched next s) refl came old mid new one parts port, tt))
 
   -- the outside refused
   pub launch_refused : (came : Answer) (old new : Reach View W) → AsksOne o (call.Launch words) old.port new.port (Ok came)
@@ -45,10 +45,10 @@ module _ {W : Type 0} (o : Outside W) (laws : IsOutside o) (words : List (List �
   launch_refused came old new one parts refused s h = (
     s,
     (
-      asks_on o laws (call.Launch words) (call.Launch words) (launched next s) refl came old new new (Ok (s, None)) one parts
+      asks_on o (call.Launch words) (call.Launch words) (launched next s) refl came old new new (Ok (s, None)) one parts
           (subst (λ (d : Doing (Streams × Option ℕ)). Follows o seen_changed d new new (Ok (s, None)))
           (ap (λ b. if b then Changes MakeFuture (Ends (add_child (new_child next) s, Some (length s.children))) else Ends (s, None)) (sym refused))
-          (follows_ends o laws seen_changed {A = Streams × Option ℕ} (s, None) new)),
+          (follows_ends o seen_changed {A = Streams × Option ℕ} (s, None) new)),
       (h, record { servers = refl; connections = refl; opened = refl }),
     ),
   )
@@ -65,7 +65,7 @@ module _ {W : Type 0} (o : Outside W) (laws : IsOutside o) (words : List (List �
       let same : id ≡ length s.children = number ∙ ap length (sym h.children) in (
         it,
         (
-          asks_told o laws (call.Launch words) (call.Launch words) (launched next s) refl came old mid new (it, Some id) one parts port
+          asks_told o (call.Launch words) (call.Launch words) (launched next s) refl came old mid new (it, Some id) one parts port
               (tells_where seen_changed (is_child came) (Changes MakeFuture (Ends (it, Some (length s.children)))) (Ends (s, None)) mid.parts new.parts
               (it, Some id) started
               (tells_changed seen_changed MakeFuture (Ends (it, Some (length s.children))) mid.parts new.parts new.parts (it, Some id) made

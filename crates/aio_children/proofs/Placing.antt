@@ -15,8 +15,8 @@ use Rattle.model_stream.specs.Receivers.{give_up_read}
 use Rattle.model_stream.specs.Requests as requests
 use Rattle.model_stream.specs.Requests.{OfChild, asked_one, noted, write, write_unnoted, written_by}
 use Rattle.model_stream.specs.Streams.{Streams, its_children, on_one}
+use Rattle.aio_wire.specs.Outside.{Outside}
 use Rattle.aio_wire.specs.declared.stop.Stop.{Stop}
-use Rattle.aio_exchange.specs.Outside.{IsOutside, Outside}
 use Rattle.law_doing.specs.Follows.{Follows, Reach, after_of, with_after}
 use Rattle.law_doing.specs.Tells.{Tells}
 use Rattle.law_doing.proofs.Following.{follows_ends, follows_stopped, follows_then}
@@ -83,7 +83,7 @@ module _ (k : Kept) (id : ℕ) (p after : Child) (at : slice_get k.children id �
     | Some one ↦ and_then (change one) (λ it. Ends (record s { children = slice_set s.children id it }))
   ]
 
-  module _ {R W : Type 0} (o : Outside W) (laws : IsOutside o) (change : Child → Doing Child) (old new : Reach View W)
+  module _ {R W : Type 0} (o : Outside W) (change : Child → Doing Child) (old new : Reach View W)
       (result : Result R Stop) (f : Follows o seen_changed (change p) old new (after_of after result)) where
     pub comes_placed : Comes o (on_one its_children id change) k placed old new result
     comes_placed s h = (
@@ -97,10 +97,10 @@ module _ (k : Kept) (id : ℕ) (p after : Child) (at : slice_get k.children id �
         goes : (r : Result R Stop) → Follows o seen_changed (change p) old new (after_of after r)
             → Follows o seen_changed (on_by change s (Some p)) old new (after_of (put_in s) r)
         goes (Ok done) f =
-            follows_then o laws seen_changed (change p) (λ it. Ends (record s { children = slice_set s.children id it })) after old new new
-            (Ok (put_in s)) f (follows_ends o laws seen_changed (put_in s) new)
+            follows_then o seen_changed (change p) (λ it. Ends (record s { children = slice_set s.children id it })) after old new new
+            (Ok (put_in s)) f (follows_ends o seen_changed (put_in s) new)
         goes (Err why) f =
-            follows_stopped o laws seen_changed (change p) (λ it. Ends (record s { children = slice_set s.children id it })) why old new f
+            follows_stopped o seen_changed (change p) (λ it. Ends (record s { children = slice_set s.children id it })) why old new f
 
         ok : (r : Result R Stop) → OnOk r (StandsAfter placed s.opened s (put_in s))
         ok (Ok said) = stands_placed s h
@@ -115,7 +115,7 @@ module _ (k : Kept) (id : ℕ) (p after : Child) (at : slice_get k.children id �
         by (Err why) f one = tt
 
   -- a piece is written to it, which is noted in the streams alone
-  module _ {W : Type 0} (o : Outside W) (laws : IsOutside o) (piece : List ℕ) (old new : Reach View W) (result : Result Wrote Stop)
+  module _ {W : Type 0} (o : Outside W) (piece : List ℕ) (old new : Reach View W) (result : Result Wrote Stop)
       (f : Follows o seen_changed (write_child id piece p) old new (with_after after result)) where
     abbrev unnoted_by : Streams → Option Child → Doing (Streams × Wrote)
     unnoted_by s it = elim it [
@@ -130,10 +130,10 @@ module _ (k : Kept) (id : ℕ) (p after : Child) (at : slice_get k.children id �
         goes : (r : Result Wrote Stop) → Follows o seen_changed (write_child id piece p) old new (with_after after r)
             → Follows o seen_changed (unnoted_by s (Some p)) old new (with_after (put_in s) r)
         goes (Ok done) f =
-            follows_then o laws seen_changed (write_child id piece p) (λ it. Ends (record s { children = slice_set s.children id it.0 }, it.1))
-            (after, done) old new new (Ok (put_in s, done)) f (follows_ends o laws seen_changed (put_in s, done) new)
+            follows_then o seen_changed (write_child id piece p) (λ it. Ends (record s { children = slice_set s.children id it.0 }, it.1))
+            (after, done) old new new (Ok (put_in s, done)) f (follows_ends o seen_changed (put_in s, done) new)
         goes (Err why) f =
-            follows_stopped o laws seen_changed (write_child id piece p) (λ it. Ends (record s { children = slice_set s.children id it.0 }, it.1)) why
+            follows_stopped o seen_changed (write_child id piece p) (λ it. Ends (record s { children = slice_set s.children id it.0 }, it.1)) why
             old new f
 
     noted_so : (s : Streams) → StandsFor k s → (noting : List ℕ)
@@ -258,12 +258,12 @@ module _ (k : Kept) (id : ℕ) (p after : Child) (at : slice_get k.children id �
 
 -- a call that leaves the child as it is
 module _ (k : Kept) (id : ℕ) (p : Child) (at : slice_get k.children id ≡ Some p) where
-  pub comes_beside : {R W : Type 0} (o : Outside W) (laws : IsOutside o) (change : Child → Doing Child) (old new : Reach View W) (result : Result R Stop)
+  pub comes_beside : {R W : Type 0} (o : Outside W) (change : Child → Doing Child) (old new : Reach View W) (result : Result R Stop)
       → Follows o seen_changed (change p) old new (after_of p result) → Comes o (on_one its_children id change) k k old new result
-  comes_beside o laws change old new result f =
+  comes_beside o change old new result f =
       subst (λ (n : Kept). Comes o (on_one its_children id change) k n old new result)
       (ap (λ (ps : List Child). record k { children = ps }) (same_place k.children id p at))
-      (comes_placed k id p p at o laws change old new result f)
+      (comes_placed k id p p at o change old new result f)
 
 -- ---- on one that there isn't
 module _ (k : Kept) (id : ℕ) (past : slice_get k.children id ≡ None) where
@@ -273,30 +273,30 @@ module _ (k : Kept) (id : ℕ) (past : slice_get k.children id ≡ None) where
   stands_still : (s : Streams) → StandsFor k s → StandsAfter k s.opened s s
   stands_still s h = (h, record { servers = refl; connections = refl; opened = refl })
 
-  pub comes_absent : {R W : Type 0} (o : Outside W) (laws : IsOutside o) (change : Child → Doing Child) (at : Reach View W) (result : R)
+  pub comes_absent : {R W : Type 0} (o : Outside W) (change : Child → Doing Child) (at : Reach View W) (result : R)
       → Comes o (on_one its_children id change) k k at at (Ok result)
-  comes_absent o laws change at result s h = (
+  comes_absent o change at result s h = (
     s,
     (
       subst (λ (it : Option Child). Follows o seen_changed
           (elim it [
             | None ↦ Ends s
             | Some one ↦ and_then (change one) (λ it. Ends (record s { children = slice_set s.children id it }))
-          ]) at at (Ok s)) (none_there s h) (follows_ends o laws seen_changed s at),
+          ]) at at (Ok s)) (none_there s h) (follows_ends o seen_changed s at),
       stands_still s h,
     ),
   )
 
-  pub writes_absent : {W : Type 0} (o : Outside W) (laws : IsOutside o) (piece : List ℕ) (at : Reach View W)
+  pub writes_absent : {W : Type 0} (o : Outside W) (piece : List ℕ) (at : Reach View W)
       → Answers o (write (to.Child id) piece) k k at at (Ok wrote.Done)
-  writes_absent o laws piece at s h = (
+  writes_absent o piece at s h = (
     s,
     (
       subst (λ (it : Option Child). Follows {A = Streams × Wrote} o seen_changed
           (elim (option_map (λ (p : Child). p.stdin) it) [
             | None ↦ Ends (s, wrote.Done)
             | Some sender ↦ write_unnoted (to.Child id) piece (noted (to.Child id) (written_by (to.Child id) piece sender) s)
-          ]) at at (Ok (s, wrote.Done))) (none_there s h) (follows_ends o laws seen_changed {A = Streams × Wrote} (s, wrote.Done) at),
+          ]) at at (Ok (s, wrote.Done))) (none_there s h) (follows_ends o seen_changed {A = Streams × Wrote} (s, wrote.Done) at),
       stands_still s h,
     ),
   )

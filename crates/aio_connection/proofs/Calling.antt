@@ -14,9 +14,9 @@ use Rattle.model_stream.specs.Doing.{Doing, Ends, Changes, Asks, CallSoon, Settl
 use Rattle.model_stream.specs.Receivers.{receive_loss}
 use Rattle.model_stream.specs.Senders.{Drain, drain_sender, has_unsent, is_closing, is_flushed, loss_of, lose_sender, send_more, with_writer}
 use Rattle.model_stream.specs.Sending.{set_eof}
+use Rattle.aio_wire.specs.Outside.{Outside}
 use Rattle.aio_wire.specs.declared.stop.Stop.{Stop}
 use Rattle.aio_exchange.specs.Exchanged.{AsksOne}
-use Rattle.aio_exchange.specs.Outside.{IsOutside, Outside}
 use Rattle.law_doing.specs.Follows.{Follows, Reach}
 use Rattle.law_doing.specs.Tells.{Tells}
 use Rattle.law_doing.proofs.Following.{follows_changed, follows_end, follows_ends, follows_stopped, follows_then, follows_unless, follows_where}
@@ -95,15 +95,15 @@ module _ (yielded : Bool) (next : ℕ) (c : Connection) where
       (tells_end seen_changed (c, drain_as.Raises fault) result at same))
 
 -- ---- what asks
-module _ {W : Type 0} (o : Outside W) (laws : IsOutside o) (id : ℕ) (c : Connection) where
+module _ {W : Type 0} (o : Outside W) (id : ℕ) (c : Connection) where
   -- ---- `readable`
   pub reads_no_more : (at : Reach View W) → reads c ≡ false → Follows o seen_changed (readable id c) at at (Ok c)
   reads_no_more at off =
-      follows_unless o laws seen_changed (reads c) (Asks (call.Recv id) (received id c)) (Ends c) at at (Ok c) off (follows_ends o laws seen_changed c at)
+      follows_unless o seen_changed (reads c) (Asks (call.Recv id) (received id c)) (Ends c) at at (Ok c) off (follows_ends o seen_changed c at)
 
   pub reads_so : (old new : Reach View W) (result : Result Connection Stop) → reads c ≡ true
       → Follows o seen_changed (Asks (call.Recv id) (received id c)) old new result → Follows o seen_changed (readable id c) old new result
-  reads_so old new result on f = follows_where o laws seen_changed (reads c) (Asks (call.Recv id) (received id c)) (Ends c) old new result on f
+  reads_so old new result on f = follows_where o seen_changed (reads c) (Asks (call.Recv id) (received id c)) (Ends c) old new result on f
 
   -- ---- `lost`
   pub loses : (broken : Bool) (loss : Option Exc) (between : Connection) (old mid new : Reach View W) (result : Result Connection Stop)
@@ -111,9 +111,9 @@ module _ {W : Type 0} (o : Outside W) (laws : IsOutside o) (id : ℕ) (c : Conne
       → Follows o seen_changed (on its_sender (lose_sender (outlet id) broken) between) mid new result
       → Follows o seen_changed (lose id broken c) old new result
   loses broken loss between old mid new result is told port f =
-      follows_then o laws seen_changed (on its_receiver (receive_loss (loss_of (outlet id) broken)) c) (on its_sender (lose_sender (outlet id) broken))
+      follows_then o seen_changed (on its_receiver (receive_loss (loss_of (outlet id) broken)) c) (on its_sender (lose_sender (outlet id) broken))
       between old mid new result
-      (tells_follow seen_changed o laws (on its_receiver (receive_loss (loss_of (outlet id) broken)) c) old mid between
+      (tells_follow seen_changed o (on its_receiver (receive_loss (loss_of (outlet id) broken)) c) old mid between
       (subst (λ it. Tells seen_changed (on its_receiver (receive_loss it) c) old.parts mid.parts between) is told) port) f
 
   -- ---- what follows where all was sent
@@ -124,33 +124,33 @@ module _ {W : Type 0} (o : Outside W) (laws : IsOutside o) (id : ℕ) (c : Conne
   flushes = if is_closing c.sender then lose id false c else passes_on
 
   pub not_flushed : (at : Reach View W) → is_flushed c.sender ≡ false → Follows o seen_changed (flushed id c) at at (Ok c)
-  not_flushed at e = follows_where o laws seen_changed (not (is_flushed c.sender)) (Ends c) flushes at at
-      (Ok c) (ap not e) (follows_ends o laws seen_changed c at)
+  not_flushed at e = follows_where o seen_changed (not (is_flushed c.sender)) (Ends c) flushes at at
+      (Ok c) (ap not e) (follows_ends o seen_changed c at)
 
   is_flushed_so : (old new : Reach View W) (result : Result Connection Stop) → is_flushed c.sender ≡ true
       → Follows o seen_changed flushes old new result → Follows o seen_changed (flushed id c) old new result
-  is_flushed_so old new result e f = follows_unless o laws seen_changed (not (is_flushed c.sender)) (Ends c) flushes old new result (ap not e) f
+  is_flushed_so old new result e f = follows_unless o seen_changed (not (is_flushed c.sender)) (Ends c) flushes old new result (ap not e) f
 
   pub flushed_loses : (old new : Reach View W) (result : Result Connection Stop) → is_flushed c.sender ≡ true → is_closing c.sender ≡ true
       → Follows o seen_changed (lose id false c) old new result → Follows o seen_changed (flushed id c) old new result
   flushed_loses old new result e closing f =
-      is_flushed_so old new result e (follows_where o laws seen_changed (is_closing c.sender) (lose id false c) passes_on old new result closing f)
+      is_flushed_so old new result e (follows_where o seen_changed (is_closing c.sender) (lose id false c) passes_on old new result closing f)
 
   pub flushed_on : (at : Reach View W) → is_flushed c.sender ≡ true → is_closing c.sender ≡ false → c.sender.writer.eof ≡ false
       → Follows o seen_changed (flushed id c) at at (Ok c)
   flushed_on at e going none =
       is_flushed_so at at (Ok c) e
-      (follows_unless o laws seen_changed (is_closing c.sender) (lose id false c) passes_on at at (Ok c) going
-      (follows_unless o laws seen_changed c.sender.writer.eof (asks (call.Shut id) (Ends c)) (Ends c) at at
-      (Ok c) none (follows_ends o laws seen_changed c at)))
+      (follows_unless o seen_changed (is_closing c.sender) (lose id false c) passes_on at at (Ok c) going
+      (follows_unless o seen_changed c.sender.writer.eof (asks (call.Shut id) (Ends c)) (Ends c) at at
+      (Ok c) none (follows_ends o seen_changed c at)))
 
   pub flushed_shuts : (old new : Reach View W) (result : Result Connection Stop) → is_flushed c.sender ≡ true → is_closing c.sender ≡ false
       → c.sender.writer.eof ≡ true → Follows o seen_changed (Asks (call.Shut id) (λ came. Ends c)) old new result
       → Follows o seen_changed (flushed id c) old new result
   flushed_shuts old new result e going ended f =
       is_flushed_so old new result e
-      (follows_unless o laws seen_changed (is_closing c.sender) (lose id false c) passes_on old new result going
-      (follows_where o laws seen_changed c.sender.writer.eof (asks (call.Shut id) (Ends c)) (Ends c) old new result ended f))
+      (follows_unless o seen_changed (is_closing c.sender) (lose id false c) passes_on old new result going
+      (follows_where o seen_changed c.sender.writer.eof (asks (call.Shut id) (Ends c)) (Ends c) old new result ended f))
 
   -- ---- `writable`
   abbrev sends_more : Doing Connection
@@ -158,21 +158,21 @@ module _ {W : Type 0} (o : Outside W) (laws : IsOutside o) (id : ℕ) (c : Conne
 
   pub nothing_unsent : (at : Reach View W) → has_unsent c.sender ≡ false → Follows o seen_changed (writable id c) at at (Ok c)
   nothing_unsent at e =
-      follows_unless o laws seen_changed (has_unsent c.sender) (and_then sends_more (flushed id))
-      (Ends c) at at (Ok c) e (follows_ends o laws seen_changed c at)
+      follows_unless o seen_changed (has_unsent c.sender) (and_then sends_more (flushed id))
+      (Ends c) at at (Ok c) e (follows_ends o seen_changed c at)
 
   pub sends_then : (between : Connection) (old mid new : Reach View W) (result : Result Connection Stop) → has_unsent c.sender ≡ true
       → Follows o seen_changed sends_more old mid (Ok between) → Follows o seen_changed (flushed id between) mid new result
       → Follows o seen_changed (writable id c) old new result
   sends_then between old mid new result e f h =
-      follows_where o laws seen_changed (has_unsent c.sender) (and_then sends_more (flushed id)) (Ends c) old new result e
-      (follows_then o laws seen_changed sends_more (flushed id) between old mid new result f h)
+      follows_where o seen_changed (has_unsent c.sender) (and_then sends_more (flushed id)) (Ends c) old new result e
+      (follows_then o seen_changed sends_more (flushed id) between old mid new result f h)
 
   pub sends_stopped : (why : Stop) (old new : Reach View W) → has_unsent c.sender ≡ true → Follows o seen_changed sends_more old new (Err why)
       → Follows o seen_changed (writable id c) old new (Err why)
   sends_stopped why old new e f =
-      follows_where o laws seen_changed (has_unsent c.sender) (and_then sends_more (flushed id)) (Ends c) old new (Err why) e
-      (follows_stopped o laws seen_changed sends_more (flushed id) why old new f)
+      follows_where o seen_changed (has_unsent c.sender) (and_then sends_more (flushed id)) (Ends c) old new (Err why) e
+      (follows_stopped o seen_changed sends_more (flushed id) why old new f)
 
   -- ---- `down`
   abbrev downs_by : Option ℕ → Doing Connection
@@ -182,7 +182,7 @@ module _ {W : Type 0} (o : Outside W) (laws : IsOutside o) (id : ℕ) (c : Conne
   ]
 
   pub down_before : (at : Reach View W) → None ≡ c.making → Follows o seen_changed (down id c) at at (Ok c)
-  down_before at is = subst (λ making. Follows o seen_changed (downs_by making) at at (Ok c)) is (follows_ends o laws seen_changed c at)
+  down_before at is = subst (λ making. Follows o seen_changed (downs_by making) at at (Ok c)) is (follows_ends o seen_changed c at)
 
   pub down_now : (on : ℕ) (old mid new : Reach View W) (result : Result Connection Stop) → Some on ≡ c.making
       → mid.parts ≡ seen_changed (Settle on (Failed connect_refused)) old.parts → mid.port ≡ old.port
@@ -190,19 +190,19 @@ module _ {W : Type 0} (o : Outside W) (laws : IsOutside o) (id : ℕ) (c : Conne
       → Follows o seen_changed (down id c) old new result
   down_now on old mid new result is parts port f =
       subst (λ making. Follows o seen_changed (downs_by making) old new result) is
-      (follows_changed o laws seen_changed (Settle on (Failed connect_refused)) (asks (call.Close id) (Ends (unmade c))) old mid new result parts port f)
+      (follows_changed o seen_changed (Settle on (Failed connect_refused)) (asks (call.Close id) (Ends (unmade c))) old mid new result parts port f)
 
   -- ---- a connect that is dropped
   pub drops : (old new : Reach View W) (result : Result Connection Stop) → is_some c.making ≡ true
       → Follows o seen_changed (Asks (call.Close id) (λ came. Ends (unmade c))) old new result
       → Follows o seen_changed (drop_connect id c) old new result
   drops old new result some f =
-      follows_where o laws seen_changed (is_some c.making) (asks (call.Close id) (Ends (unmade c))) (close id c) old new result some f
+      follows_where o seen_changed (is_some c.making) (asks (call.Close id) (Ends (unmade c))) (close id c) old new result some f
 
   pub drop_closes : (old new : Reach View W) (result : Result Connection Stop) → is_some c.making ≡ false
       → Follows o seen_changed (close id c) old new result → Follows o seen_changed (drop_connect id c) old new result
   drop_closes old new result none f =
-      follows_unless o laws seen_changed (is_some c.making) (asks (call.Close id) (Ends (unmade c))) (close id c) old new result none f
+      follows_unless o seen_changed (is_some c.making) (asks (call.Close id) (Ends (unmade c))) (close id c) old new result none f
 
   -- ---- `write_eof`
   abbrev pub with_eof : Connection
@@ -213,18 +213,18 @@ module _ {W : Type 0} (o : Outside W) (laws : IsOutside o) (id : ℕ) (c : Conne
 
   pub end_before : (at : Reach View W) → (is_closing c.sender || c.sender.writer.eof) ≡ true → Follows o seen_changed (write_eof id c) at at (Ok c)
   end_before at e =
-      follows_where o laws seen_changed (is_closing c.sender || c.sender.writer.eof) (Ends c) writes_end at at (Ok c) e (follows_ends o laws seen_changed c at)
+      follows_where o seen_changed (is_closing c.sender || c.sender.writer.eof) (Ends c) writes_end at at (Ok c) e (follows_ends o seen_changed c at)
 
   pub end_later : (after : Connection) (at : Reach View W) → (is_closing c.sender || c.sender.writer.eof) ≡ false → has_unsent c.sender ≡ true
       → after ≡ with_eof → Follows o seen_changed (write_eof id c) at at (Ok after)
   end_later after at e unsent is =
-      follows_unless o laws seen_changed (is_closing c.sender || c.sender.writer.eof) (Ends c) writes_end at at (Ok after) e
-      (follows_where o laws seen_changed (has_unsent c.sender) (Ends with_eof) (asks (call.Shut id) (Ends with_eof)) at at (Ok after) unsent
-      (follows_end o laws seen_changed with_eof after at is))
+      follows_unless o seen_changed (is_closing c.sender || c.sender.writer.eof) (Ends c) writes_end at at (Ok after) e
+      (follows_where o seen_changed (has_unsent c.sender) (Ends with_eof) (asks (call.Shut id) (Ends with_eof)) at at (Ok after) unsent
+      (follows_end o seen_changed with_eof after at is))
 
   pub end_now : (old new : Reach View W) (result : Result Connection Stop) → (is_closing c.sender || c.sender.writer.eof) ≡ false
       → has_unsent c.sender ≡ false → Follows o seen_changed (Asks (call.Shut id) (λ came. Ends with_eof)) old new result
       → Follows o seen_changed (write_eof id c) old new result
   end_now old new result e none f =
-      follows_unless o laws seen_changed (is_closing c.sender || c.sender.writer.eof) (Ends c) writes_end old new result e
-      (follows_unless o laws seen_changed (has_unsent c.sender) (Ends with_eof) (asks (call.Shut id) (Ends with_eof)) old new result none f)
+      follows_unless o seen_changed (is_closing c.sender || c.sender.writer.eof) (Ends c) writes_end old new result e
+      (follows_unless o seen_changed (has_unsent c.sender) (Ends with_eof) (asks (call.Shut id) (Ends with_eof)) old new result none f)

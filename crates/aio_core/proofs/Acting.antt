@@ -36,6 +36,8 @@ use Rattle.aio_future.specs.Settled.{called}
 use Rattle.aio_task.specs.View.{View, stepped}
 use Rattle.aio_wire.specs.EventList.{EventList}
 use Rattle.aio_wire.specs.Events.{pushed}
+use Rattle.aio_wire.specs.Outside.{Outside}
+use Rattle.aio_wire.specs.Port.{ported}
 use Rattle.aio_extra.specs.Added.{Added, named_in}
 use Rattle.model_loop.specs.Deadlines.{fires}
 use Rattle.model_machine.specs.Told.{told_by, told_in}
@@ -69,7 +71,6 @@ use Rattle.aio_wire.specs.declared.stop.Stop.TheVariants as stop
 use Rattle.aio_exchange.proofs.Among.{told_beside, told_none}
 use Rattle.aio_exchange.specs.Among.{AreTold}
 use Rattle.aio_exchange.specs.Exchanged.{Last, All, Met, Starved}
-use Rattle.aio_exchange.specs.Outside.{IsOutside, Outside, ported}
 use Rattle.aio_body.proofs.Asking.{come_none, comes_alone, comes_goes, comes_without}
 use Rattle.aio_body.specs.Asking.{Comes, ComesBy, WentBegins, before, or_stop}
 use Rattle.aio_streaming.specs.Acting as streaming
@@ -206,7 +207,7 @@ told_going c old new s told left (Stops how last) row answered h = absurd h
 effect_row : {S : Type 0} (added : Extra S) (it : Action) (s : State S) → InRun s (state_of (effect step_limit added it s))
 effect_row added it s = in_turn added (in_callback added (effect_goes step_limit added it s).reaches)
 
-module _ {X W : Type 0} (a : Added X) (o : Outside W) (laws : IsOutside o) (it : Action) (body : Body X) where
+module _ {X W : Type 0} (a : Added X) (o : Outside W) (it : Action) (body : Body X) where
   -- it is noted that it runs
   pub runs_acting : (mid new : Body X) (was is : W) (result : Result Stepped Stop) → mid ≡ record body { events = pushed body.events (event.Ran it) }
       → Comes o (acting a it mid new) (ported was mid.events) (ported is new.events) result
@@ -214,9 +215,9 @@ module _ {X W : Type 0} (a : Added X) (o : Outside W) (laws : IsOutside o) (it :
   runs_acting mid new was is result e =
       subst (λ (m : Body X). Comes o (acting a it m new) (ported was m.events) (ported is new.events) result
       → Comes o (running_one a it body new) (ported was body.events) (ported is new.events) result) (sym e) (λ acts.
-      comes_goes o laws (running_one a it body new) [] (ported was body.events) (ported was noted_so.events) (λ c s. IsTaken it c noted_so s)
+      comes_goes o (running_one a it body new) [] (ported was body.events) (ported was noted_so.events) (λ c s. IsTaken it c noted_so s)
       (effect step_limit a.meaning it) (ported is new.events) result
-      (come_none o laws (λ c s. IsNext it c body s) (ported was body.events) (ported was noted_so.events)
+      (come_none o (λ c s. IsNext it c body s) (ported was body.events) (ported was noted_so.events)
       (λ c s. (next : State a.Kept) × (IsTaken it c noted_so next
       × (effect step_limit a.meaning it (noted (event.Ran it) s) ≡ effect step_limit a.meaning it next))) refl (λ c s h. (
         told_beside body.events.events (event.Ran it) refl,
@@ -232,9 +233,9 @@ module _ {X W : Type 0} (a : Added X) (o : Outside W) (laws : IsOutside o) (it :
       → Comes o (stepping a task input body new) (ported was body.events) (ported is new.events) result
       → Comes o (acting a it body new) (ported was body.events) (ported is new.events) result
   acts_stepping task input steps new was is result stepped =
-      comes_goes o laws (acting a it body new) [] (ported was body.events) (ported was body.events) (λ c s. IsCalled task c body s)
+      comes_goes o (acting a it body new) [] (ported was body.events) (ported was body.events) (λ c s. IsCalled task c body s)
       (step step_limit a.meaning task input) (ported is new.events) result
-      (come_none o laws (λ c s. IsTaken it c body s) (ported was body.events) (ported was body.events)
+      (come_none o (λ c s. IsTaken it c body s) (ported was body.events) (ported was body.events)
       (λ c s. (next : State a.Kept) × (IsCalled task c body next × (effect step_limit a.meaning it s ≡ step step_limit a.meaning task input next))) refl
       (λ c s h. (told_none body.events.events, (s, steps.1 c s h))))
       stepped
@@ -248,9 +249,9 @@ module _ {X W : Type 0} (a : Added X) (o : Outside W) (laws : IsOutside o) (it :
       → IfOk result (λ said. said ≡ went.Goes)
       → Comes o (acting a it body new) (ported wire body.events) (ported wire new.events) (or_stop result)
   acts_alone new wire (Err memory) acts goes =
-      comes_without o laws (acting a it body new) (ported wire body.events) (ported wire new.events) acting_begins refl
+      comes_without o (acting a it body new) (ported wire body.events) (ported wire new.events) acting_begins refl
   acts_alone new wire (Ok said) acts goes =
-      comes_alone o laws (acting a it body new) (ported wire body.events) (ported wire new.events) acting_begins (Ok said) refl (λ c s h. (
+      comes_alone o (acting a it body new) (ported wire body.events) (ported wire new.events) acting_begins (Ok said) refl (λ c s h. (
         told_going c body new s h.stands.events h.stands.rest (effect step_limit a.meaning it s) (effect_row a.meaning it s)
             (effect_goes step_limit a.meaning it s).asks
             (subst (λ w. Steps c new w (effect step_limit a.meaning it s)) goes (acts c s h)),
@@ -259,12 +260,12 @@ module _ {X W : Type 0} (a : Added X) (o : Outside W) (laws : IsOutside o) (it :
 
   -- or memory was refused before it did anything
   pub acts_without : (new : Body X) (wire : W) → Comes o (acting a it body new) (ported wire body.events) (ported wire new.events) (Err stop.Memory)
-  acts_without new wire = comes_without o laws (acting a it body new) (ported wire body.events) (ported wire new.events) acting_begins refl
+  acts_without new wire = comes_without o (acting a it body new) (ported wire body.events) (ported wire new.events) acting_begins refl
 
   -- or it was noted that it runs
   pub runs_without : (new : Body X) (wire : W) → Comes o (running_one a it body new) (ported wire body.events) (ported wire new.events) (Err stop.Memory)
   runs_without new wire =
-      comes_without o laws (running_one a it body new) (ported wire body.events) (ported wire new.events) (λ c s h.
+      comes_without o (running_one a it body new) (ported wire body.events) (ported wire new.events) (λ c s h.
       goes_on_then (c.past ++ body.events.events) (s.events ++ event.Ran it ∷ []) _
       (event.Ran it ∷ [], ap (λ es. es ++ event.Ran it ∷ []) h.stands.events)
       (row_on (noted (event.Ran it) s) (state_of (effect step_limit a.meaning it (noted (event.Ran it) s)))
@@ -434,7 +435,7 @@ module _ {X : Type 0} {a : Added X} (it : Action) (old new : Body X) where
       }
   goes_so d c s h (Stops how last) e goes = absurd goes
 
-module _ {X W : Type 0} (a : Added X) (o : Outside W) (laws : IsOutside o) (it : Action) (body new : Body X) where
+module _ {X W : Type 0} (a : Added X) (o : Outside W) (it : Action) (body new : Body X) where
   -- one that may ask
   pub acts_streaming : {R : Type 0} (was is : W) (result : Result R Stop)
       → Comes o (streaming.acting a it body new) (ported was body.events) (ported is new.events) result
@@ -461,9 +462,9 @@ module _ {X W : Type 0} (a : Added X) (o : Outside W) (laws : IsOutside o) (it :
   pub acts_made : {R : Type 0} (wire : W) (result : Result R Memory) → streaming.Acts a it body new result
       → Comes o (acting a it body new) (ported wire body.events) (ported wire new.events) (goes_as (or_stop result))
   acts_made wire (Ok said) acts =
-      acts_alone a o laws it body new wire (Ok went.Goes)
+      acts_alone a o it body new wire (Ok went.Goes)
       (λ c s h. goes_so it body new c c s h (effect step_limit a.meaning it s) refl (acts c s h)) refl
-  acts_made wire (Err memory) acts = acts_without a o laws it body new wire
+  acts_made wire (Err memory) acts = acts_without a o it body new wire
 
 -- a handle that steps no task is no step
 pub no_step : (it : Action) (task : ℕ) → runner_of it ≡ None → runner_of it ≡ Some task → ⊥

@@ -16,7 +16,8 @@ use Rattle.model_machine.specs.Turn.{turn}
 use Rattle.model_machine.specs.Went.{Went, Goes, Stops, state_of}
 use Rattle.law_machine.proofs.Turns.{turn-grows}
 use Rattle.aio_wire.specs.EventList.{EventList}
-use Rattle.aio_wire.specs.Port.{Exchanges, StopsShort, outcome_of}
+use Rattle.aio_wire.specs.Outside.{Outside}
+use Rattle.aio_wire.specs.Port.{Exchanges, StopsShort, outcome_of, ported}
 use Rattle.aio_wire.specs.Replied.{MayHaveReplied, Replied}
 use Rattle.aio_wire.specs.Told.{refused_of}
 use Rattle.aio_wire.specs.declared.stop.Stop.{Stop}
@@ -27,7 +28,6 @@ use Rattle.aio_exchange.proofs.Exchanging.{agreed}
 use Rattle.aio_exchange.specs.Among.{AreTold, ExchangedOn, asks_among, told_by, told_last}
 use Rattle.aio_exchange.specs.Exchanged.{Exchange, IsOneMore, Last, All, Met, Starved, StopsAs}
 use Rattle.aio_exchange.specs.Exchanged.{answers_of, asked_by, bytes_last, bytes_to, called_last, calls_of, entries_of, handed_to}
-use Rattle.aio_exchange.specs.Outside.{Outside, ported}
 use Rattle.aio_extra.specs.Added.{Added}
 use Rattle.aio_body.specs.declared.body.Body.{Body}
 use Rattle.aio_body.specs.Asking.{Comes, ComesBy, GoesOn, RestFits, StopsWith, before}
@@ -37,7 +37,7 @@ use Rattle.law_body.specs.Answers.{with_answers}
 use Rattle.aio_core.specs.declared.went.Went as code
 use Rattle.aio_core.specs.declared.went.Went.TheVariants as went
 use Rattle.aio_core.specs.Asked.{Asks, AsksOnce}
-use Rattle.aio_core.specs.Turning.{AsksBy, IsAtRest, IsStarved, StarvesAs, Stood, Turned, WireTurn, resting, said_by, stood_by, turning}
+use Rattle.aio_core.specs.Turning.{AsksBy, IsAtRest, IsStarved, StarvesAs, Stood, Turned, WireTurn, resting, said_by, stood_by, turning, wire_turn}
 use Rattle.aio_core.proofs.Asked.{bytes-append, calls-append, last_in, asks_replied, maybe_once, noted_after, noted_by}
 use Rattle.aio_core.proofs.Coming.{entries_map}
 
@@ -224,9 +224,6 @@ module _ {X : Type 0} (a : Added X) (old : Body X) where
 
 -- ---- a turn, by what it comes to
 module _ {X W : Type 0} (a : Added X) (o : Outside W) (old new : Body X) (was is : W) where
-  abbrev pub wire_over : WireTurn
-  wire_over = record { before = o.seen was; after = o.seen is; fails = o.fails was; quiet = o.quiet was is }
-
   -- a state that has these answers left
   pub there : (had : List Exchange) (past : List Event) (answers rest : List Entry) (s : State a.Kept) → (r : IsAtRest a past answers old s)
       → IsBetween (before had (resting a past rest r.0)) old (with_answers (entries_of had ++ rest) s)
@@ -245,7 +242,7 @@ module _ {X W : Type 0} (a : Added X) (o : Outside W) (old new : Body X) (was is
 
   starved_by : (had : List Exchange) → ExchangedOn o had Starved was is → (mid : List Event) → GoesBy had mid
       → (past : List Event) (answers : List Entry) (s : State a.Kept) → IsAtRest a past answers old s
-      → IsStarved a.meaning wire_over (stood_by a old) old.events.events
+      → IsStarved a.meaning (wire_turn o was is) (stood_by a old) old.events.events
   starved_by [] exchanged mid goes past answers s r = record {
     had = [];
     left = exchanged.leaves;
@@ -318,20 +315,21 @@ module _ {X W : Type 0} (a : Added X) (o : Outside W) (old new : Body X) (was is
         at (Met call said) (Ok it) exchanged comes = absurd comes
         at Starved (Ok said) exchanged comes = absurd comes
 
-    pub starved_in : StarvesAs a.meaning wire_over (stood_by a old) old.events.events (said_by result)
+    pub starved_in : StarvesAs a.meaning (wire_turn o was is) (stood_by a old) old.events.events (said_by result)
     starved_in = at h.last result h.exchanged h.comes
       where
         at : (last : Last) (result : Result code.Went Stop) → ExchangedOn o h.had last was is
             → ComesBy (turning a old new) h.had last old.events new.events result
-            → StarvesAs a.meaning wire_over (stood_by a old) old.events.events (said_by result)
+            → StarvesAs a.meaning (wire_turn o was is) (stood_by a old) old.events.events (said_by result)
         at All (Ok said) exchanged comes =
             let it = (comes (resting a past [] r.0) (with_answers (entries_of h.had ++ []) s) (there h.had past answers [] s r)).1 in
-            not_starved a.meaning wire_over (stood_by a old) old.events.events said
+            not_starved a.meaning (wire_turn o was is) (stood_by a old) old.events.events said
             (none_starves (resting a past [] it.0) new said (turn step_limit a.meaning (with_answers (entries_of h.had ++ []) s)) it.1)
         at (Met call said) (Err why) exchanged comes =
-            not_starved a.meaning wire_over (stood_by a old) old.events.events (went.Stopped why) (met_other call said new.events.answers why comes.0)
+            not_starved a.meaning (wire_turn o was is) (stood_by a old) old.events.events (went.Stopped why)
+            (met_other call said new.events.answers why comes.0)
         at Starved (Err why) exchanged comes =
-            subst (λ w. StarvesAs a.meaning wire_over (stood_by a old) old.events.events (went.Stopped w)) (sym comes.0)
+            subst (λ w. StarvesAs a.meaning (wire_turn o was is) (stood_by a old) old.events.events (went.Stopped w)) (sym comes.0)
             (starved_by h.had exchanged comes.1.0 comes.1.1 past answers s r)
         at All (Err why) exchanged comes = absurd comes
         at (Met call said) (Ok it) exchanged comes = absurd comes

@@ -18,11 +18,11 @@ use Rattle.model_machine.specs.Went.{Stops, answered_by, answers_in, ask, fitted
 use Rattle.law_runs.proofs.Turning.{noted_in}
 use Rattle.aio_wire.specs.EventList.{EventList}
 use Rattle.aio_wire.specs.Events.{pushed}
-use Rattle.aio_wire.specs.Port.{AlwaysFails, Exchanges, StopsShort, UnlessStopped}
+use Rattle.aio_wire.specs.Outside.{Outside}
+use Rattle.aio_wire.specs.Port.{AlwaysFails, Exchanges, StopsShort, UnlessStopped, ported}
 use Rattle.aio_wire.specs.Replied.{MayHaveReplied, Replied}
 use Rattle.aio_exchange.proofs.Among.{noted_told, on_wire}
 use Rattle.aio_exchange.specs.Exchanged.{AsksOne, Exchange, All}
-use Rattle.aio_exchange.specs.Outside.{IsOutside, Outside, ported}
 use Rattle.aio_body.proofs.Asking.{comes_goes}
 use Rattle.aio_body.specs.Asking.{Comes, before}
 use Rattle.aio_wire.specs.Told.{refused_of}
@@ -39,8 +39,8 @@ use Rattle.law_body.proofs.Noting.{counted, stands_noted}
 use Rattle.aio_core.specs.declared.went.Went as code
 use Rattle.aio_core.specs.declared.went.Went.TheVariants as went
 use Rattle.aio_core.specs.Watched.{StandsOn}
-use Rattle.aio_core.specs.Turning.{ComesTo, EndsFrom, Is, NoneLeft, OfFailing, StallsAs, Stood, UnlessFailed, changed_by, resting, stood_by}
-use Rattle.aio_core.specs.Turning.{turning, turning_by}
+use Rattle.aio_core.specs.Turning.{ComesTo, EndsFrom, Is, NoneLeft, OfFailing, StallsAs, Stood, UnlessFailed}
+use Rattle.aio_core.specs.Turning.{changed_by, resting, stood_by, turning, turning_by}
 
 -- ---- the machine
 turn_asks : {S : Type 0} (added : Extra S) (s : State S) → is_stalled added s ≡ false
@@ -251,7 +251,7 @@ module _ {X : Type 0} {a : Added X} (old : Body X) (call : Call)
         ))
 
     -- a turn that has this answer goes on by it
-    module _ {W : Type 0} (o : Outside W) (laws : IsOutside o) (was mid : W) (answer : Answer) (events : EventList)
+    module _ {W : Type 0} (o : Outside W) (was mid : W) (answer : Answer) (events : EventList)
         (one : AsksOne o call (ported was old.events) (ported mid events) (Ok answer)) where
       abbrev asked : List Exchange
       asked = record { call = call; answer = answer } ∷ []
@@ -260,7 +260,7 @@ module _ {X : Type 0} {a : Added X} (old : Body X) (call : Call)
           → Comes o (turning_by a answer (record held { events = events }) new) (ported mid events) (ported is new.events) result
           → Comes o (turning a old new) (ported was old.events) (ported is new.events) result
       answered_so new is result turns =
-          comes_goes o laws (turning a old new) asked (ported was old.events) (ported mid events)
+          comes_goes o (turning a old new) asked (ported was old.events) (ported mid events)
           (λ c s. IsBetween c (record held { events = events }) s) (turned_by step_limit a.meaning answer) (ported is new.events)
           result
           (record {

@@ -10,14 +10,14 @@ use Rattle.model_machine.specs.Turn.{turn}
 use Rattle.model_machine.specs.Went.{Went, Goes, Stops}
 use Rattle.model_says.specs.Says.{step_limit}
 use Rattle.aio_wire.specs.EventList.{EventList}
-use Rattle.aio_wire.specs.Port.{Exchanges, StopsShort, outcome_of}
+use Rattle.aio_wire.specs.Outside.{Outside}
+use Rattle.aio_wire.specs.Port.{Exchanges, StopsShort, outcome_of, ported}
 use Rattle.aio_wire.specs.Replied.{MayHaveReplied, Replied}
 use Rattle.aio_wire.specs.declared.stop.Stop.{Stop}
 use Rattle.aio_wire.specs.declared.stop.Stop.TheVariants as stop
 use Rattle.aio_wire.specs.declared.wire.Reply.{Reply}
 use Rattle.aio_wire.specs.declared.wire.Reply.TheVariants as reply
 use Rattle.aio_exchange.specs.Exchanged.{EndsSo, Exchange, IsFitting, Last, All, Met, Starved, StopsAs, entries_of}
-use Rattle.aio_exchange.specs.Outside.{Outside, ported}
 use Rattle.aio_extra.specs.Added.{Added}
 use Rattle.aio_body.specs.declared.body.Body.{Body}
 use Rattle.aio_body.specs.Asking.{Comes, ComesBy}

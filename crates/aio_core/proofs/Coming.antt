@@ -12,6 +12,8 @@ use Rattle.model_wire.specs.Trace.{End}
 use Rattle.model_machine.specs.State.{State}
 use Rattle.model_machine.specs.Turn.{turn}
 use Rattle.model_machine.specs.Went.{Went, Goes, Stops}
+use Rattle.aio_wire.specs.Outside.{Outside}
+use Rattle.aio_wire.specs.Port.{ported}
 use Rattle.aio_wire.specs.Told.{refused_of}
 use Rattle.aio_wire.specs.declared.stop.Stop.{Stop}
 use Rattle.aio_wire.specs.declared.stop.Stop.TheVariants as stop
@@ -20,7 +22,6 @@ use Rattle.aio_wire.specs.declared.wire.Reply.TheVariants as reply
 use Rattle.aio_exchange.specs.Among.{ExchangedOn}
 use Rattle.aio_exchange.specs.Exchanged as exchange
 use Rattle.aio_exchange.specs.Exchanged.{Exchange, Last, All, Met, Starved, StopsAs, answers_of, entries_of}
-use Rattle.aio_exchange.specs.Outside.{Outside, ported}
 use Rattle.aio_extra.specs.Added.{Added}
 use Rattle.aio_body.specs.declared.body.Body.{Body}
 use Rattle.aio_body.specs.Asking.{Comes, ComesBy, EndsAs, RestFits, StopsWith, before}

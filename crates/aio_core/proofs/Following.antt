@@ -13,11 +13,12 @@ use Rattle.model_machine.specs.Went.{Went, Goes, Stops, state_of, went_on}
 use Rattle.law_going.proofs.Turning.{turned_row}
 use Rattle.law_reach.proofs.Rows.{in_turn}
 use Rattle.aio_base.specs.declared.memory.Memory.{Memory}
+use Rattle.aio_wire.specs.Outside.{Outside}
+use Rattle.aio_wire.specs.Port.{ported}
 use Rattle.aio_wire.specs.declared.stop.Stop.{Stop}
 use Rattle.aio_wire.specs.declared.stop.Stop.TheVariants as stop
 use Rattle.aio_exchange.specs.Among.{asks_among}
 use Rattle.aio_exchange.specs.Exchanged.{Exchange, Last, All, Met, Starved}
-use Rattle.aio_exchange.specs.Outside.{IsOutside, Outside, ported}
 use Rattle.aio_extra.specs.Added.{Added}
 use Rattle.aio_step.specs.declared.steps.Stepped.{Stepped}
 use Rattle.aio_step.specs.declared.steps.Stepped.TheVariants as stepped
@@ -78,7 +79,7 @@ over_events done_before s = at (s.main_done && not done_before)
 over_adds : {S : Type 0} (done_before : Bool) → OnlyAdds {S = S} (turn_over done_before)
 over_adds done_before s = ([], over_events done_before s ∙ sym (append-nil s.events))
 
-module _ {X W : Type 0} (a : Added X) (o : Outside W) (laws : IsOutside o) (answer : Answer) (old mid ran : Body X)
+module _ {X W : Type 0} (a : Added X) (o : Outside W) (answer : Answer) (old mid ran : Body X)
     (woken : (c : Setting a) (s : State a.Kept) → IsBetween c old s → IsBetween (all_below c (woken_to answer s)) mid (woken_to answer s)) (was is : W) where
   abbrev From : Setting a → State a.Kept → Type 0
   From c s = IsBetween c old s
@@ -89,7 +90,7 @@ module _ {X W : Type 0} (a : Added X) (o : Outside W) (laws : IsOutside o) (answ
 
   begins : HasCome o From [] (ported was old.events) (ported was mid.events) Begun
   begins =
-      come_none o laws From (ported was old.events) (ported was mid.events) Begun refl (λ c s h. let there = woken c s h in (
+      come_none o From (ported was old.events) (ported was mid.events) Begun refl (λ c s h. let there = woken c s h in (
         told_so c.past old.events.events mid.events.events s.events s.events h.stands.events there.stands.events ([], sym (append-nil s.events)) refl,
         there,
       ))
@@ -140,7 +141,7 @@ module _ {X W : Type 0} (a : Added X) (o : Outside W) (laws : IsOutside o) (answ
 
     gone : (had : List Exchange) × HasCome o From had (ported was old.events) (ported is ran.events) HasRun
     gone =
-        come_then o laws From [] (ported was old.events) (ported was mid.events) below (ported is ran.events) Begun HasRun stepped.Goes begins
+        come_then o From [] (ported was old.events) (ported was mid.events) below (ported is ran.events) Begun HasRun stepped.Goes begins
         (runs_below (Ok stepped.Goes) runs) (λ more c s t. (
           s,
           (
@@ -162,7 +163,7 @@ module _ {X W : Type 0} (a : Added X) (o : Outside W) (laws : IsOutside o) (answ
         → IfOk result (λ said. (c : Setting a) (s : State a.Kept) → IsBetween c ran s → Turned c new said (turn_over mid.main_done s))
         → Comes o (turning_by a answer old new) (ported was old.events) (ported is new.events) (or_stop result)
     after_goes new (Err memory) ends =
-        comes_starved o laws (turning_by a answer old new) gone.0 (ported was old.events) (ported is ran.events) (ported is new.events) refl
+        comes_starved o (turning_by a answer old new) gone.0 (ported was old.events) (ported is ran.events) (ported is new.events) refl
         (record {
           exchanged = gone.1.exchanged;
           told = λ c s h.
@@ -173,8 +174,8 @@ module _ {X W : Type 0} (a : Added X) (o : Outside W) (laws : IsOutside o) (answ
               );
         })
     after_goes new (Ok said) ends =
-        comes_ends o laws (turning_by a answer old new) gone.0 (ported was old.events) (ported is new.events) said
-        (come_beside o laws From gone.0 (ported was old.events) (ported is ran.events) (ported is new.events) HasRun
+        comes_ends o (turning_by a answer old new) gone.0 (ported was old.events) (ported is new.events) said
+        (come_beside o From gone.0 (ported was old.events) (ported is ran.events) (ported is new.events) HasRun
         (λ c s. (bar : ℕ) × Turned (record c { left = 0; bar = bar }) new said (turned_by step_limit a.meaning answer s)) gone.1 refl (λ c s t.
         let d : Setting a = record c { left = 0; bar = t.bar } in
         let turned = ends d t.now t.between in (
@@ -192,7 +193,7 @@ module _ {X W : Type 0} (a : Added X) (o : Outside W) (laws : IsOutside o) (answ
   pub after_runs_away : (task : ℕ) → Comes o (running a mid ran) (ported was mid.events) (ported is ran.events) (Ok (stepped.Runaway task))
       → Comes o (turning_by a answer old ran) (ported was old.events) (ported is ran.events) (Ok (went.Runaway task))
   after_runs_away task runs =
-      let all = come_then o laws From [] (ported was old.events) (ported was mid.events) below (ported is ran.events) Begun
+      let all = come_then o From [] (ported was old.events) (ported was mid.events) below (ported is ran.events) Begun
       (λ c s. (bar : ℕ) × Turned (record c { left = 0; bar = bar }) ran (went.Runaway task) (turned_by step_limit a.meaning answer s))
       (stepped.Runaway task) begins (runs_below (Ok (stepped.Runaway task)) runs) (λ more c s t. (
         s,
@@ -204,7 +205,7 @@ module _ {X W : Type 0} (a : Added X) (o : Outside W) (laws : IsOutside o) (answ
           ),
         ),
       )) in
-      comes_ends o laws (turning_by a answer old ran) all.0 (ported was old.events) (ported is ran.events) (went.Runaway task) all.1
+      comes_ends o (turning_by a answer old ran) all.0 (ported was old.events) (ported is ran.events) (went.Runaway task) all.1
     where
       off : (go_on : State a.Kept → Went a.Kept) (d : Setting a) (w : Went a.Kept) → Steps d ran (stepped.Runaway task) w
           → Turned d ran (went.Runaway task) (went_on go_on w)
@@ -215,7 +216,7 @@ module _ {X W : Type 0} (a : Added X) (o : Outside W) (laws : IsOutside o) (answ
   pub after_stops : (why : Stop) → Comes o (running a mid ran) (ported was mid.events) (ported is ran.events) (Err why)
       → Comes o (turning_by a answer old ran) (ported was old.events) (ported is ran.events) (Err why)
   after_stops why runs =
-      comes_stops o laws From [] (ported was old.events) (ported was mid.events) below (ported is ran.events)
+      comes_stops o From [] (ported was old.events) (ported was mid.events) below (ported is ran.events)
       (turned_by step_limit a.meaning answer, (Stops, (λ c said it. (bar : ℕ) × Turned (record c { left = 0; bar = bar }) ran said it, WentBegins))) why
       (record {
         exchanged = begins.exchanged;
@@ -237,10 +238,10 @@ module _ {X W : Type 0} (a : Added X) (o : Outside W) (laws : IsOutside o) (answ
       }) (runs_below (Err why) runs)
 
 -- ---- or memory was refused before any handle ran
-module _ {X W : Type 0} (a : Added X) (o : Outside W) (laws : IsOutside o) (answer : Answer) (old new : Body X) (was : W) where
+module _ {X W : Type 0} (a : Added X) (o : Outside W) (answer : Answer) (old new : Body X) (was : W) where
   pub after_starves : Comes o (turning_by a answer old new) (ported was old.events) (ported was new.events) (Err stop.Memory)
   after_starves =
-      comes_without o laws (turning_by a answer old new) (ported was old.events) (ported was new.events) (λ c s h.
+      comes_without o (turning_by a answer old new) (ported was old.events) (ported was new.events) (λ c s h.
       row_begins (c.past ++ old.events.events) s (state_of (turned_by step_limit a.meaning answer s))
       (in_turn a.meaning (turned_row step_limit a.meaning answer s)) h.stands.events) refl
 

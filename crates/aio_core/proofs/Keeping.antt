@@ -6,8 +6,8 @@ use Rattle.model_wire.specs.Event.{Event}
 use Rattle.model_wire.specs.Journal.{Entry}
 use Rattle.model_wire.specs.Told.{WireSeen}
 use Rattle.model_machine.specs.State.{State}
-use Rattle.model_machine.specs.Turn.{is_stalled}
 use Rattle.aio_wire.specs.EventList.{EventList}
+use Rattle.aio_wire.specs.Outside.{Outside}
 use Rattle.aio_wire.specs.declared.stop.Stop.TheVariants as stop
 use Rattle.aio_extra.specs.Added.{Added}
 use Rattle.aio_body.specs.declared.body.Body.{Body}
@@ -18,8 +18,7 @@ use Rattle.aio_core.specs.declared.went.Went as code
 use Rattle.aio_core.specs.declared.went.Went.TheVariants as went
 use Rattle.aio_core.specs.Again.{Again, IsKept}
 use Rattle.aio_core.specs.Turned.{KeepsEnd, StandsFor, TurnedBy, TurnsTo, ended, stood_for, untaken}
-use Rattle.aio_core.specs.Turning.{AliveIfWent, AliveUnless, AsksBy, ComesTo, HasCause, IsAtRest, OfFailing, StallsAs, StarvesAs, UnlessFailed, WireTurn}
-use Rattle.aio_core.specs.Turning.{changed_by, resting, stood_by}
+use Rattle.aio_core.specs.Turning.{AliveIfWent, AliveUnless, ComesTo, IsAtRest, StarvesAs, TurnMade, WireTurn, changed_by, resting, stood_by, wire_turn}
 
 module _ {X : Type 0} {a : Added X} where
   pub stands_up : {g : _} (past : List Event) (left : List Entry) (kernel : Kernel X g) (s : State a.Kept) → ended kernel ≡ None
@@ -71,24 +70,17 @@ module _ {X : Type 0} (a : Added X) where
 
 module _ {X : Type 0} {a : Added X} where
   -- a run that hasn't ended
-  pub turned_up : {g : _} (wire : WireTurn) (old new : Kernel X g) (result said : code.Went) → (said ≡ went.Went → ended new ≡ None)
-      → ComesTo a.meaning wire.before wire.after (changed_by a old.body new.body) said
-      → ((past : List Event) (answers : List Entry) (s : State a.Kept) → IsAtRest a past answers old.body s → StallsAs (is_stalled a.meaning s) said)
-      → ((past : List Event) (answers : List Entry) (s : State a.Kept) → IsAtRest a past answers old.body s
-      → AsksBy (untaken old) (untaken new) wire.before wire.after said)
-      → ((past : List Event) (answers : List Entry) (s : State a.Kept) → IsAtRest a past answers old.body s
-      → HasCause wire.before wire.after said)
-      → ((past : List Event) (answers : List Entry) (s : State a.Kept) → IsAtRest a past answers old.body s
-      → StarvesAs a.meaning wire (stood_by a old.body) (untaken old) said)
-      → UnlessFailed wire.quiet said → (wire.fails → OfFailing said) → Again said result → TurnedBy a wire old new result said
-  turned_up wire old new result said goes comes stalls asks caused starved still failing either = record {
-    turns = comes_up a old new wire.before wire.after said goes comes;
-    stalls = λ past answers s h. stalls past answers s h.rests;
-    asks = λ past answers s h. asks past answers s h.rests;
-    caused = λ past answers s h. caused past answers s h.rests;
-    starved = λ past answers s h. starves_up a wire old said (starved past answers s h.rests);
-    still = still;
-    failing = failing;
+  pub turned_up : {W : Type 0} {g : _} (o : Outside W) (was is : W) (old new : Kernel X g) (result said : code.Went)
+      → (said ≡ went.Went → ended new ≡ None) → TurnMade a o was is old.body new.body said → Again said result
+      → TurnedBy a (wire_turn o was is) old new result said
+  turned_up o was is old new result said goes made either = record {
+    turns = comes_up a old new (o.seen was) (o.seen is) said goes made.comes;
+    stalls = λ past answers s h. made.stalls past answers s h.rests;
+    asks = λ past answers s h. made.asked past answers s h.rests;
+    caused = λ past answers s h. made.caused past answers s h.rests;
+    starved = λ past answers s h. starves_up a (wire_turn o was is) old said (made.starved past answers s h.rests);
+    still = made.quiet;
+    failing = made.fails;
     either = either;
   }
 

@@ -16,4 +16,5 @@ pub mod Following
 pub mod Opening
 pub mod Placing
 pub mod Keeping
+pub mod Made
 pub mod Sound

@@ -16,10 +16,11 @@ use Rattle.law_reach.proofs.Rows.{in_turn}
 use Rattle.aio_ready.specs.Queue as queue
 use Rattle.aio_ready.specs.declared.handle.Handle.{Handle as QueueHandle}
 use Rattle.aio_task.specs.View.{View}
+use Rattle.aio_wire.specs.Outside.{Outside}
+use Rattle.aio_wire.specs.Port.{ported}
 use Rattle.aio_wire.specs.declared.stop.Stop.{Stop}
 use Rattle.aio_exchange.proofs.Among.{told_none}
 use Rattle.aio_exchange.specs.Exchanged.{Exchange}
-use Rattle.aio_exchange.specs.Outside.{IsOutside, Outside, ported}
 use Rattle.aio_extra.specs.Added.{Added}
 use Rattle.aio_step.specs.declared.steps.Stepped.{Stepped}
 use Rattle.aio_step.specs.declared.steps.Stepped.TheVariants as went
@@ -112,7 +113,7 @@ live_first (handle ∷ handles) it e = at_dead handle.dead (λ x. live_first han
 taken_fewer : (q : queue.Queue) (it : Action) → queue.next_action q ≡ Some it → length (queue.taken q).below < length q.below
 taken_fewer q it e = live_first q.below it e
 
-module _ {X W : Type 0} (a : Added X) (o : Outside W) (laws : IsOutside o) (first : Body X) (was : W) where
+module _ {X W : Type 0} (a : Added X) (o : Outside W) (first : Body X) (was : W) where
   abbrev From : Setting a → State a.Kept × (ℕ × ℕ) → Type 0
   From c at = IsBetween c first at.0 × ((c.bar ≡ at.1.0) × (c.left ≡ at.1.1))
 
@@ -123,7 +124,7 @@ module _ {X W : Type 0} (a : Added X) (o : Outside W) (laws : IsOutside o) (firs
   pub reached_first : HasReached a o first was first was
   reached_first = (
     [],
-    come_none o laws From (ported was first.events) (ported was first.events) (Reached first) refl
+    come_none o From (ported was first.events) (ported was first.events) (Reached first) refl
         (λ c at h. (
           told_none first.events.events,
           record {
@@ -179,7 +180,7 @@ module _ {X W : Type 0} (a : Added X) (o : Outside W) (laws : IsOutside o) (firs
         pub reached_next : Comes o (running_one a action taken new) (ported mid taken.events) (ported last new.events) (Ok went.Goes)
             → HasReached a o first was new last
         reached_next ran =
-            come_then o laws From reached.0 (ported was first.events) (ported mid body.events) one (ported last new.events) (Reached body) (Reached new)
+            come_then o From reached.0 (ported was first.events) (ported mid body.events) one (ported last new.events) (Reached body) (Reached new)
             went.Goes reached.1 (held (Ok went.Goes) ran) (λ more c at t. (
               (here (before more c) at t).now,
               (
@@ -201,7 +202,7 @@ module _ {X W : Type 0} (a : Added X) (o : Outside W) (laws : IsOutside o) (firs
             → Comes o (running_one a action taken new) (ported mid taken.events) (ported last new.events) (Ok (went.Runaway task))
             → Comes o (running a first new) (ported was first.events) (ported last new.events) (Ok (went.Runaway task))
         runs_away task ran =
-            let all = come_then o laws From reached.0 (ported was first.events) (ported mid body.events) one (ported last new.events) (Reached body)
+            let all = come_then o From reached.0 (ported was first.events) (ported mid body.events) one (ported last new.events) (Reached body)
             (λ c at. Steps (at_bar c) new (went.Runaway task) (does at)) (went.Runaway task) reached.1 (held (Ok (went.Runaway task)) ran)
             (λ more c at t. (
               (here (before more c) at t).now,
@@ -213,12 +214,12 @@ module _ {X W : Type 0} (a : Added X) (o : Outside W) (laws : IsOutside o) (firs
                     (effect step_limit a.meaning action (noted (event.Ran action) (here (before more c) at t).now)) says),
               ),
             )) in
-            comes_ends o laws (running a first new) all.0 (ported was first.events) (ported last new.events) (went.Runaway task) all.1
+            comes_ends o (running a first new) all.0 (ported was first.events) (ported last new.events) (went.Runaway task) all.1
 
         pub run_stops : (why : Stop) → Comes o (running_one a action taken new) (ported mid taken.events) (ported last new.events) (Err why)
             → Comes o (running a first new) (ported was first.events) (ported last new.events) (Err why)
         run_stops why ran =
-            comes_stops o laws From reached.0 (ported was first.events) (ported mid body.events) one (ported last new.events)
+            comes_stops o From reached.0 (ported was first.events) (ported mid body.events) one (ported last new.events)
             (does, (Stops, (λ c said it. Steps (at_bar c) new said it, WentBegins))) why
             (record {
               exchanged = reached.1.exchanged;
@@ -246,7 +247,7 @@ module _ {X W : Type 0} (a : Added X) (o : Outside W) (laws : IsOutside o) (firs
             → Comes o (running_one a action taken new) (ported mid taken.events) (ported last new.events) (Ok went.Goes)
             → below_of new < below_of body
         fewer alive ran =
-            let all = come_then o laws From reached.0 (ported was first.events) (ported mid body.events) one (ported last new.events) (Reached body)
+            let all = come_then o From reached.0 (ported was first.events) (ported mid body.events) one (ported last new.events) (Reached body)
             (λ c at. below_of new ≡ left) went.Goes reached.1 (held (Ok went.Goes) ran) (λ more c at t. (
               (here (before more c) at t).now,
               (
@@ -266,8 +267,8 @@ module _ {X W : Type 0} (a : Added X) (o : Outside W) (laws : IsOutside o) (firs
       pub at_bar_so : queue.next_action body.parts.queue ≡ None
           → Comes o (running a first taken) (ported was first.events) (ported mid body.events) (Ok went.Goes)
       at_bar_so none =
-          comes_ends o laws (running a first taken) reached.0 (ported was first.events) (ported mid body.events) went.Goes
-          (come_beside o laws From reached.0 (ported was first.events) (ported mid body.events) (ported mid body.events) (Reached body)
+          comes_ends o (running a first taken) reached.0 (ported was first.events) (ported mid body.events) went.Goes
+          (come_beside o From reached.0 (ported was first.events) (ported mid body.events) (ported mid body.events) (Reached body)
           (λ c at. Steps (at_bar c) taken went.Goes (does at)) reached.1 refl (λ c at t. (told_none body.events.events, ends c at t)))
         where
           none_live : (handles : List QueueHandle) → queue.first_action (queue.from_live handles) ≡ None

@@ -1,5 +1,5 @@
 -- What a turn of a kernel comes to, by the states of the machine that it stands for.
-use Rattle.std.specs.Prelude.{◌≡◌, ℕ, List, [], ◌++◌, Option, Some, None, ◌⊎◌, length}
+use Rattle.std.specs.Prelude.{◌≡◌, ℕ, List, [], ◌++◌, Option, Some, None, ◌⊎◌, IfSome, length}
 use Rattle.model_tree.specs.Syntax.{Program}
 use Rattle.model_wire.specs.Call.{Answer}
 use Rattle.model_wire.specs.Event.{Event}
@@ -10,13 +10,16 @@ use Rattle.model_machine.specs.Replies.{most_ids}
 use Rattle.model_machine.specs.State.{State, start}
 use Rattle.model_machine.specs.Turn.{is_stalled}
 use Rattle.aio_extra.specs.Added.{Added}
+use Rattle.aio_wire.specs.Outside.{Outside}
+use Rattle.aio_wire.specs.Replied.{Stays}
 use Rattle.aio_wire.specs.declared.stop.Stop.TheVariants as stop
 use Rattle.aio_core.specs.declared.kernel.Kernel.{Kernel}
 use Rattle.aio_core.specs.declared.went.Went as code
 use Rattle.aio_core.specs.declared.went.Went.TheVariants as went
 use Rattle.aio_core.specs.Turning.{AsksBy, Change, ComesTo, EndsFrom, EndsTelling, GoesOnFrom, HasCause, IsAtRest}
-use Rattle.aio_core.specs.Turning.{OfFailing, StallsAs, StarvesAs, Stood, UnlessFailed}
-use Rattle.aio_core.specs.Turning.{WireTurn}
+use Rattle.aio_core.specs.Turning.{OfFailing, StallsAs, StarvesAs, Stood, UnlessFailed, WireTurn, wire_turn}
+use Rattle.aio_core.specs.Again.{Again}
+use Rattle.aio_core.specs.Sound.{IsTurnSound}
 
 -- the events that weren't taken out yet
 abbrev pub untaken : {X : Type 0} {g : _} → Kernel X g → List Event
@@ -86,3 +89,17 @@ pub record TurnedBy {X : Type 0} {g : _} (a : Added X) (wire : WireTurn) (old ne
 abbrev pub KeepsEnd : (result : code.Went) → (kept : Option code.Went) → Type 0
 KeepsEnd went.Went kept = Unit {0}
 KeepsEnd result kept = kept ≡ Some result
+
+-- A kernel was to make a turn over a wire, which `was` so before it and `is` so after it.
+pub record KernelTurned {X W : Type 0} {g : _} (a : Added X) (o : Outside W) (was is : W) (old new : Kernel X g) (result : code.Went) : Type 0 where
+  -- where the run hadn't ended it made one
+  pub turned : ended old ≡ None → (said : code.Went) × TurnedBy a (wire_turn o was is) old new result said
+  -- which is sound all along
+  pub sound : (past : List Event) (answers : List Entry) (s : State a.Kept) → StandsFor a past answers old s → IsTurnSound a s
+  -- of the wire: what stays from call to call, and whether its answers fit, which stays, with its count of faults, which didn't fall
+  pub keeps : o.keeps was is
+  pub stays : Stays (o.seen was) (o.seen is)
+  -- the end is kept, and after it nothing is asked
+  pub kept : KeepsEnd result (ended new)
+  pub again : IfSome (ended old) (λ went. Again went result)
+  pub still : IfSome (ended old) (λ went. is ≡ was)

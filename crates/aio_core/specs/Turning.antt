@@ -16,8 +16,10 @@ use Rattle.model_machine.specs.Extra.{Extra}
 use Rattle.model_machine.specs.Outcomes.{end_of}
 use Rattle.model_machine.specs.Outside.{select}
 use Rattle.model_machine.specs.State.{State}
-use Rattle.model_machine.specs.Turn.{turn, turned_by}
+use Rattle.model_machine.specs.Turn.{is_stalled, turn, turned_by}
 use Rattle.model_machine.specs.Went.{Went, Goes, Stops, answers_in, state_of}
+use Rattle.aio_wire.specs.Outside.{Outside}
+use Rattle.aio_wire.specs.Replied.{Stays}
 use Rattle.aio_wire.specs.Told.{refused_of}
 use Rattle.aio_wire.specs.declared.stop.Stop.{Stop}
 use Rattle.aio_wire.specs.declared.stop.Stop.TheVariants as stop
@@ -203,6 +205,9 @@ pub record WireTurn : Type 1 where
   pub fails : Type 0
   pub quiet : Type 0
 
+abbrev pub wire_turn : {W : Type 0} → Outside W → (was is : W) → WireTurn
+wire_turn o was is = record { before = o.seen was; after = o.seen is; fails = o.fails was; quiet = o.quiet was is }
+
 -- Memory was refused in a turn. With these events the machine's turn begins, over the answers that were had by then: the wire was asked
 -- what they tell, and one call besides at most. Where each call fails they are none. `untaken` are those that weren't taken out before.
 pub record IsStarved {S : Type 0} (added : Extra S) (wire : WireTurn) (old : Stood S) (untaken : List Event) : Type 0 where
@@ -248,3 +253,28 @@ OfFailing (went.Stopped (stop.Failed call)) = Unit {0}
 OfFailing (went.Stopped stop.Memory) = Unit {0}
 OfFailing went.Stalled = Unit {0}
 OfFailing _ = ⊥
+
+-- ---- the turn of a body
+-- A turn was made over a wire, which `was` so before it and `is` so after it, and this was said.
+pub record TurnMade {X W : Type 0} (a : Added X) (o : Outside W) (was is : W) (old new : Body X) (said : code.Went) : Type 0 where
+  -- what it comes to
+  pub comes : ComesTo a.meaning (o.seen was) (o.seen is) (changed_by a old new) said
+  -- it is stalled where the state was
+  pub stalls : (past : List Event) (answers : List Entry) (s : State a.Kept) → IsAtRest a past answers old s
+      → StallsAs (is_stalled a.meaning s) said
+  -- what it asked, and what it asked where memory was refused
+  pub asked : (past : List Event) (answers : List Entry) (s : State a.Kept) → IsAtRest a past answers old s
+      → AsksBy old.events.events new.events.events (o.seen was) (o.seen is) said
+  pub starved : (past : List Event) (answers : List Entry) (s : State a.Kept) → IsAtRest a past answers old s
+      → StarvesAs a.meaning (wire_turn o was is) (stood_by a old) old.events.events said
+  -- why it stopped
+  pub caused : (past : List Event) (answers : List Entry) (s : State a.Kept) → IsAtRest a past answers old s
+      → HasCause (o.seen was) (o.seen is) said
+  -- where the run goes on there is a state that is stood for
+  pub alive : AliveIfWent a said new
+  -- of the wire: what may come where each call fails, what stays from call to call, and what stays unless it failed
+  pub fails : o.fails was → OfFailing said
+  pub keeps : o.keeps was is
+  pub quiet : UnlessFailed (o.quiet was is) said
+  -- whether its answers fit stays, and its count of faults didn't fall
+  pub stays : Stays (o.seen was) (o.seen is)

@@ -9,7 +9,7 @@ ghost use Rattle.model_machine.specs.Turn.{effect as plain_effect};
 ghost use Rattle.law_trees.specs.Trees.{is_of_streams};
 ghost use Rattle.law_reach.specs.Changes.{runner_of};
 ghost use Rattle.aio_wire.specs.Events.{pushed};
-ghost use Rattle.aio_exchange.specs.Outside.{outside_of, ported};
+ghost use Rattle.aio_wire.specs.Port.{ported};
 ghost use Rattle.aio_body.specs.Asking.{Comes};
 ghost use Rattle.aio_body.specs.Stands.{Setting, IsBetween, Possible};
 ghost use Rattle.aio_body.specs.Taken.{IsNext, IsTaken};
@@ -34,8 +34,7 @@ pub fn run_below<W: Wire, X: Extra>(
     wire: &mut W,
 ) -> Result<Stepped, Stop>
     requires { Possible X.added IsBetween body.old }
-    ensures { Comes (outside_of W.seen W.fails W.keeps W.quiet)
-        (running X.added body.old body.new)
+    ensures { Comes W.outside (running X.added body.old body.new)
         (ported wire.old body.old.events) (ported wire.new body.new.events) result }
 {
     while let Some((action, ticket)) = body.parts.next_below() {
@@ -57,8 +56,7 @@ fn run_next<W: Wire, X: Extra>(
     ticket: Ticket,
 ) -> Result<Stepped, Stop>
     requires { Possible X.added (IsNext action) body.old }
-    ensures { Comes (outside_of W.seen W.fails W.keeps W.quiet)
-        (running_one X.added action body.old body.new)
+    ensures { Comes W.outside (running_one X.added action body.old body.new)
         (ported wire.old body.old.events) (ported wire.new body.new.events) result }
 {
     let ran = run(body, alloc, wire, &action, ticket);
@@ -77,8 +75,7 @@ fn run<W: Wire, X: Extra>(
     ticket: Ticket,
 ) -> Result<Stepped, Stop>
     requires { Possible X.added (IsNext action.now) body.old }
-    ensures { Comes (outside_of W.seen W.fails W.keeps W.quiet)
-        (running_one X.added action.now body.old body.new)
+    ensures { Comes W.outside (running_one X.added action.now body.old body.new)
         (ported wire.old body.old.events) (ported wire.new body.new.events) result }
 {
     match note(body, alloc, action) {
@@ -106,8 +103,7 @@ fn act<W: Wire, X: Extra>(
     ticket: Ticket,
 ) -> Result<Stepped, Stop>
     requires { Possible X.added (IsTaken action.now) body.old }
-    ensures { Comes (outside_of W.seen W.fails W.keeps W.quiet)
-        (acting X.added action.now body.old body.new)
+    ensures { Comes W.outside (acting X.added action.now body.old body.new)
         (ported wire.old body.old.events) (ported wire.new body.new.events) result }
 {
     match stepped_by(body, alloc, action) {
@@ -127,8 +123,7 @@ fn call_back<W: Wire, X: Extra>(
 ) -> Result<Stepped, Stop>
     requires taken { Possible X.added (IsTaken action.now) body.old }
     requires idle { runner_of action.now ≡ None }
-    ensures { Comes (outside_of W.seen W.fails W.keeps W.quiet)
-        (acting X.added action.now body.old body.new)
+    ensures { Comes W.outside (acting X.added action.now body.old body.new)
         (ported wire.old body.old.events) (ported wire.new body.new.events) result }
 {
     match action {

@@ -25,18 +25,14 @@ pub struct Kernel<X: Extra> {
 }
 
 impl<X: Extra + Drop> Kernel<X> {
-    ghost use Rattle.std.specs.Prelude.{◌≡◌, ◌^◌, ◌<◌, List, [], ◌++◌, None, IfOk, IfSome};
+    ghost use Rattle.std.specs.Prelude.{◌≡◌, ◌^◌, ◌<◌, List, [], ◌++◌, IfOk};
     ghost use Rattle.model_wire.specs.Event.{Event};
     ghost use Rattle.model_wire.specs.Journal.{Entry};
     ghost use Rattle.model_loop.specs.Tasks.{next_task};
     ghost use Rattle.model_machine.specs.State.{State};
     ghost use Rattle.model_machine.specs.Turn.{is_stalled};
-    ghost use Rattle.aio_wire.specs.Replied.{Stays};
     ghost use Rattle.aio_extra.specs.Added.{KeepsNothing};
-    ghost use Rattle.aio_core.specs.declared.went.Went.{Went as AnyWent};
-    ghost use Rattle.aio_core.specs.Turned.{StandsFor, Begins, TurnedBy, KeepsEnd, ended, held_tasks, untaken};
-    ghost use Rattle.aio_core.specs.Again.{Again};
-    ghost use Rattle.aio_core.specs.Sound.{IsTurnSound};
+    ghost use Rattle.aio_core.specs.Turned.{StandsFor, Begins, KernelTurned, ended, held_tasks, untaken};
 
     /// A run begins at time 0, with main's task, whose first step is pending. What is added keeps
     /// nothing so far.
@@ -56,22 +52,7 @@ impl<X: Extra + Drop> Kernel<X> {
     /// A turn. After any answer but `Went` it answers that again, or that memory was refused, and
     /// asks nothing.
     pub fn turn<W: Wire>(&mut self, alloc: Global, wire: &mut W) -> Went
-        ensures turned { ended self.old ≡ None
-            → (said : AnyWent) × TurnedBy X.added
-            (record {
-              before = W.seen wire.old;
-              after = W.seen wire.new;
-              fails = W.fails wire.old;
-              quiet = W.quiet wire.old wire.new;
-            })
-            self.old self.new result said }
-        ensures sound { (past : List Event) (answers : List Entry) (s : State X.added.Kept)
-            → StandsFor X.added past answers self.old s → IsTurnSound X.added s }
-        ensures keeps { W.keeps wire.old wire.new }
-        ensures stays { Stays (W.seen wire.old) (W.seen wire.new) }
-        ensures kept { KeepsEnd result (ended self.new) }
-        ensures again { IfSome (ended self.old) (λ went. Again went result) }
-        ensures still { IfSome (ended self.old) (λ went. wire.new ≡ wire.old) }
+        ensures { KernelTurned X.added W.outside wire.old wire.new self.old self.new result }
     {
         if let Some(ended) = self.ended.take() {
             return end(alloc, &mut self.ended, ended);

@@ -1,8 +1,6 @@
 //! A turn of the loop.
-ghost use Rattle.std.specs.Prelude.{◌≡◌, ◌⊎◌, ◌&&◌, ◌++◌, true, not, length, List, IfOk, OnOk};
+ghost use Rattle.std.specs.Prelude.{◌≡◌, ◌&&◌, ◌++◌, true, not, length, IfOk, OnOk};
 ghost use Rattle.model_wire.specs.declared.watch.Watch.TheVariants as watch;
-ghost use Rattle.model_wire.specs.Event.{Event};
-ghost use Rattle.model_wire.specs.Journal.{Entry};
 ghost use Rattle.model_loop.specs.Ending.{cancel_everything as plain_cancel_everything};
 ghost use Rattle.model_machine.specs.Outcomes.{finished_as, no_task_lives};
 ghost use Rattle.model_machine.specs.Outside.{time_of as plain_time_of};
@@ -11,15 +9,11 @@ ghost use Rattle.model_machine.specs.Turn.{cancelled_if, finished_if, turn_over,
 ghost use Rattle.model_machine.specs.Turn.{call_of, is_stalled as plain_is_stalled, wait_of, watched_by};
 ghost use Rattle.model_stream.specs.Watching.{entry_if};
 ghost use Rattle.law_handles.specs.Waiting.{is_none_watched};
-ghost use Rattle.aio_wire.specs.Port.{Exchanges, StopsShort, AlwaysFails, UnlessStopped};
-ghost use Rattle.aio_wire.specs.Replied.{Replied, MayHaveReplied, Stays};
-ghost use Rattle.aio_wire.specs.declared.wire.Reply.{Reply as AnyReply};
-ghost use Rattle.aio_exchange.specs.Outside.{outside_of, ported};
+ghost use Rattle.aio_wire.specs.Port.{PortAsked, ported};
 ghost use Rattle.aio_body.specs.Asking.{Comes};
 ghost use Rattle.aio_body.specs.Stands.{Setting, IsBetween, Possible};
 ghost use Rattle.aio_core.specs.Watched.{StandsOn};
-ghost use Rattle.aio_core.specs.Turning.{AsksBy, HasCause, IsAtRest, IsSelect, IsTime, Turned, AliveIfWent, ComesTo, OfFailing, StallsAs, StarvesAs, UnlessFailed};
-ghost use Rattle.aio_core.specs.Turning.{all_below, changed_by, said_by, stood_by, turning_by};
+ghost use Rattle.aio_core.specs.Turning.{IsSelect, IsTime, TurnMade, Turned, all_below, said_by, turning_by};
 
 use crate::handles::run_below;
 use crate::news::note_news;
@@ -43,33 +37,7 @@ pub fn turn<W: Wire, X: Extra>(
     seen: &mut u32,
 ) -> Result<Went, Stop>
     requires { Possible X.added IsBetween body.old }
-    ensures comes { ComesTo X.added.meaning (W.seen wire.old) (W.seen wire.new)
-        (changed_by X.added body.old body.new) (said_by result) }
-    ensures stalls { (past : List Event) (answers : List Entry) (s : State X.added.Kept)
-        → IsAtRest X.added past answers body.old s
-        → StallsAs (plain_is_stalled X.added.meaning s) (said_by result) }
-    ensures asked { (past : List Event) (answers : List Entry) (s : State X.added.Kept)
-        → IsAtRest X.added past answers body.old s
-        → AsksBy body.old.events.events body.new.events.events (W.seen wire.old) (W.seen wire.new)
-        (said_by result) }
-    ensures caused { (past : List Event) (answers : List Entry) (s : State X.added.Kept)
-        → IsAtRest X.added past answers body.old s
-        → HasCause (W.seen wire.old) (W.seen wire.new) (said_by result) }
-    ensures starved { (past : List Event) (answers : List Entry) (s : State X.added.Kept)
-        → IsAtRest X.added past answers body.old s
-        → StarvesAs X.added.meaning
-        (record {
-          before = W.seen wire.old;
-          after = W.seen wire.new;
-          fails = W.fails wire.old;
-          quiet = W.quiet wire.old wire.new;
-        })
-        (stood_by X.added body.old) body.old.events.events (said_by result) }
-    ensures alive { AliveIfWent X.added (said_by result) body.new }
-    ensures fails { W.fails wire.old → OfFailing (said_by result) }
-    ensures keeps { W.keeps wire.old wire.new }
-    ensures quiet { UnlessFailed (W.quiet wire.old wire.new) (said_by result) }
-    ensures stays { Stays (W.seen wire.old) (W.seen wire.new) }
+    ensures { TurnMade X.added W.outside wire.old wire.new body.old body.new (said_by result) }
 {
     if is_stalled(body) {
         return Ok(Went::Stalled);
@@ -162,14 +130,8 @@ fn ask<W: Wire, X: Extra>(
     call: Call,
 ) -> Result<Answer, Stop>
     ensures beside { body.new ≡ record body.old { events = body.new.events } }
-    ensures asks { ((said : AnyReply) × Exchanges call body.old.events body.new.events result said
-        × Replied call (W.seen wire.old) (W.seen wire.new) said)
-        ⊎ (StopsShort body.old.events body.new.events result
-        × MayHaveReplied call (W.seen wire.old) (W.seen wire.new)) }
-    ensures stays { Stays (W.seen wire.old) (W.seen wire.new) }
-    ensures fails { W.fails wire.old → AlwaysFails call result }
-    ensures keeps { W.keeps wire.old wire.new }
-    ensures quiet { UnlessStopped (W.quiet wire.old wire.new) result }
+    ensures asked { PortAsked W.outside call (ported wire.old body.old.events)
+        (ported wire.new body.new.events) result }
 {
     let mut port = Port::new(wire, &mut body.events);
     port.ask(alloc, call)
@@ -185,8 +147,7 @@ fn after<W: Wire, X: Extra>(
 ) -> Result<Went, Stop>
     requires alive { Possible X.added IsBetween body.old }
     requires time { IsTime answer.now }
-    ensures { Comes (outside_of W.seen W.fails W.keeps W.quiet)
-        (turning_by X.added answer.now body.old body.new)
+    ensures { Comes W.outside (turning_by X.added answer.now body.old body.new)
         (ported wire.old body.old.events) (ported wire.new body.new.events) result }
 {
     match wake(body, alloc, answer) {

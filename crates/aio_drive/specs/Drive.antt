@@ -10,11 +10,12 @@ use Rattle.model_program.specs.Program.{IsOver, output_of}
 use Rattle.model_machine.specs.Run.{turns_over}
 use Rattle.model_program.specs.Runs.{run}
 use Rattle.model_machine.specs.State.{State}
-use Rattle.model_program.specs.Written.{IsFrontOf, ProgramOutput}
+use Rattle.model_program.specs.Written.{IsFrontOf, ProgramOutput, WritesWhole}
 use Rattle.model_program.specs.Transcript.{status_of}
 use Rattle.model_machine.specs.Turn.{is_stalled}
 use Rattle.model_commands.specs.Causes.{IsCaused}
 use Rattle.model_commands.specs.Recorded.{FailsRecording, Records, recorded}
+use Rattle.aio_wire.specs.Outside.{Outside}
 use Rattle.aio_extra.specs.Nothing.{nothing_added}
 use Rattle.aio_extra.specs.declared.nothing.NoExtra.{NoExtra}
 use Rattle.aio_core.specs.Asked.{Asks, AsksOnce}
@@ -110,6 +111,10 @@ driven_over before after fails quiet shelf same = record {
   same = same;
 }
 
+-- by what clauses say of the wire, which `was` so before it and `is` so after it
+abbrev pub driven_by : {W : Type 0} → Outside W → (was is : W) → Recording → (same : Type 0) → Driven
+driven_by o was is shelf same = driven_over (o.seen was) (o.seen is) (o.fails was) (o.quiet was is) shelf same
+
 -- It was told all that these events say: the wire was asked their calls, and their answers were recorded, where a file is named.
 abbrev pub TellsAll : Driven → List Event → Type 0
 TellsAll it events = Asks events it.before it.after × Records it.shelf.name (recorded events) it.shelf.old it.shelf.new
@@ -165,6 +170,27 @@ abbrev pub CutsShort : Program → Manner → (fault : End) → Driven → (old 
 CutsShort program how fault it old new (Halted halt) =
     EndsEarly (MayDrive program how fault (wire_until halt it)) (IsUntold it) old new halt
 CutsShort program how fault it old new Unrecorded = StopsRecording program how it old new
+
+-- ---- a drive
+-- A program was driven over a wire, which `was` so before it and `is` so after it; `sink` and `late` are the sink before and after it.
+pub record Drives {W : Type 0} (o : Outside W) (program : Program) (how : Manner) (fault : End) (was is : W) (sink late : SinkSeen)
+    (result : Result ℕ Halt) : Type 0 where
+  -- all that may be written of the run was written, with its status
+  pub ok : IfOk result (WritesWhole
+      (MayDrive program how fault (over_all (o.seen was) (o.seen is) (Undisturbed (o.fails was) (o.quiet was is)))) sink late)
+  -- or a front of it
+  pub err : IfErr result (λ halt. EndsEarly
+      (MayDrive program how fault (over_front halt (o.seen was) (o.seen is) (Undisturbed (o.fails was) (o.quiet was is))))
+      (IsUnbegun (o.quiet was is) (o.seen was) (o.seen is)) sink late halt)
+  -- what stays of the wire from call to call
+  pub keeps : o.keeps was is
+
+-- the same of a run that may be recorded
+pub record DrivesRecorded {W : Type 0} (o : Outside W) (program : Program) (how : Manner) (fault : End) (was is : W) (shelf : Recording)
+    (same : Type 0) (sink late : SinkSeen) (result : Result ℕ Cut) : Type 0 where
+  pub ok : IfOk result (WritesWhole (MayTell program how fault (driven_by o was is shelf same)) sink late)
+  pub err : IfErr result (CutsShort program how fault (driven_by o was is shelf same) sink late)
+  pub keeps : o.keeps was is
 
 -- ---- the last turn
 -- how a run ends that may make no further turn

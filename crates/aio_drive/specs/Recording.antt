@@ -1,5 +1,5 @@
 -- What a turn leaves that is recorded and written, where that stopped.
-use Rattle.std.specs.Prelude.{◌≡◌, ◌==◌, ℕ, ◌-◌, ◌^◌, Bool, true, false, List, [], ◌++◌, Option, Result, IfOk, IfErr, OnOk}
+use Rattle.std.specs.Prelude.{◌≡◌, ◌==◌, ℕ, ◌-◌, ◌^◌, Bool, true, false, List, [], ◌++◌, Option, None, Result, IfOk, IfErr, OnOk}
 use Rattle.model_wire.specs.declared.event.End.TheVariants as end
 use Rattle.model_wire.specs.Event.{Event}
 use Rattle.model_wire.specs.Journal.{Entry}
@@ -9,11 +9,13 @@ use Rattle.model_machine.specs.Outcomes.{end_of}
 use Rattle.model_machine.specs.State.{State}
 use Rattle.model_program.specs.Written.{IsFrontOf}
 use Rattle.model_commands.specs.Recorded.{FailsRecording, Records, recorded}
+use Rattle.aio_wire.specs.Outside.{Outside}
+use Rattle.aio_wire.specs.Replied.{Stays}
 use Rattle.aio_wire.specs.declared.stop.Stop.TheVariants as stop
 use Rattle.aio_extra.specs.Nothing.{nothing_added}
 use Rattle.aio_extra.specs.declared.nothing.NoExtra.{NoExtra}
-use Rattle.aio_core.specs.Turned.{StandsFor, TurnedBy, untaken}
-use Rattle.aio_core.specs.Turning.{WireTurn}
+use Rattle.aio_core.specs.Turned.{StandsFor, TurnedBy, ended, untaken}
+use Rattle.aio_core.specs.Turning.{WireTurn, wire_turn}
 use Rattle.aio_core.specs.declared.kernel.Kernel.{Kernel}
 use Rattle.aio_core.specs.declared.went.Went.{Went}
 use Rattle.aio_core.specs.declared.went.Went.TheVariants as went
@@ -102,3 +104,12 @@ pub record TellsTurn {g : _} (trace : Bool) (fault : End) (wire : WireTurn) (she
   pub ok : IfOk result (λ status. WroteTurn fault (lines_of_events trace (untaken mid)) sink late status went)
   pub err : IfErr result (λ cut. CutsTurn shelf (telling trace fault (untaken mid)) sink late cut went)
   pub refused : is_refused went ≡ true → same
+
+-- The next turn was made over a wire, which `was` so before it and `is` so after it, and told.
+pub record TellsNext {W : Type 0} {g : _} (o : Outside W) (trace : Bool) (fault : End) (was is : W) (shelf : Recording) (same : Type 0)
+    (sink late : SinkSeen) (old new : Kernel NoExtra g) (result : Result (Option ℕ) Cut) : Type 0 where
+  -- where the run hadn't ended
+  pub turned : ended old ≡ None → TellsTurn trace fault (wire_turn o was is) shelf same sink late old new result
+  -- what stays of the wire; and whether its answers fit, which stays, with its count of faults, which didn't fall
+  pub keeps : o.keeps was is
+  pub stays : Stays (o.seen was) (o.seen is)

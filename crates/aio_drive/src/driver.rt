@@ -1,14 +1,11 @@
 //! The one loop that holds kernel, wire and sink.
-ghost use Rattle.std.specs.Prelude.{◌≡◌, ◌≤◌, None, IfOk, IfErr};
+ghost use Rattle.std.specs.Prelude.{◌≡◌, ◌≤◌, None};
 ghost use Rattle.std.specs.Option.{option_copied};
 ghost use Rattle.model_tree.specs.Syntax.{Program};
-ghost use Rattle.model_program.specs.Written.{WritesWhole};
-ghost use Rattle.aio_wire.specs.Replied.{Stays};
 ghost use Rattle.aio_extra.specs.Nothing.{nothing_added};
 ghost use Rattle.aio_core.specs.Turned.{Begins, ended};
-ghost use Rattle.aio_drive.specs.Drive.{CutsShort, IsUnbegun, LastOf, MayDrive, MayTell, Undisturbed, WritesLimit, driven_over, over_all, over_front};
-ghost use Rattle.aio_drive.specs.Recording.{TellsTurn};
-ghost use Rattle.aio_drive.specs.Outcome.{EndsEarly};
+ghost use Rattle.aio_drive.specs.Drive.{Drives, DrivesRecorded, LastOf, WritesLimit};
+ghost use Rattle.aio_drive.specs.Recording.{TellsNext};
 
 use crate::cut::Cut;
 use crate::halt::Halt;
@@ -39,16 +36,8 @@ pub fn drive<W: Wire, K: Sink>(
     out: &mut K,
 ) -> Result<u8, Halt>
     requires some { 1 ≤ manner.turns }
-    ensures ok { IfOk result (WritesWhole
-        (MayDrive program.now manner fault.now (over_all (W.seen wire.old) (W.seen wire.new)
-        (Undisturbed (W.fails wire.old) (W.quiet wire.old wire.new))))
-        (K.seen out.old) (K.seen out.new)) }
-    ensures err { IfErr result (λ halt. EndsEarly
-        (MayDrive program.now manner fault.now (over_front halt (W.seen wire.old) (W.seen wire.new)
-        (Undisturbed (W.fails wire.old) (W.quiet wire.old wire.new))))
-        (IsUnbegun (W.quiet wire.old wire.new) (W.seen wire.old) (W.seen wire.new))
-        (K.seen out.old) (K.seen out.new) halt) }
-    ensures keeps { W.keeps wire.old wire.new }
+    ensures { Drives W.outside program.now manner fault.now wire.old wire.new (K.seen out.old)
+        (K.seen out.new) result }
 {
     match drive_recorded(alloc, program, manner, fault, wire, None, &mut NoShelf, out) {
         Ok(status) => Ok(status),
@@ -70,28 +59,13 @@ pub fn drive_recorded<W: Wire, F: Shelf, K: Sink>(
     out: &mut K,
 ) -> Result<u8, Cut>
     requires some { 1 ≤ manner.turns }
-    ensures ok { IfOk result (WritesWhole
-        (MayTell program.now manner fault.now
-        (driven_over (W.seen wire.old) (W.seen wire.new) (W.fails wire.old)
-        (W.quiet wire.old wire.new)
+    ensures { DrivesRecorded W.outside program.now manner fault.now wire.old wire.new
         (record {
           name = option_copied journal.entry;
           old = F.seen shelf.old;
           new = F.seen shelf.new;
         })
-        (shelf.new ≡ shelf.old)))
-        (K.seen out.old) (K.seen out.new)) }
-    ensures err { IfErr result (CutsShort program.now manner fault.now
-        (driven_over (W.seen wire.old) (W.seen wire.new) (W.fails wire.old)
-        (W.quiet wire.old wire.new)
-        (record {
-          name = option_copied journal.entry;
-          old = F.seen shelf.old;
-          new = F.seen shelf.new;
-        })
-        (shelf.new ≡ shelf.old))
-        (K.seen out.old) (K.seen out.new)) }
-    ensures keeps { W.keeps wire.old wire.new }
+        (shelf.new ≡ shelf.old) (K.seen out.old) (K.seen out.new) result }
 {
     match Kernel::new(alloc, program, NoExtra) {
         Ok(mut kernel) => {
@@ -117,30 +91,15 @@ fn drive_kernel<W: Wire, F: Shelf, K: Sink>(
     out: &mut K,
 ) -> Result<u8, Cut>
     requires some { 1 ≤ manner.turns }
-    ensures ok { (program : Program) → Begins nothing_added tt program kernel.old
-        → IfOk result (WritesWhole
-        (MayTell program manner fault.now
-        (driven_over (W.seen wire.old) (W.seen wire.new) (W.fails wire.old)
-        (W.quiet wire.old wire.new)
+    ensures drives { (program : Program) → Begins nothing_added tt program kernel.old
+        → DrivesRecorded W.outside program manner fault.now wire.old wire.new
         (record {
           name = option_copied journal.entry;
           old = F.seen shelf.old;
           new = F.seen shelf.new;
         })
-        (shelf.new ≡ shelf.old)))
-        (K.seen out.old) (K.seen out.new)) }
-    ensures err { (program : Program) → Begins nothing_added tt program kernel.old
-        → IfErr result (CutsShort program manner fault.now
-        (driven_over (W.seen wire.old) (W.seen wire.new) (W.fails wire.old)
-        (W.quiet wire.old wire.new)
-        (record {
-          name = option_copied journal.entry;
-          old = F.seen shelf.old;
-          new = F.seen shelf.new;
-        })
-        (shelf.new ≡ shelf.old))
-        (K.seen out.old) (K.seen out.new)) }
-    ensures keeps { W.keeps wire.old wire.new }
+        (shelf.new ≡ shelf.old) (K.seen out.old) (K.seen out.new) result }
+    ensures keeps { W.outside.keeps wire.old wire.new }
 {
     for _made in 0..manner.turns {
         match tell_next(
@@ -176,21 +135,13 @@ fn tell_next<W: Wire, F: Shelf, K: Sink>(
     shelf: &mut F,
     out: &mut K,
 ) -> Result<Option<u8>, Cut>
-    ensures turned { ended kernel.old ≡ None → TellsTurn trace fault.now
-        (record {
-          before = W.seen wire.old;
-          after = W.seen wire.new;
-          fails = W.fails wire.old;
-          quiet = W.quiet wire.old wire.new;
-        })
+    ensures { TellsNext W.outside trace fault.now wire.old wire.new
         (record {
           name = option_copied journal.entry;
           old = F.seen shelf.old;
           new = F.seen shelf.new;
         })
         (shelf.new ≡ shelf.old) (K.seen out.old) (K.seen out.new) kernel.old kernel.new result }
-    ensures keeps { W.keeps wire.old wire.new }
-    ensures stays { Stays (W.seen wire.old) (W.seen wire.new) }
 {
     let went = kernel.turn(alloc, wire);
     let events = kernel.events();

@@ -4,12 +4,12 @@ use Rattle.model_wire.specs.declared.event.Event.TheVariants as event
 use Rattle.model_wire.specs.Call.{Call}
 use Rattle.model_wire.specs.Event.{Event}
 use Rattle.aio_wire.specs.EventList.{EventList}
+use Rattle.aio_wire.specs.Outside.{Outside}
 use Rattle.aio_wire.specs.declared.wire.Reply.{Reply}
 use Rattle.aio_wire.specs.declared.wire.Reply.TheVariants as reply
-use Rattle.aio_wire.specs.Port.{events_after}
+use Rattle.aio_wire.specs.Port.{Ported, events_after, ported}
 use Rattle.aio_exchange.specs.Among.{AreTold, ExchangedOn, asks_among, no_events, noted_last, told_by, told_last, told_of}
 use Rattle.aio_exchange.specs.Exchanged.{Exchange, Exchanged, Last, All, Met, Starved, Notes, Unasked, noted_by}
-use Rattle.aio_exchange.specs.Outside.{IsOutside, Outside, Ported, ported}
 use Rattle.aio_exchange.proofs.Exchanging.{exchanged_none, exchanged_starved, exchanged_then, noted-adds, noted-append}
 
 -- ---- the wire
@@ -50,21 +50,20 @@ module _ {W : Type 0} (o : Outside W) where
   pub on_wire : (had : List Exchange) (last : Last) (old new : Ported W) → Exchanged o had last old new → ExchangedOn o had last old.wire new.wire
   on_wire had last old new x = relisted had last old.wire new.wire old.events new.events no_events x
 
-  module _ (laws : IsOutside o) where
-    pub on_none : (wire : W) → ExchangedOn o [] All wire wire
-    on_none wire = exchanged_none o laws (ported wire no_events)
+  pub on_none : (wire : W) → ExchangedOn o [] All wire wire
+  on_none wire = exchanged_none o (ported wire no_events)
 
-    pub on_starved : (had : List Exchange) (old new : W) → ExchangedOn o had All old new → ExchangedOn o had Starved old new
-    on_starved had old new x = exchanged_starved o laws had (ported old no_events) (ported new (noted_by had no_events)) x
+  pub on_starved : (had : List Exchange) (old new : W) → ExchangedOn o had All old new → ExchangedOn o had Starved old new
+  on_starved had old new x = exchanged_starved o had (ported old no_events) (ported new (noted_by had no_events)) x
 
-    pub on_then : (xs ys : List Exchange) (last : Last) (old mid new : W) → ExchangedOn o xs All old mid → ExchangedOn o ys last mid new
-        → ExchangedOn o (xs ++ ys) last old new
-    on_then xs ys last old mid new first second =
-        subst (λ (e : EventList). Exchanged o (xs ++ ys) last (ported old no_events) (ported new (noted_last last e)))
-        (sym (noted-append xs ys no_events))
-        (exchanged_then o laws xs ys (ported old no_events) (ported mid (noted_by xs no_events))
-        (ported new (noted_last last (noted_by ys (noted_by xs no_events)))) first last
-        (relisted ys last mid new no_events (noted_last last (noted_by ys no_events)) (noted_by xs no_events) second))
+  pub on_then : (xs ys : List Exchange) (last : Last) (old mid new : W) → ExchangedOn o xs All old mid → ExchangedOn o ys last mid new
+      → ExchangedOn o (xs ++ ys) last old new
+  on_then xs ys last old mid new first second =
+      subst (λ (e : EventList). Exchanged o (xs ++ ys) last (ported old no_events) (ported new (noted_last last e)))
+      (sym (noted-append xs ys no_events))
+      (exchanged_then o xs ys (ported old no_events) (ported mid (noted_by xs no_events))
+      (ported new (noted_last last (noted_by ys (noted_by xs no_events)))) first last
+      (relisted ys last mid new no_events (noted_last last (noted_by ys no_events)) (noted_by xs no_events) second))
 
 -- ---- the events
 pub asks-append : (xs ys : List Event) → asks_among (xs ++ ys) ≡ asks_among xs ++ asks_among ys

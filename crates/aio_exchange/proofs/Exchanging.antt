@@ -12,13 +12,13 @@ use Rattle.model_wire.specs.Fits.{fits}
 use Rattle.model_wire.specs.Journal.{Entry, Answered}
 use Rattle.model_wire.specs.Told.{Agrees, Rose}
 use Rattle.aio_wire.specs.EventList.{EventList}
-use Rattle.aio_wire.specs.Port.{events_after}
+use Rattle.aio_wire.specs.Outside.{Outside}
+use Rattle.aio_wire.specs.Port.{Ported, events_after}
 use Rattle.aio_wire.specs.Told.{refused_of}
 use Rattle.aio_wire.specs.declared.wire.Reply.TheVariants as reply
 use Rattle.aio_exchange.specs.Exchanged.{Besides, Exchange, Exchanged, FailsIfRose, IsFailing, Last, All, Met, Starved, Leaves, Notes, Takes}
 use Rattle.aio_exchange.specs.Exchanged.{TellsBytes, TellsCalls, Unasked, UnlessFailed, asked_by, bytes_last, bytes_to, calls_of}
 use Rattle.aio_exchange.specs.Exchanged.{entries_of, handed_to, noted_by}
-use Rattle.aio_exchange.specs.Outside.{IsOutside, Outside, Ported}
 
 -- ---- nothing is asked
 pub asked_none : (told : Option (List Call)) → told ≡ asked_by [] told
@@ -76,7 +76,7 @@ pub agreed : (told : Option (List Entry)) → (rest : List Entry) × Agrees told
 agreed None = ([], λ held e. absurd (cc e))
 agreed (Some entries) = (entries, λ held e. cc)
 
-module _ {W : Type 0} (o : Outside W) (laws : IsOutside o) where
+module _ {W : Type 0} (o : Outside W) where
   -- ---- no ask
   pub exchanged_none : (at : Ported W) → Exchanged o [] All at at
   exchanged_none at = record {
@@ -93,8 +93,8 @@ module _ {W : Type 0} (o : Outside W) (laws : IsOutside o) where
     failed = tt;
     stays = (refl, omega arith);
     failing = λ h. (refl, tt);
-    keeps = laws.keeps_same at.wire;
-    still = laws.quiet_same at.wire;
+    keeps = o.keeps_same at.wire;
+    still = o.quiet_same at.wire;
   }
 
   -- memory was refused after them
@@ -232,12 +232,12 @@ module _ {W : Type 0} (o : Outside W) (laws : IsOutside o) where
     failed_on Starved f = tt
 
     still_on : (last : Last) → UnlessFailed (o.quiet mid.wire new.wire) last → UnlessFailed (o.quiet old.wire new.wire) last
-    still_on All q = laws.quiet_on old.wire mid.wire new.wire first.still q
-    still_on (Met call (reply.Got answer)) q = laws.quiet_on old.wire mid.wire new.wire first.still q
-    still_on (Met call reply.Over) q = laws.quiet_on old.wire mid.wire new.wire first.still q
-    still_on (Met call (reply.Bad fault)) q = laws.quiet_on old.wire mid.wire new.wire first.still q
+    still_on All q = o.quiet_on old.wire mid.wire new.wire first.still q
+    still_on (Met call (reply.Got answer)) q = o.quiet_on old.wire mid.wire new.wire first.still q
+    still_on (Met call reply.Over) q = o.quiet_on old.wire mid.wire new.wire first.still q
+    still_on (Met call (reply.Bad fault)) q = o.quiet_on old.wire mid.wire new.wire first.still q
     still_on (Met call reply.Failed) q = tt
-    still_on Starved q = laws.quiet_on old.wire mid.wire new.wire first.still q
+    still_on Starved q = o.quiet_on old.wire mid.wire new.wire first.still q
 
     failing_on : (last : Last) → (o.fails mid.wire → (ys ≡ []) × IsFailing last) → o.fails old.wire → ((xs ++ ys) ≡ []) × IsFailing last
     failing_on last f h =
@@ -260,6 +260,6 @@ module _ {W : Type 0} (o : Outside W) (laws : IsOutside o) where
       failed = failed_on last second.failed;
       stays = (second.stays.0 ∙ first.stays.0, omega (arith, first.stays.1, second.stays.1));
       failing = failing_on last second.failing;
-      keeps = laws.keeps_on old.wire mid.wire new.wire first.keeps second.keeps;
+      keeps = o.keeps_on old.wire mid.wire new.wire first.keeps second.keeps;
       still = still_on last second.still;
     }

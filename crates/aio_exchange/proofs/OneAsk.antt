@@ -8,7 +8,8 @@ use Rattle.model_wire.specs.declared.event.Handed.{Handed}
 use Rattle.model_wire.specs.Call.{Call, Answer}
 use Rattle.model_wire.specs.Event.{Event, handed_by}
 use Rattle.model_wire.specs.Fits.{fits}
-use Rattle.aio_wire.specs.Port.{AlwaysFails, Exchanges, StopsShort, UnlessStopped, events_after, outcome_of}
+use Rattle.aio_wire.specs.Outside.{Outside}
+use Rattle.aio_wire.specs.Port.{AlwaysFails, Exchanges, PortAsked, Ported, StopsShort, UnlessStopped, events_after, outcome_of}
 use Rattle.aio_wire.specs.Replied.{MayHaveReplied, Replied, Stays, asked_after, handed_after}
 use Rattle.aio_wire.specs.declared.stop.Stop.{Stop}
 use Rattle.aio_wire.specs.declared.stop.Stop.TheVariants as stop
@@ -16,7 +17,6 @@ use Rattle.aio_wire.specs.declared.wire.Reply.{Reply}
 use Rattle.aio_wire.specs.declared.wire.Reply.TheVariants as reply
 use Rattle.aio_exchange.specs.Exchanged.{AsksOne, EndsSo, Exchanged, FailsIfRose, IsFailing, IsFitting, IsNoAnswer, IsOneMore, All, Met, Starved, Leaves}
 use Rattle.aio_exchange.specs.Exchanged.{UnlessFailed, asked_by, bytes_last, handed_to}
-use Rattle.aio_exchange.specs.Outside.{Outside, Ported}
 use Rattle.aio_exchange.proofs.Exchanging.{agreed, asked_none, handed_none}
 
 module _ {W : Type 0} (o : Outside W) (call : Call) (old new : Ported W)
@@ -217,15 +217,15 @@ module _ {W : Type 0} (o : Outside W) (call : Call) (old new : Ported W)
       }
 
   -- by what came of it
-  pub asks_one : (result : Result Answer Stop)
+  comes_of : (result : Result Answer Stop)
       → ((said : Reply) × Exchanges call old.events new.events result said × Replied call (o.seen old.wire) (o.seen new.wire) said)
       ⊎ (StopsShort old.events new.events result × MayHaveReplied call (o.seen old.wire) (o.seen new.wire))
       → (o.fails old.wire → AlwaysFails call result) → UnlessStopped (o.quiet old.wire new.wire) result
       → AsksOne o call old new result
-  asks_one (Ok answer) (inr short) fails quiet = absurd (let x = short.0.0 in cc)
-  asks_one (Err why) (inr short) fails quiet = starves why (same_stop why stop.Memory short.0.0) short.0.1 short.1 (fails, quiet)
-  asks_one (Err why) (inl (said, exchanged, replied)) fails quiet = stops_with said exchanged.0 replied why exchanged.1 (fails, quiet)
-  asks_one (Ok answer) (inl (said, exchanged, replied)) fails quiet = at said exchanged.0 exchanged.1 replied
+  comes_of (Ok answer) (inr short) fails quiet = absurd (let x = short.0.0 in cc)
+  comes_of (Err why) (inr short) fails quiet = starves why (same_stop why stop.Memory short.0.0) short.0.1 short.1 (fails, quiet)
+  comes_of (Err why) (inl (said, exchanged, replied)) fails quiet = stops_with said exchanged.0 replied why exchanged.1 (fails, quiet)
+  comes_of (Ok answer) (inl (said, exchanged, replied)) fails quiet = at said exchanged.0 exchanged.1 replied
     where
       fit : (it : Answer) (b : Bool) → fits call it ≡ b → Ok answer ≡ (if b then Ok it else Err (stop.Mismatch new.events.answers call))
           → new.events ≡ events_after old.events call (reply.Got it) → Replied call (o.seen old.wire) (o.seen new.wire) (reply.Got it)
@@ -242,3 +242,8 @@ module _ {W : Type 0} (o : Outside W) (call : Call) (old new : Ported W)
       at reply.Over noted e replied = absurd (cc)
       at (reply.Bad fault) noted e replied = absurd (cc)
       at reply.Failed noted e replied = absurd (cc)
+
+-- a port's ask is one exchange
+pub asks_one : {W : Type 0} (o : Outside W) (call : Call) (old new : Ported W) (result : Result Answer Stop) → PortAsked o call old new result
+    → AsksOne o call old new result
+asks_one o call old new result it = comes_of o call old new it.stays it.keeps result it.asks it.fails it.quiet

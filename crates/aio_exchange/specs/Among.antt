@@ -5,11 +5,11 @@ use Rattle.model_wire.specs.declared.event.Event.TheVariants as event
 use Rattle.model_wire.specs.Call.{Call}
 use Rattle.model_wire.specs.Event.{Event}
 use Rattle.aio_wire.specs.EventList.{EventList}
-use Rattle.aio_wire.specs.Port.{events_after}
+use Rattle.aio_wire.specs.Outside.{Outside}
+use Rattle.aio_wire.specs.Port.{events_after, ported}
 use Rattle.aio_wire.specs.declared.wire.Reply.{Reply}
 use Rattle.aio_wire.specs.declared.wire.Reply.TheVariants as reply
 use Rattle.aio_exchange.specs.Exchanged.{Exchange, Exchanged, Last, All, Met, Starved, noted_by}
-use Rattle.aio_exchange.specs.Outside.{Outside, ported}
 
 -- ---- the wire
 abbrev pub no_events : EventList

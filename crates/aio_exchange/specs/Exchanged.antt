@@ -8,14 +8,14 @@ use Rattle.model_wire.specs.Fits.{fits}
 use Rattle.model_wire.specs.Journal.{Entry, Answered}
 use Rattle.model_wire.specs.Told.{Agrees, Rose, WireSeen}
 use Rattle.aio_wire.specs.EventList.{EventList}
-use Rattle.aio_wire.specs.Port.{events_after}
+use Rattle.aio_wire.specs.Outside.{Outside}
+use Rattle.aio_wire.specs.Port.{Ported, events_after}
 use Rattle.aio_wire.specs.Replied.{EndsAs, Stays}
 use Rattle.aio_wire.specs.Told.{refused_of}
 use Rattle.aio_wire.specs.declared.stop.Stop.{Stop}
 use Rattle.aio_wire.specs.declared.stop.Stop.TheVariants as stop
 use Rattle.aio_wire.specs.declared.wire.Reply.{Reply}
 use Rattle.aio_wire.specs.declared.wire.Reply.TheVariants as reply
-use Rattle.aio_exchange.specs.Outside.{Outside, Ported}
 
 -- a call that had an answer, which fits
 pub record Exchange : Type 0 where

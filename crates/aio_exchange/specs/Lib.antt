@@ -1,3 +1,2 @@
 pub mod Exchanged
 pub mod Among
-pub mod Outside

@@ -1,7 +1,7 @@
 //! One ask.
 ghost use Rattle.std.specs.Prelude.{◌≡◌};
+ghost use Rattle.aio_wire.specs.Port.{ported};
 ghost use Rattle.aio_exchange.specs.Exchanged.{AsksOne};
-ghost use Rattle.aio_exchange.specs.Outside.{outside_of, ported};
 
 use aio_wire::{Answer, Call, Port, Stop, Wire};
 use std::alloc::Global;
@@ -10,7 +10,7 @@ use std::alloc::Global;
 pub fn ask<W: Wire>(port: &mut Port<W>, alloc: Global, call: Call) -> Result<Answer, Stop>
     ensures wire_name { port.new.wire.ghost_name ≡ port.old.wire.ghost_name }
     ensures events_name { port.new.events.ghost_name ≡ port.old.events.ghost_name }
-    ensures asks { AsksOne (outside_of W.seen W.fails W.keeps W.quiet) call
+    ensures asks { AsksOne W.outside call
         (ported port.old.wire.now port.old.events.now)
         (ported port.new.wire.now port.new.events.now) result }
 {

@@ -12,10 +12,10 @@ use Rattle.model_stream.specs.Connections.{Connection, accepted}
 use Rattle.model_stream.specs.Doing.{Doing, Ends, Changes, Asks, MakeFuture, CallSoon, and_then}
 use Rattle.model_stream.specs.Listeners.{Server}
 use Rattle.model_stream.specs.Streams.{Streams, OpenedConn, accept, accept_most, add_connection, may_connect, most_accepts, readable_server}
+use Rattle.aio_wire.specs.Outside.{Outside}
 use Rattle.aio_wire.specs.declared.stop.Stop.{Stop}
 use Rattle.aio_wire.specs.declared.stop.Stop.TheVariants as stop
 use Rattle.aio_exchange.specs.Exchanged.{AsksOne}
-use Rattle.aio_exchange.specs.Outside.{IsOutside, Outside}
 use Rattle.law_doing.specs.Follows.{Follows, Reach, after_of}
 use Rattle.law_doing.proofs.Following.{follows_ends, follows_starved, follows_then, follows_unless, follows_where}
 use Rattle.law_doing.proofs.Telling.{tells_changed, tells_ends, tells_follow}
@@ -113,9 +113,9 @@ module _ (handler : ℕ) (k after : Kept) (closed id : ℕ) (old first second ne
           (subst (λ (f : ℕ). IsOwn (seen_changed MakeFuture old) f) (sym number) (own_made old)))
 
 -- ---- it accepts until another answer comes
-module _ {W : Type 0} (o : Outside W) (laws : IsOutside o) (server handler : ℕ) (k : Kept) where
+module _ {W : Type 0} (o : Outside W) (server handler : ℕ) (k : Kept) where
   none_left : (next : ℕ) (at : Reach View W) → Comes {R = Unit {0}} o (accept_most zero server handler next) k k at at (Ok tt)
-  none_left next at s h = (s, (follows_ends o laws seen_changed s at, (h, refl)))
+  none_left next at s h = (s, (follows_ends o seen_changed s at, (h, refl)))
 
   room_same : (s : Streams) → StandsFor k s → (b : Bool) → may_connect_kept k ≡ b → may_connect s ≡ b
   room_same s h b e =
@@ -132,8 +132,8 @@ module _ {W : Type 0} (o : Outside W) (laws : IsOutside o) (server handler : ℕ
   no_room (suc more) next at e s h = (
     s,
     (
-      follows_unless o laws seen_changed (may_connect s) (Asks (call.Accept server) (round more next s)) (Ends s) at at (Ok s)
-          (room_same s h false e) (follows_ends o laws seen_changed s at),
+      follows_unless o seen_changed (may_connect s) (Asks (call.Accept server) (round more next s)) (Ends s) at at (Ok s)
+          (room_same s h false e) (follows_ends o seen_changed s at),
       (h, refl),
     ),
   )
@@ -149,7 +149,7 @@ module _ {W : Type 0} (o : Outside W) (laws : IsOutside o) (server handler : ℕ
         → Follows o seen_changed (Asks (call.Accept server) (round more next s)) old new result
         → Follows o seen_changed (accept_most (suc more) server handler next s) old new result
     in_round s h new result f =
-        follows_where o laws seen_changed (may_connect s) (Asks (call.Accept server) (round more next s)) (Ends s) old new result
+        follows_where o seen_changed (may_connect s) (Asks (call.Accept server) (round more next s)) (Ends s) old new result
         (room_same s h true room) f
 
     pub round_met : (after : Kept) (why : Stop) → AsksOne o (call.Accept server) old.port mid.port (Err why)
@@ -158,7 +158,7 @@ module _ {W : Type 0} (o : Outside W) (laws : IsOutside o) (server handler : ℕ
       s,
       (
         in_round s h mid (Err why)
-            (asks_met o laws (call.Accept server) (call.Accept server) (round more next s) refl why old mid one parts),
+            (asks_met o (call.Accept server) (call.Accept server) (round more next s) refl why old mid one parts),
         tt,
       ),
     )
@@ -169,16 +169,16 @@ module _ {W : Type 0} (o : Outside W) (laws : IsOutside o) (server handler : ℕ
           → Follows o seen_changed (accept_most (suc more) server handler next s) old new result
       answered s h new result f =
           in_round s h new result
-          (asks_on o laws (call.Accept server) (call.Accept server) (round more next s) refl came old mid new result one parts f)
+          (asks_on o (call.Accept server) (call.Accept server) (round more next s) refl came old mid new result one parts f)
 
       -- no more came
       pub round_over : is_conn came ≡ false → Comes {R = Unit {0}} o (accept_most (suc more) server handler next) k k old mid (Ok tt)
       round_over e s h = (
         s,
         (
-          answered s h mid (Ok s) (follows_unless o laws seen_changed (is_conn came)
+          answered s h mid (Ok s) (follows_unless o seen_changed (is_conn came)
               (and_then (accept handler next s) (accept_most more server handler (next + 1))) (Ends s) mid mid (Ok s) e
-              (follows_ends o laws seen_changed s mid)),
+              (follows_ends o seen_changed s mid)),
           (h, refl),
         ),
       )
@@ -187,7 +187,7 @@ module _ {W : Type 0} (o : Outside W) (laws : IsOutside o) (server handler : ℕ
       pub round_starved : (after : Kept) (new : Reach View W) → new.port ≡ mid.port
           → Comes {R = Unit {0}} o (accept_most (suc more) server handler next) k after old new (Err stop.Memory)
       round_starved after new port s h =
-          (s, (answered s h new (Err stop.Memory) (follows_starved o laws seen_changed (round more next s came) mid new port), tt))
+          (s, (answered s h new (Err stop.Memory) (follows_starved o seen_changed (round more next s came) mid new port), tt))
 
       pub round_on : {R : Type 0} (between after : Kept) (third new : Reach View W) (result : Result R Stop) → is_conn came ≡ true
           → Told (accept handler next) k between mid.parts third.parts → third.port ≡ mid.port
@@ -200,16 +200,16 @@ module _ {W : Type 0} (o : Outside W) (laws : IsOutside o) (server handler : ℕ
             then_so.0,
             (
               answered s h new (after_of then_so.0 result)
-                  (follows_where o laws seen_changed (is_conn came) (and_then (accept handler next s) rest) (Ends s) mid new
+                  (follows_where o seen_changed (is_conn came) (and_then (accept handler next s) rest) (Ends s) mid new
                   (after_of then_so.0 result) e
-                  (follows_then o laws seen_changed (accept handler next s) rest first.0 mid third new (after_of then_so.0 result)
-                  (tells_follow seen_changed o laws (accept handler next s) mid third first.0 first.1.0 port) then_so.1.0)),
+                  (follows_then o seen_changed (accept handler next s) rest first.0 mid third new (after_of then_so.0 result)
+                  (tells_follow seen_changed o (accept handler next s) mid third first.0 first.1.0 port) then_so.1.0)),
               stands_on after s first.0 then_so.0 result first.1.1.1 then_so.1.1,
             ),
           )
 
 -- ---- `readable` of a listener
-module _ {W : Type 0} (o : Outside W) (laws : IsOutside o) (id next : ℕ) (k : Kept) where
+module _ {W : Type 0} (o : Outside W) (id next : ℕ) (k : Kept) where
   abbrev accepts_by : Streams → Option Server → Doing Streams
   accepts_by s it = elim it [
     | None ↦ Ends s
@@ -223,7 +223,7 @@ module _ {W : Type 0} (o : Outside W) (laws : IsOutside o) (id next : ℕ) (k : 
   no_listener at none s h = (
     s,
     (
-      subst (λ it. Follows o seen_changed (accepts_by s it) at at (Ok s)) (listener_there None none s h) (follows_ends o laws seen_changed s at),
+      subst (λ it. Follows o seen_changed (accepts_by s it) at at (Ok s)) (listener_there None none s h) (follows_ends o seen_changed s at),
       (h, refl),
     ),
   )
@@ -238,8 +238,8 @@ module _ {W : Type 0} (o : Outside W) (laws : IsOutside o) (id next : ℕ) (k : 
     listener_closed at e s h = (
       s,
       (
-        by_listener s h at at (Ok s) (follows_unless o laws seen_changed server.is_open (accept_most most_accepts id server.handler next s)
-            (Ends s) at at (Ok s) e (follows_ends o laws seen_changed s at)),
+        by_listener s h at at (Ok s) (follows_unless o seen_changed server.is_open (accept_most most_accepts id server.handler next s)
+            (Ends s) at at (Ok s) e (follows_ends o seen_changed s at)),
         (h, refl),
       ),
     )
@@ -251,7 +251,7 @@ module _ {W : Type 0} (o : Outside W) (laws : IsOutside o) (id next : ℕ) (k : 
         let it = goes s h in (
           it.0,
           (
-            by_listener s h old new (after_of it.0 result) (follows_where o laws seen_changed server.is_open
+            by_listener s h old new (after_of it.0 result) (follows_where o seen_changed server.is_open
                 (accept_most most_accepts id server.handler next s) (Ends s) old new (after_of it.0 result) e it.1.0),
             it.1.1,
           ),

@@ -8,10 +8,10 @@ use Rattle.model_stream.specs.Answers.{is_conn}
 use Rattle.model_stream.specs.Connections.{Connection, connecting}
 use Rattle.model_stream.specs.Doing.{Ends, Changes, MakeFuture}
 use Rattle.model_stream.specs.Streams.{Streams, add_connection, begun, connect}
+use Rattle.aio_wire.specs.Outside.{Outside}
 use Rattle.aio_wire.specs.declared.stop.Stop.{Stop}
 use Rattle.aio_wire.specs.declared.stop.Stop.TheVariants as stop
 use Rattle.aio_exchange.specs.Exchanged.{AsksOne}
-use Rattle.aio_exchange.specs.Outside.{IsOutside, Outside}
 use Rattle.law_doing.specs.Follows.{Follows, Reach}
 use Rattle.law_doing.proofs.Following.{follows_ends, follows_unless, follows_where}
 use Rattle.law_doing.proofs.Telling.{tells_changed, tells_end, tells_follow}
@@ -79,26 +79,26 @@ module _ (k after : Kept) (closed on id : ℕ) (old first new : View) (closed_is
       the_connect = to_new on (subst (λ (f : ℕ). IsOwn (seen_changed MakeFuture first) f) (sym on_is) (own_made first))
 
 -- ---- `connect`
-module _ {W : Type 0} (o : Outside W) (laws : IsOutside o) (number next : ℕ) (k : Kept) (old mid : Reach View W) where
+module _ {W : Type 0} (o : Outside W) (number next : ℕ) (k : Kept) (old mid : Reach View W) where
   pub connect_met : (after : Kept) (why : Stop) → AsksOne o (call.Connect number) old.port mid.port (Err why) → mid.parts ≡ old.parts
       → Answers {R = Option (ℕ × ℕ)} o (connect number next) k after old mid (Err why)
   connect_met after why one parts s h =
-      (s, (asks_met o laws (call.Connect number) (call.Connect number) (begun next s) refl why old mid one parts, tt))
+      (s, (asks_met o (call.Connect number) (call.Connect number) (begun next s) refl why old mid one parts, tt))
 
   module _ (came : Answer) (one : AsksOne o (call.Connect number) old.port mid.port (Ok came)) (parts : mid.parts ≡ old.parts) where
     comes_on : (s : Streams) (new : Reach View W) (result : Result (Streams × Option (ℕ × ℕ)) Stop)
         → Follows o seen_changed (begun next s came) mid new result
         → Follows o seen_changed (connect number next s) old new result
-    comes_on s new result f = asks_on o laws (call.Connect number) (call.Connect number) (begun next s) refl came old mid new result one parts f
+    comes_on s new result f = asks_on o (call.Connect number) (call.Connect number) (begun next s) refl came old mid new result one parts f
 
     -- it is refused
     pub connect_refused : is_conn came ≡ false → Answers {R = Option (ℕ × ℕ)} o (connect number next) k k old mid (Ok None)
     connect_refused e s h = (
       s,
       (
-        comes_on s mid (Ok (s, None)) (follows_unless o laws seen_changed {A = Streams × Option (ℕ × ℕ)} (is_conn came)
+        comes_on s mid (Ok (s, None)) (follows_unless o seen_changed {A = Streams × Option (ℕ × ℕ)} (is_conn came)
             (begun next s answer.Conn) (Ends (s, None)) mid mid (Ok (s, None)) e
-            (follows_ends o laws seen_changed {A = Streams × Option (ℕ × ℕ)} (s, None) mid)),
+            (follows_ends o seen_changed {A = Streams × Option (ℕ × ℕ)} (s, None) mid)),
         (h, refl),
       ),
     )
@@ -107,7 +107,7 @@ module _ {W : Type 0} (o : Outside W) (laws : IsOutside o) (number next : ℕ) (
     pub connect_starved : (after : Kept) (new : Reach View W) → new.port ≡ mid.port
         → Answers {R = Option (ℕ × ℕ)} o (connect number next) k after old new (Err stop.Memory)
     connect_starved after new port s h =
-        (s, (asks_starved o laws (call.Connect number) (call.Connect number) (begun next s) refl came old mid new one parts port, tt))
+        (s, (asks_starved o (call.Connect number) (call.Connect number) (begun next s) refl came old mid new one parts port, tt))
 
     pub connect_begins : (after : Kept) (new : Reach View W) (result : ℕ × ℕ) → is_conn came ≡ true → new.port ≡ mid.port
         → ToldWith (λ s. begun next s answer.Conn) k after mid.parts new.parts (Some result)
@@ -116,9 +116,9 @@ module _ {W : Type 0} (o : Outside W) (laws : IsOutside o) (number next : ℕ) (
         let it = told s h in (
           it.0,
           (
-            comes_on s new (Ok (it.0, Some result)) (follows_where o laws seen_changed {A = Streams × Option (ℕ × ℕ)} (is_conn came)
+            comes_on s new (Ok (it.0, Some result)) (follows_where o seen_changed {A = Streams × Option (ℕ × ℕ)} (is_conn came)
                 (begun next s answer.Conn) (Ends (s, None)) mid new (Ok (it.0, Some result)) e
-                (tells_follow seen_changed o laws (begun next s answer.Conn) mid new (it.0, Some result) it.1.0 port)),
+                (tells_follow seen_changed o (begun next s answer.Conn) mid new (it.0, Some result) it.1.0 port)),
             it.1.1,
           ),
         )

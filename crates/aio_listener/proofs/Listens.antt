@@ -7,10 +7,10 @@ use Rattle.model_stream.specs.Answers.{is_done}
 use Rattle.model_stream.specs.Doing.{Doing, Ends, asks}
 use Rattle.model_stream.specs.Listeners.{Server}
 use Rattle.model_stream.specs.Streams.{Streams, OpenedServer, add_server, close_server, closed_server, listen, listened}
+use Rattle.aio_wire.specs.Outside.{Outside}
 use Rattle.aio_wire.specs.declared.stop.Stop.{Stop}
 use Rattle.aio_wire.specs.declared.stop.Stop.TheVariants as stop
 use Rattle.aio_exchange.specs.Exchanged.{AsksOne}
-use Rattle.aio_exchange.specs.Outside.{IsOutside, Outside}
 use Rattle.law_doing.specs.Follows.{Follows, Reach}
 use Rattle.law_doing.proofs.Following.{follows_end, follows_ends, follows_unless, follows_where}
 use Rattle.aio_task.specs.View.{View}
@@ -31,7 +31,7 @@ stands_with_server k server s h = record {
   most = h.most;
 }
 
-module _ {W : Type 0} (o : Outside W) (laws : IsOutside o) (number handler : ℕ) (k : Kept) (old new : Reach View W) where
+module _ {W : Type 0} (o : Outside W) (number handler : ℕ) (k : Kept) (old new : Reach View W) where
   abbrev opened_here : Server
   opened_here = record { handler = handler; is_open = true }
 
@@ -39,21 +39,21 @@ module _ {W : Type 0} (o : Outside W) (laws : IsOutside o) (number handler : ℕ
   pub listen_met : (after : Kept) (why : Stop) → AsksOne o (call.Listen number) old.port new.port (Err why) → new.parts ≡ old.parts
       → Answers {R = Option ℕ} o (listen number handler) k after old new (Err why)
   listen_met after why one parts s h =
-      (s, (asks_met o laws (call.Listen number) (call.Listen number) (listened handler s) refl why old new one parts, tt))
+      (s, (asks_met o (call.Listen number) (call.Listen number) (listened handler s) refl why old new one parts, tt))
 
   module _ (came : Answer) (one : AsksOne o (call.Listen number) old.port new.port (Ok came)) (parts : new.parts ≡ old.parts) where
     comes_on : (s : Streams) (result : Result (Streams × Option ℕ) Stop) → Follows o seen_changed (listened handler s came) new new result
         → Follows o seen_changed (listen number handler s) old new result
-    comes_on s result f = asks_on o laws (call.Listen number) (call.Listen number) (listened handler s) refl came old new new result one parts f
+    comes_on s result f = asks_on o (call.Listen number) (call.Listen number) (listened handler s) refl came old new new result one parts f
 
     -- it is refused
     pub listen_refused : is_done came ≡ false → Answers {R = Option ℕ} o (listen number handler) k k old new (Ok None)
     listen_refused e s h = (
       s,
       (
-        comes_on s (Ok (s, None)) (follows_unless o laws seen_changed {A = Streams × Option ℕ} (is_done came)
+        comes_on s (Ok (s, None)) (follows_unless o seen_changed {A = Streams × Option ℕ} (is_done came)
             (Ends (add_server opened_here s, Some (length s.servers))) (Ends (s, None)) new new (Ok (s, None)) e
-            (follows_ends o laws seen_changed {A = Streams × Option ℕ} (s, None) new)),
+            (follows_ends o seen_changed {A = Streams × Option ℕ} (s, None) new)),
         (h, refl),
       ),
     )
@@ -61,16 +61,16 @@ module _ {W : Type 0} (o : Outside W) (laws : IsOutside o) (number handler : ℕ
     -- memory was refused after it
     pub listen_starved : (after : Kept) → Answers {R = Option ℕ} o (listen number handler) k after old new (Err stop.Memory)
     listen_starved after s h =
-        (s, (asks_starved o laws (call.Listen number) (call.Listen number) (listened handler s) refl came old new new one parts refl, tt))
+        (s, (asks_starved o (call.Listen number) (call.Listen number) (listened handler s) refl came old new new one parts refl, tt))
 
     pub listen_opens : (after : Kept) (id : ℕ) → is_done came ≡ true → after ≡ with_server opened_here k → id ≡ length k.servers
         → Answers {R = Option ℕ} o (listen number handler) k after old new (Ok (Some id))
     listen_opens after id e is number_is s h = (
       add_server opened_here s,
       (
-        comes_on s (Ok (add_server opened_here s, Some id)) (follows_where o laws seen_changed {A = Streams × Option ℕ} (is_done came)
+        comes_on s (Ok (add_server opened_here s, Some id)) (follows_where o seen_changed {A = Streams × Option ℕ} (is_done came)
             (Ends (add_server opened_here s, Some (length s.servers))) (Ends (s, None)) new new (Ok (add_server opened_here s, Some id)) e
-            (follows_end o laws seen_changed {A = Streams × Option ℕ} (add_server opened_here s, Some (length s.servers))
+            (follows_end o seen_changed {A = Streams × Option ℕ} (add_server opened_here s, Some (length s.servers))
             (add_server opened_here s, Some id) new
             (ap (λ (n : ℕ). (add_server opened_here s, Some n)) (number_is ∙ ap length (sym h.servers))))),
         (subst (λ (it : Kept). StandsFor it (add_server opened_here s)) (sym is) (stands_with_server k opened_here s h), refl),
@@ -78,7 +78,7 @@ module _ {W : Type 0} (o : Outside W) (laws : IsOutside o) (number handler : ℕ
     )
 
 -- ---- one is closed
-module _ {W : Type 0} (o : Outside W) (laws : IsOutside o) (id : ℕ) (k : Kept) where
+module _ {W : Type 0} (o : Outside W) (id : ℕ) (k : Kept) where
   abbrev with_closed_one : Server → Streams → Streams
   with_closed_one server s = record s { servers = slice_set s.servers id (closed_server server) }
 
@@ -96,7 +96,7 @@ module _ {W : Type 0} (o : Outside W) (laws : IsOutside o) (id : ℕ) (k : Kept)
 
   closes_none : (at : Reach View W) → slice_get k.servers id ≡ None → Comes {R = Unit {0}} o (close_server id) k k at at (Ok tt)
   closes_none at none s h =
-      (s, (subst (λ it. Follows o seen_changed (closes_by s it) at at (Ok s)) (server_there None none s h) (follows_ends o laws seen_changed s at), (h, refl)))
+      (s, (subst (λ it. Follows o seen_changed (closes_by s it) at at (Ok s)) (server_there None none s h) (follows_ends o seen_changed s at), (h, refl)))
 
   module _ (server : Server) (is : slice_get k.servers id ≡ Some server) where
     by_server : (s : Streams) → StandsFor k s → (old new : Reach View W) (result : Result Streams Stop)
@@ -108,7 +108,7 @@ module _ {W : Type 0} (o : Outside W) (laws : IsOutside o) (id : ℕ) (k : Kept)
       s,
       (
         by_server s h at at (Ok s)
-            (follows_unless o laws seen_changed server.is_open (closes server s) (Ends s) at at (Ok s) e (follows_ends o laws seen_changed s at)),
+            (follows_unless o seen_changed server.is_open (closes server s) (Ends s) at at (Ok s) e (follows_ends o seen_changed s at)),
         (h, refl),
       ),
     )
@@ -117,14 +117,14 @@ module _ {W : Type 0} (o : Outside W) (laws : IsOutside o) (id : ℕ) (k : Kept)
       closes_so : (s : Streams) → StandsFor k s → (result : Result Streams Stop) → Follows o seen_changed (closes server s) old new result
           → Follows o seen_changed (close_server id s) old new result
       closes_so s h result f =
-          by_server s h old new result (follows_where o laws seen_changed server.is_open (closes server s) (Ends s) old new result open_is f)
+          by_server s h old new result (follows_where o seen_changed server.is_open (closes server s) (Ends s) old new result open_is f)
 
       closes_met_there : (after : Kept) (why : Stop) → AsksOne o (call.CloseServer id) old.port new.port (Err why)
           → Comes {R = Unit {0}} o (close_server id) k after old new (Err why)
       closes_met_there after why one s h = (
         s,
         (
-          closes_so s h (Err why) (asks_met o laws (call.CloseServer id) (call.CloseServer id) (λ came. Ends (with_closed_one server s)) refl why
+          closes_so s h (Err why) (asks_met o (call.CloseServer id) (call.CloseServer id) (λ came. Ends (with_closed_one server s)) refl why
               old new one parts),
           tt,
         ),
@@ -137,8 +137,8 @@ module _ {W : Type 0} (o : Outside W) (laws : IsOutside o) (id : ℕ) (k : Kept)
         with_closed_one server s,
         (
           closes_so s h (Ok (with_closed_one server s))
-              (asks_on o laws (call.CloseServer id) (call.CloseServer id) (λ came. Ends (with_closed_one server s)) refl came old new new
-              (Ok (with_closed_one server s)) one parts (follows_ends o laws seen_changed (with_closed_one server s) new)),
+              (asks_on o (call.CloseServer id) (call.CloseServer id) (λ came. Ends (with_closed_one server s)) refl came old new new
+              (Ok (with_closed_one server s)) one parts (follows_ends o seen_changed (with_closed_one server s) new)),
           (
             subst (λ (it : Kept). StandsFor it (with_closed_one server s)) (sym same) (record {
               servers = ap (λ xs. slice_set xs id (closed_server server)) h.servers;

@@ -1,7 +1,6 @@
 //! A listener accepts.
 ghost use Rattle.std.specs.Prelude.{◌≡◌, ◌+◌, ◌^◌, ◌<◌, true, false, None, OnOk, length};
 ghost use Rattle.model_stream.specs.Streams as plain;
-ghost use Rattle.aio_exchange.specs.Outside.{outside_of};
 ghost use Rattle.law_doing.specs.Follows.{reach};
 ghost use Rattle.aio_stream.specs.Kept.{may_connect};
 ghost use Rattle.aio_stream.specs.Owned.{OwnsStreams};
@@ -33,8 +32,7 @@ pub fn readable_server<W: Wire>(
     requires own { OwnsStreams parts.old streams.old }
     ensures wire_name { port.new.wire.ghost_name ≡ port.old.wire.ghost_name }
     ensures events_name { port.new.events.ghost_name ≡ port.old.events.ghost_name }
-    ensures comes { Comes (outside_of W.seen W.fails W.keeps W.quiet)
-        (plain.readable_server (length parts.old.futures) id)
+    ensures comes { Comes W.outside (plain.readable_server (length parts.old.futures) id)
         streams.old streams.new
         (reach parts.old port.old.wire.now port.old.events.now)
         (reach parts.new port.new.wire.now port.new.events.now)
@@ -62,7 +60,7 @@ fn accept_most<W: Wire>(
     requires own { OwnsStreams parts.old streams.old }
     ensures wire_name { port.new.wire.ghost_name ≡ port.old.wire.ghost_name }
     ensures events_name { port.new.events.ghost_name ≡ port.old.events.ghost_name }
-    ensures comes { Comes (outside_of W.seen W.fails W.keeps W.quiet)
+    ensures comes { Comes W.outside
         (plain.accept_most more server handler (length parts.old.futures))
         streams.old streams.new
         (reach parts.old port.old.wire.now port.old.events.now)

@@ -2,7 +2,6 @@
 ghost use Rattle.std.specs.Prelude.{◌≡◌, ◌^◌, ◌<◌, None, Some, IfOk, OnOk, length};
 ghost use Rattle.model_wire.specs.declared.answer.Answer.TheVariants as answer;
 ghost use Rattle.model_stream.specs.Streams as plain;
-ghost use Rattle.aio_exchange.specs.Outside.{outside_of};
 ghost use Rattle.law_doing.specs.Follows.{reach};
 ghost use Rattle.aio_stream.specs.Owned.{OwnsStreams};
 ghost use Rattle.aio_stream.specs.Standing.{Answers, ToldWith};
@@ -32,8 +31,7 @@ pub fn connect<W: Wire>(
     requires room { length streams.old.connections < 2 ^ 32 }
     ensures wire_name { port.new.wire.ghost_name ≡ port.old.wire.ghost_name }
     ensures events_name { port.new.events.ghost_name ≡ port.old.events.ghost_name }
-    ensures comes { Answers (outside_of W.seen W.fails W.keeps W.quiet)
-        (plain.connect number (length parts.old.futures))
+    ensures comes { Answers W.outside (plain.connect number (length parts.old.futures))
         streams.old streams.new
         (reach parts.old port.old.wire.now port.old.events.now)
         (reach parts.new port.new.wire.now port.new.events.now)

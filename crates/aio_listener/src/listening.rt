@@ -2,7 +2,6 @@
 ghost use Rattle.std.specs.Prelude.{◌≡◌, ◌^◌, ◌<◌, OnOk, length};
 ghost use Rattle.model_stream.specs.Answers as answers;
 ghost use Rattle.model_stream.specs.Streams as plain;
-ghost use Rattle.aio_exchange.specs.Outside.{outside_of};
 ghost use Rattle.law_doing.specs.Follows.{reach};
 ghost use Rattle.aio_task.specs.View.{View};
 ghost use Rattle.aio_stream.specs.Owned.{OwnsStreams};
@@ -26,8 +25,7 @@ pub fn listen<W: Wire>(
     requires room { length streams.old.servers < 2 ^ 32 }
     ensures wire_name { port.new.wire.ghost_name ≡ port.old.wire.ghost_name }
     ensures events_name { port.new.events.ghost_name ≡ port.old.events.ghost_name }
-    ensures comes { (v : View) → Answers (outside_of W.seen W.fails W.keeps W.quiet)
-        (plain.listen number handler)
+    ensures comes { (v : View) → Answers W.outside (plain.listen number handler)
         streams.old streams.new
         (reach v port.old.wire.now port.old.events.now)
         (reach v port.new.wire.now port.new.events.now)
@@ -54,8 +52,7 @@ pub fn close_server<W: Wire>(
 ) -> Result<(), Stop>
     ensures wire_name { port.new.wire.ghost_name ≡ port.old.wire.ghost_name }
     ensures events_name { port.new.events.ghost_name ≡ port.old.events.ghost_name }
-    ensures comes { (v : View) → Comes (outside_of W.seen W.fails W.keeps W.quiet)
-        (plain.close_server id)
+    ensures comes { (v : View) → Comes W.outside (plain.close_server id)
         streams.old streams.new
         (reach v port.old.wire.now port.old.events.now)
         (reach v port.new.wire.now port.new.events.now)

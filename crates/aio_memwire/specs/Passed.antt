@@ -1,10 +1,11 @@
 -- What a call that is passed on comes to: the clauses of its trait, of what is wrapped.
 use Rattle.std.specs.Prelude.{◌≡◌, ℕ, ◌≤◌, List, Option, Some, Result, IfOk, OnErr}
 use Rattle.model_wire.specs.Call.{Call}
-use Rattle.model_wire.specs.Told.{ShelfSeen, SourceSeen, SinkSeen, WireSeen}
+use Rattle.model_wire.specs.Told.{ShelfSeen, SourceSeen, SinkSeen}
 use Rattle.aio_base.specs.declared.memory.Memory.{Memory}
 use Rattle.aio_wire.specs.Files.{Appends}
 use Rattle.aio_wire.specs.Got.{FitsRead, ReadLeaves, ReadsAt, ReadLeavesShelf}
+use Rattle.aio_wire.specs.Outside.{Outside}
 use Rattle.aio_wire.specs.Replied.{Replied, Unreplied, Stays, UnlessFailed}
 use Rattle.aio_wire.specs.Took.{FitsWrite, WriteLeaves}
 use Rattle.aio_wire.specs.declared.sink.SinkTook.{SinkTook}
@@ -39,12 +40,12 @@ pub record FileGiven (name piece : List ℕ) (old new : ShelfSeen) (result : Res
   pub written : IfOk result (Appends name piece old new)
   pub err : OnErr result (new ≡ old)
 
--- a wire was asked, of which these hold: that each call fails, what it keeps, and what stays while no call fails
-pub record WireAsked (call : Call) (old new : WireSeen) (failing kept calm : Type 0) (result : Result Reply Memory) : Type 0 where
-  pub replied : IfOk result (Replied call old new)
-  pub unreplied : OnErr result (Unreplied call old new)
-  pub stays : Stays old new
-  pub fails : failing → IfOk result (λ reply. reply ≡ Failed)
-  pub keeps : kept
-  pub quiet : IfOk result (UnlessFailed calm)
-  pub err : OnErr result calm
+-- a wire was asked
+pub record WireAsked {W : Type 0} (o : Outside W) (call : Call) (old new : W) (result : Result Reply Memory) : Type 0 where
+  pub replied : IfOk result (Replied call (o.seen old) (o.seen new))
+  pub unreplied : OnErr result (Unreplied call (o.seen old) (o.seen new))
+  pub stays : Stays (o.seen old) (o.seen new)
+  pub fails : o.fails old → IfOk result (λ reply. reply ≡ Failed)
+  pub keeps : o.keeps old new
+  pub quiet : IfOk result (UnlessFailed (o.quiet old new))
+  pub err : OnErr result (o.quiet old new)

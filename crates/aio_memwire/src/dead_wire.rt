@@ -23,26 +23,20 @@ impl DeadWire {
 impl Wire for DeadWire {
     ghost use Rattle.aio_memwire.specs.Dead.{dead};
 
-    ghost seen = { λ wire. dead wire.faults };
-
-    ghost fails = { λ _. Unit {0} };
-
-    ghost keeps = { λ _ _. Unit {0} };
-
-    ghost quiet = { λ _ _. Unit {0} };
+    ghost outside = { record {
+      seen = λ wire. dead wire.faults;
+      fails = λ _. Unit {0};
+      keeps = λ _ _. Unit {0};
+      quiet = λ _ _. Unit {0};
+      end_agrees = λ _. tt;
+      keeps_same = λ _. tt;
+      keeps_on = λ _ _ _ _ _. tt;
+      quiet_same = λ _. tt;
+      quiet_on = λ _ _ _ _ _. tt;
+    } };
 
     fn ask(&mut self, _alloc: Global, _call: &Call) -> Result<Reply, Memory> {
         self.faults = self.faults.saturating_add(1);
         Ok(Reply::Failed)
     }
-
-    ghost end_agrees = { λ _. tt };
-
-    ghost keeps_same = { λ _. tt };
-
-    ghost keeps_on = { λ _ _ _ _ _. tt };
-
-    ghost quiet_same = { λ _. tt };
-
-    ghost quiet_on = { λ _ _ _ _ _. tt };
 }

@@ -67,36 +67,26 @@ impl<'a, F: Shelf> JournalWire<'a, F, Buffers> {
 }
 
 impl<'a, F: Shelf> Wire for JournalWire<'a, F, Buffers> {
-    ghost use Rattle.std.specs.Prelude.{◌≡◌, None, Some};
-    ghost use Rattle.aio_memwire.specs.JournalWire.{seen_of};
-
-    ghost seen = { λ wire. seen_of (F.seen wire.shelf.now) wire.name.now wire.own };
-
-    ghost fails = { λ wire. (wire.own.journal ≡ None)
-        × ((F.seen wire.shelf.now).file wire.name.now ≡ Some None) };
-
-    ghost keeps = { λ old new. (new.shelf.ghost_name ≡ old.shelf.ghost_name)
-        × (new.name.now ≡ old.name.now)
-        × ((F.seen new.shelf.now).file ≡ (F.seen old.shelf.now).file) };
-
-    ghost quiet = { λ old new. F.seen new.shelf.now ≡ F.seen old.shelf.now };
-
-    ghost use Rattle.aio_memwire.specs.JournalWire.{ends_as_left};
-
-    ghost end_agrees = { λ wire.
-        ends_as_left ((F.seen wire.shelf.now).file wire.name.now) wire.own.journal };
-
-    ghost use Rattle.std.specs.Prelude.{refl};
+    ghost use Rattle.std.specs.Prelude.{◌≡◌, None, Some, refl};
     ghost use Rattle.std.proofs.Common.{◌∙◌};
+    ghost use Rattle.aio_memwire.specs.JournalWire.{ends_as_left, seen_of};
 
-    ghost keeps_same = { λ wire. (refl, refl, refl) };
-
-    ghost keeps_on = { λ before between after first second.
-        (second.0 ∙ first.0, second.1 ∙ first.1, second.2 ∙ first.2) };
-
-    ghost quiet_same = { λ wire. refl };
-
-    ghost quiet_on = { λ before between after first second. second ∙ first };
+    ghost outside = { record {
+      seen = λ wire. seen_of (F.seen wire.shelf.now) wire.name.now wire.own;
+      fails = λ wire. (wire.own.journal ≡ None)
+          × ((F.seen wire.shelf.now).file wire.name.now ≡ Some None);
+      keeps = λ old new. (new.shelf.ghost_name ≡ old.shelf.ghost_name)
+          × (new.name.now ≡ old.name.now)
+          × ((F.seen new.shelf.now).file ≡ (F.seen old.shelf.now).file);
+      quiet = λ old new. F.seen new.shelf.now ≡ F.seen old.shelf.now;
+      end_agrees = λ wire.
+          ends_as_left ((F.seen wire.shelf.now).file wire.name.now) wire.own.journal;
+      keeps_same = λ wire. (refl, refl, refl);
+      keeps_on = λ before between after first second.
+          (second.0 ∙ first.0, second.1 ∙ first.1, second.2 ∙ first.2);
+      quiet_same = λ wire. refl;
+      quiet_on = λ before between after first second. second ∙ first;
+    } };
 
     fn ask(&mut self, alloc: Global, call: &Call) -> Result<Reply, Memory>
         ensures replied { IfOk result (Replied call.now

@@ -42,16 +42,16 @@ pub fn aio_main<F: Shelf, W: Wire, K: Sink>(
           shelf = shelf.old;
           wire = wire.old;
           files = F.seen shelf.old;
-          told = W.seen wire.old;
-          fails = W.fails wire.old;
+          told = W.outside.seen wire.old;
+          fails = W.outside.fails wire.old;
           sink = K.seen out.old;
         })
         (record {
           shelf = shelf.new;
           wire = wire.new;
           files = F.seen shelf.new;
-          told = W.seen wire.new;
-          fails = W.fails wire.new;
+          told = W.outside.seen wire.new;
+          fails = W.outside.fails wire.new;
           sink = K.seen out.new;
         })
         result }
@@ -73,16 +73,19 @@ fn serve<F: Shelf, W: Wire, K: Sink>(
 ) -> Result<u8, Halt>
     ensures ok { IfOk result (WritesWhole
         (MayWrite (told_all
-        (between (F.seen shelf.old) (F.seen shelf.new) (W.seen wire.old) (W.seen wire.new))
-        (W.fails wire.old)) (plain_command_of (map string_bytes words.now)))
+        (between (F.seen shelf.old) (F.seen shelf.new) (W.outside.seen wire.old)
+        (W.outside.seen wire.new))
+        (W.outside.fails wire.old)) (plain_command_of (map string_bytes words.now)))
         (K.seen out.old) (K.seen out.new)) }
     ensures err { IfErr result (λ halt. EndsEarly
         (MayWrite (told_until halt
-        (between (F.seen shelf.old) (F.seen shelf.new) (W.seen wire.old) (W.seen wire.new))
-        (W.fails wire.old)) (plain_command_of (map string_bytes words.now)))
+        (between (F.seen shelf.old) (F.seen shelf.new) (W.outside.seen wire.old)
+        (W.outside.seen wire.new))
+        (W.outside.fails wire.old)) (plain_command_of (map string_bytes words.now)))
         (IsUnbegun (told_until halt
-        (between (F.seen shelf.old) (F.seen shelf.new) (W.seen wire.old) (W.seen wire.new))
-        (W.fails wire.old)) (plain_command_of (map string_bytes words.now)))
+        (between (F.seen shelf.old) (F.seen shelf.new) (W.outside.seen wire.old)
+        (W.outside.seen wire.new))
+        (W.outside.fails wire.old)) (plain_command_of (map string_bytes words.now)))
         (K.seen out.old) (K.seen out.new) halt) }
     ensures files { KeepsFiles (plain_command_of (map string_bytes words.now))
         (F.seen shelf.old) (F.seen shelf.new) }

@@ -27,14 +27,17 @@ pub fn run<F: Shelf, W: Wire, K: Sink>(
     requires some { 1 ≤ manner.turns }
     ensures ok { IfOk result (WritesWhole
         (MayRunOver (told_all
-        (between (F.seen shelf.old) (F.seen shelf.new) (W.seen wire.old) (W.seen wire.new))
-        (W.fails wire.old)) script.now (pace_of (option_copied journal.entry) manner))
+        (between (F.seen shelf.old) (F.seen shelf.new) (W.outside.seen wire.old)
+        (W.outside.seen wire.new))
+        (W.outside.fails wire.old)) script.now (pace_of (option_copied journal.entry) manner))
         (K.seen out.old) (K.seen out.new)) }
     ensures err { IfErr result (λ halt. EndsEarly
         (MayRunOver (told_until halt
-        (between (F.seen shelf.old) (F.seen shelf.new) (W.seen wire.old) (W.seen wire.new))
-        (W.fails wire.old)) script.now (pace_of (option_copied journal.entry) manner))
-        ((F.seen shelf.new ≡ F.seen shelf.old) × AsksOnce (W.seen wire.old) (W.seen wire.new))
+        (between (F.seen shelf.old) (F.seen shelf.new) (W.outside.seen wire.old)
+        (W.outside.seen wire.new))
+        (W.outside.fails wire.old)) script.now (pace_of (option_copied journal.entry) manner))
+        ((F.seen shelf.new ≡ F.seen shelf.old)
+        × AsksOnce (W.outside.seen wire.old) (W.outside.seen wire.new))
         (K.seen out.old) (K.seen out.new) halt) }
     ensures files { KeepsOthers (option_copied journal.entry)
         (F.seen shelf.old) (F.seen shelf.new) }
@@ -58,14 +61,17 @@ fn run_program<F: Shelf, W: Wire, K: Sink>(
     requires some { 1 ≤ manner.turns }
     ensures ok { IfOk result (WritesWhole
         (MayRun (told_all
-        (between (F.seen shelf.old) (F.seen shelf.new) (W.seen wire.old) (W.seen wire.new))
-        (W.fails wire.old)) program.now (pace_of (option_copied journal.entry) manner))
+        (between (F.seen shelf.old) (F.seen shelf.new) (W.outside.seen wire.old)
+        (W.outside.seen wire.new))
+        (W.outside.fails wire.old)) program.now (pace_of (option_copied journal.entry) manner))
         (K.seen out.old) (K.seen out.new)) }
     ensures err { IfErr result (λ halt. EndsEarly
         (MayRun (told_until halt
-        (between (F.seen shelf.old) (F.seen shelf.new) (W.seen wire.old) (W.seen wire.new))
-        (W.fails wire.old)) program.now (pace_of (option_copied journal.entry) manner))
-        ((F.seen shelf.new ≡ F.seen shelf.old) × AsksOnce (W.seen wire.old) (W.seen wire.new))
+        (between (F.seen shelf.old) (F.seen shelf.new) (W.outside.seen wire.old)
+        (W.outside.seen wire.new))
+        (W.outside.fails wire.old)) program.now (pace_of (option_copied journal.entry) manner))
+        ((F.seen shelf.new ≡ F.seen shelf.old)
+        × AsksOnce (W.outside.seen wire.old) (W.outside.seen wire.new))
         (K.seen out.old) (K.seen out.new) halt) }
     ensures files { KeepsOthers (option_copied journal.entry)
         (F.seen shelf.old) (F.seen shelf.new) }

@@ -14,9 +14,10 @@ use Rattle.model_stream.specs.Answers.{sent_by}
 use Rattle.model_stream.specs.Doing.{Doing, Ends, Asks, and_then}
 use Rattle.model_stream.specs.Senders.{Sender, Outlet, with_writer, ended_sender, lose_sender, loss_of, outcome_of, waiting_for_loss, write, write_as}
 use Rattle.model_stream.specs.Sending.{offer, put, put_answer}
+use Rattle.aio_wire.specs.Outside.{Outside}
+use Rattle.aio_wire.specs.Port.{Ported}
 use Rattle.aio_wire.specs.declared.stop.Stop.{Stop}
 use Rattle.aio_exchange.specs.Exchanged.{AsksOne}
-use Rattle.aio_exchange.specs.Outside.{IsOutside, Outside, Ported}
 use Rattle.law_doing.specs.Follows.{Follows, Reach}
 use Rattle.law_doing.specs.Ways.{changed_on}
 use Rattle.law_doing.proofs.Following.{follows_end, follows_ends, follows_stopped, follows_then}
@@ -36,7 +37,7 @@ within_offer o whom bytes asked came old new count same one is =
     let fit : fits ((outlet_of whom).sends bytes) came ≡ true = subst (λ it. fits it came ≡ true) same one.fit.0 in
     (subst (λ it. IsSent bytes (handed_by whom ((outlet_of whom).sends bytes) it) (sent_by it)) is (is_sent whom bytes came fit)).0
 
-module _ {W : Type 0} (o : Outside W) (laws : IsOutside o) (to : Outlet) (s : Sender) where
+module _ {W : Type 0} (o : Outside W) (to : Outlet) (s : Sender) where
   -- ---- a write
   module _ (piece : List ℕ) where
     abbrev put_to : Sender
@@ -52,21 +53,21 @@ module _ {W : Type 0} (o : Outside W) (laws : IsOutside o) (to : Outlet) (s : Se
     wrote_at_once it said after at e tree is =
         as_put it at at (Ok (after, said)) e
         (subst (λ d. Follows o seen_changed d at at (Ok (after, said))) (sym tree)
-        (follows_end o laws seen_changed (put_to, said) (after, said) at (ap (λ a. (a, said)) is)))
+        (follows_end o seen_changed (put_to, said) (after, said) at (ap (λ a. (a, said)) is)))
 
     -- it is offered
     pub wrote_offered : (before after : Sender) (old new : Reach View W) → put_as.Offer ≡ put_answer piece s.writer → before ≡ put_to
         → Follows o seen_changed (offers to before) old new (Ok after) → Follows o seen_changed (write to piece s) old new (Ok (after, wrote.Done))
     wrote_offered before after old new e same f =
         as_put put_as.Offer old new (Ok (after, wrote.Done)) e
-        (follows_then o laws seen_changed (offers to put_to) (λ s. Ends (s, wrote.Done)) after old new new (Ok (after, wrote.Done))
-        (subst (λ b. Follows o seen_changed (offers to b) old new (Ok after)) same f) (follows_ends o laws seen_changed (after, wrote.Done) new))
+        (follows_then o seen_changed (offers to put_to) (λ s. Ends (s, wrote.Done)) after old new new (Ok (after, wrote.Done))
+        (subst (λ b. Follows o seen_changed (offers to b) old new (Ok after)) same f) (follows_ends o seen_changed (after, wrote.Done) new))
 
     pub write_stopped : (before : Sender) (why : Stop) (old new : Reach View W) → put_as.Offer ≡ put_answer piece s.writer → before ≡ put_to
         → Follows o seen_changed (offers to before) old new (Err why) → Follows o seen_changed (write to piece s) old new (Err why)
     write_stopped before why old new e same f =
         as_put put_as.Offer old new (Err why) e
-        (follows_stopped o laws seen_changed (offers to put_to) (λ s. Ends (s, wrote.Done)) why old new
+        (follows_stopped o seen_changed (offers to put_to) (λ s. Ends (s, wrote.Done)) why old new
         (subst (λ b. Follows o seen_changed (offers to b) old new (Err why)) same f))
 
   -- ---- the loss is done
@@ -79,14 +80,14 @@ module _ {W : Type 0} (o : Outside W) (laws : IsOutside o) (to : Outlet) (s : Se
     loses_on : (new : Reach View W) (result : Result Sender Stop) → Follows o seen_changed (Asks to.closes (λ came. Ends lost)) mid new result
         → Follows o seen_changed (lose_sender to broken s) old new result
     loses_on new result f =
-        follows_settles o laws (waiting_for_loss s) (outcome_of (loss_of to broken)) (Asks to.closes (λ came. Ends lost)) old mid new result parts port f
+        follows_settles o (waiting_for_loss s) (outcome_of (loss_of to broken)) (Asks to.closes (λ came. Ends lost)) old mid new result parts port f
 
     pub loses_so : (came : Answer) (after : Sender) (new : Reach View W) → AsksOne o asked mid.port new.port (Ok came) → new.parts ≡ mid.parts
         → after ≡ lost → Follows o seen_changed (lose_sender to broken s) old new (Ok after)
     loses_so came after new one kept is =
         loses_on new (Ok after)
-        (asks_on o laws asked to.closes (λ came. Ends lost) same came mid new new (Ok after) one kept (follows_end o laws seen_changed lost after new is))
+        (asks_on o asked to.closes (λ came. Ends lost) same came mid new new (Ok after) one kept (follows_end o seen_changed lost after new is))
 
     pub loses_met : (why : Stop) (new : Reach View W) → AsksOne o asked mid.port new.port (Err why) → new.parts ≡ mid.parts
         → Follows o seen_changed (lose_sender to broken s) old new (Err why)
-    loses_met why new one kept = loses_on new (Err why) (asks_met o laws asked to.closes (λ came. Ends lost) same why mid new one kept)
+    loses_met why new one kept = loses_on new (Err why) (asks_met o asked to.closes (λ came. Ends lost) same why mid new one kept)

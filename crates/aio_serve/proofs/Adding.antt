@@ -43,13 +43,14 @@ use Rattle.aio_body.specs.declared.body.Body.{Body}
 use Rattle.aio_body.specs.declared.reply.RequestReply.{RequestReply}
 use Rattle.aio_body.specs.declared.reply.RequestReply.TheVariants as reply
 use Rattle.aio_body.specs.declared.standing.Standing.TheVariants.{Serving}
+use Rattle.aio_wire.specs.Outside.{Outside}
+use Rattle.aio_wire.specs.Port.{ported}
 use Rattle.aio_exchange.proofs.Among.{told_none}
 use Rattle.aio_exchange.specs.Among.{AreTold}
 use Rattle.aio_exchange.specs.Exchanged.{All, Exchange}
 use Rattle.aio_base.specs.declared.memory.Memory.{Memory}
 use Rattle.aio_wire.specs.EventList.{EventList}
 use Rattle.std.proofs.lemmas.Result.{IfOk-weaker}
-use Rattle.aio_exchange.specs.Outside.{IsOutside, Outside, ported}
 use Rattle.aio_wire.specs.declared.stop.Stop.{Stop}
 use Rattle.aio_wire.specs.declared.stop.Stop.TheVariants as stop
 use Rattle.aio_body.proofs.Asking.{HasCome, come_none, come_then, comes_alone, comes_ends, comes_goes, comes_starved, comes_stops, comes_without}
@@ -326,14 +327,14 @@ module _ {X : Type 0} (a : Added X) (task : ℕ) (body : Body X) (code arguments
       ∥∥₁_map m (λ w.
       (w.0, (called (a.meaning.ask task number items w.1.0).call w.1.0, ((a.meaning.ask task number items w.1.0).answer, asked_so w.0 w.1.0 w.1.1.going))))
 
-  pub asks_go : {W : Type 0} (o : Outside W) (laws : IsOutside o) (new : Body X) (was is : W) (result : Result RequestReply Stop)
+  pub asks_go : {W : Type 0} (o : Outside W) (new : Body X) (was is : W) (result : Result RequestReply Stop)
       → Comes o (answering a task asked (record body { parts = v; extra = x }) new) (ported was body.events) (ported is new.events) result
       → Comes o (serving a task (request.Extra code arguments) body new) (ported was body.events) (ported is new.events) result
-  asks_go o laws new was is result answers =
-      comes_goes o laws (serving a task (request.Extra code arguments) body new) [] (ported was body.events) (ported was body.events)
+  asks_go o new was is result answers =
+      comes_goes o (serving a task (request.Extra code arguments) body new) [] (ported was body.events) (ported was body.events)
       (λ c at. IsAnswering task asked at.1 c (record body { parts = v; extra = x }) at.0) (λ at. answered a.meaning task at.1 at.0)
       (ported is new.events) result
-      (come_none o laws (λ c s. IsAskingFor task (request.Extra code arguments) c body s) (ported was body.events) (ported was body.events)
+      (come_none o (λ c s. IsAskingFor task (request.Extra code arguments) c body s) (ported was body.events) (ported was body.events)
       (λ c s. (at : State a.Kept × ExtraAnswer) × (IsAnswering task asked at.1 c (record body { parts = v; extra = x }) at.0
       × (plain.reply a.meaning task (request.Extra code arguments) s ≡ answered a.meaning task at.1 at.0))) refl
       (λ c s h. (
@@ -363,14 +364,14 @@ module _ {X : Type 0} {a : Added X} (task key : ℕ) (body : Body X) (input : In
       ∥∥₁_map m (λ w.
       (w.0, (called (a.meaning.wake key input w.1.0).call w.1.0, ((a.meaning.wake key input w.1.0).answer, woken_so w.0 w.1.0 w.1.1))))
 
-  pub wakes_go : {W : Type 0} (o : Outside W) (laws : IsOutside o) (new : Body X) (was is : W) (result : Result RequestReply Stop)
+  pub wakes_go : {W : Type 0} (o : Outside W) (new : Body X) (was is : W) (result : Result RequestReply Stop)
       → Comes o (answering a task asked (record body { parts = v; extra = x }) new) (ported was body.events) (ported is new.events) result
       → Comes o (waking a task key input body new) (ported was body.events) (ported is new.events) result
-  wakes_go o laws new was is result answers =
-      comes_goes o laws (waking a task key input body new) [] (ported was body.events) (ported was body.events)
+  wakes_go o new was is result answers =
+      comes_goes o (waking a task key input body new) [] (ported was body.events) (ported was body.events)
       (λ c at. IsAnswering task asked at.1 c (record body { parts = v; extra = x }) at.0) (λ at. answered a.meaning task at.1 at.0)
       (ported is new.events) result
-      (come_none o laws (λ c s. IsDeciding task (standing.Serving key) c body s) (ported was body.events) (ported was body.events)
+      (come_none o (λ c s. IsDeciding task (standing.Serving key) c body s) (ported was body.events) (ported was body.events)
       (λ c s. (at : State a.Kept × ExtraAnswer) × (IsAnswering task asked at.1 c (record body { parts = v; extra = x }) at.0
       × (plain.decides a.meaning (standing.Serving key) task input s ≡ answered a.meaning task at.1 at.0))) refl
       (λ c s h. (
@@ -383,7 +384,7 @@ module _ {X : Type 0} {a : Added X} (task key : ℕ) (body : Body X) (input : In
       answers
 
 -- ---- one answer after another
-module _ {X W : Type 0} (a : Added X) (o : Outside W) (laws : IsOutside o) (task : ℕ) (first : Asked) (old : Body X) (was : W) where
+module _ {X W : Type 0} (a : Added X) (o : Outside W) (task : ℕ) (first : Asked) (old : Body X) (was : W) where
   abbrev From : Setting a → State a.Kept × ExtraAnswer → Type 0
   From c at = IsAnswering task first at.1 c old at.0
 
@@ -394,7 +395,7 @@ module _ {X W : Type 0} (a : Added X) (o : Outside W) (laws : IsOutside o) (task
   pub on_first : AreAnswered a o task first old was first old was
   on_first = (
     [],
-    come_none o laws From (ported was old.events) (ported was old.events) (Again_ first old) refl
+    come_none o From (ported was old.events) (ported was old.events) (Again_ first old) refl
         (λ c at h. (told_none old.events.events, record { now = at.0; it = at.1; answering = h; same = refl })),
   )
 
@@ -408,7 +409,7 @@ module _ {X W : Type 0} (a : Added X) (o : Outside W) (laws : IsOutside o) (task
 
     pub on_starved : (new : Body X) → Comes o (answering a task first old new) (ported was old.events) (ported mid new.events) (Err stop.Memory)
     on_starved new =
-        comes_starved o laws (answering a task first old new) are.0 (ported was old.events) (ported mid body.events) (ported mid new.events) refl
+        comes_starved o (answering a task first old new) are.0 (ported was old.events) (ported mid body.events) (ported mid new.events) refl
         (record {
           exchanged = are.1.exchanged;
           told = λ c at h.
@@ -424,7 +425,7 @@ module _ {X W : Type 0} (a : Added X) (o : Outside W) (laws : IsOutside o) (task
           → Comes o (answering_once a task asked body new) (ported mid body.events) (ported is new.events) (Ok (Again next))
           → AreAnswered a o task first old was next new is
       on_next next one =
-          come_then o laws From are.0 (ported was old.events) (ported mid body.events) (answering_once a task asked body new) (ported is new.events)
+          come_then o From are.0 (ported was old.events) (ported mid body.events) (answering_once a task asked body new) (ported is new.events)
           (Again_ asked body) (Again_ next new) (Again next) are.1 one (λ more c at t. (
             (t.now, t.it),
             (t.answering, λ came. record { now = came.now; it = came.it; answering = came.answering; same = came.same ∙ t.same }),
@@ -434,16 +435,16 @@ module _ {X W : Type 0} (a : Added X) (o : Outside W) (laws : IsOutside o) (task
           → Comes o (answering_once a task asked body new) (ported mid body.events) (ported is new.events) (Ok (Replies said))
           → Comes o (answering a task first old new) (ported was old.events) (ported is new.events) (Ok said)
       on_end said one =
-          let all = come_then o laws From are.0 (ported was old.events) (ported mid body.events) (answering_once a task asked body new)
+          let all = come_then o From are.0 (ported was old.events) (ported mid body.events) (answering_once a task asked body new)
           (ported is new.events) (Again_ asked body) (λ c at. Says task c new said (answered a.meaning task at.1 at.0)) (Replies said) are.1 one
           (λ more c at t. ((t.now, t.it), (t.answering, λ says. subst (Says task c new said) t.same says))) in
-          comes_ends o laws (answering a task first old new) all.0 (ported was old.events) (ported is new.events) said all.1
+          comes_ends o (answering a task first old new) all.0 (ported was old.events) (ported is new.events) said all.1
 
       pub on_stop : (why : Stop)
           → Comes o (answering_once a task asked body new) (ported mid body.events) (ported is new.events) (Err why)
           → Comes o (answering a task first old new) (ported was old.events) (ported is new.events) (Err why)
       on_stop why one =
-          comes_stops o laws From are.0 (ported was old.events) (ported mid body.events) (answering_once a task asked body new) (ported is new.events)
+          comes_stops o From are.0 (ported was old.events) (ported mid body.events) (answering_once a task asked body new) (ported is new.events)
           ((λ at. answered a.meaning task at.1 at.0), (plain.Halts, (λ c said it. Says task c new said it, ReplyBegins))) why
           (record {
             exchanged = are.1.exchanged;
@@ -458,7 +459,7 @@ module _ {X W : Type 0} (a : Added X) (o : Outside W) (laws : IsOutside o) (task
           }) one
 
 -- ---- an answer by itself asks nothing
-module _ {X W : Type 0} (a : Added X) (o : Outside W) (laws : IsOutside o) (task : ℕ) (asked : Asked) (old new : Body X) (wire : W)
+module _ {X W : Type 0} (a : Added X) (o : Outside W) (task : ℕ) (asked : Asked) (old new : Body X) (wire : W)
     (same : new.events ≡ old.events) where
   abbrev Answers_ : Answered → Type 0
   Answers_ told =
@@ -470,14 +471,14 @@ module _ {X W : Type 0} (a : Added X) (o : Outside W) (laws : IsOutside o) (task
   pub once_alone : (result : Result Answered Memory) → IfOk result Answers_
       → Comes o (answering_once a task asked old new) (ported wire old.events) (ported wire new.events) (or_stop result)
   once_alone result answers =
-      comes_alone o laws (answering_once a task asked old new) (ported wire old.events) (ported wire new.events)
+      comes_alone o (answering_once a task asked old new) (ported wire old.events) (ported wire new.events)
       (λ c at h. answered_begins a.meaning task at.1 at.0 (c.past ++ old.events.events) h.in_step.stands.events) result refl
       (IfOk-weaker result _ _ (λ told are c at h. (told_same, are c at.0 at.1 h)) answers)
 
 -- what lacks memory
-module _ {X W : Type 0} (a : Added X) (o : Outside W) (laws : IsOutside o) (task key : ℕ) (input : Input) (old : Body X) (wire : W) where
+module _ {X W : Type 0} (a : Added X) (o : Outside W) (task key : ℕ) (input : Input) (old : Body X) (wire : W) where
   pub wakes_without : (new : Body X)
       → Comes o (waking a task key input old new) (ported wire old.events) (ported wire new.events) (Err stop.Memory)
   wakes_without new =
-      comes_without o laws (waking a task key input old new) (ported wire old.events) (ported wire new.events)
+      comes_without o (waking a task key input old new) (ported wire old.events) (ported wire new.events)
       (λ c s h. decides_begins a.meaning task (c.past ++ old.events.events) s h.in_step.stands.events (standing.Serving key) input) refl

@@ -22,6 +22,8 @@ use Rattle.law_turns.proofs.TreeSteps.{told_in-none}
 use Rattle.law_turns.proofs.Turning.{as_told}
 use Rattle.aio_wire.specs.EventList.{EventList}
 use Rattle.aio_wire.specs.Events.{pushed}
+use Rattle.aio_wire.specs.Outside.{Outside}
+use Rattle.aio_wire.specs.Port.{Ported, ported}
 use Rattle.aio_wire.specs.Told.{refused_of}
 use Rattle.aio_wire.specs.declared.stop.Stop.{Stop}
 use Rattle.aio_wire.specs.declared.stop.Stop.TheVariants as stop
@@ -29,7 +31,6 @@ use Rattle.aio_wire.specs.declared.wire.Reply.{Reply}
 use Rattle.aio_wire.specs.declared.wire.Reply.TheVariants as reply
 use Rattle.aio_exchange.proofs.Among.{met_told, noted_told, on_wire, told_none}
 use Rattle.aio_exchange.specs.Exchanged.{AsksOne, Exchange, Exchanged, IsOf, Last, All, Met, Starved, StopsAs}
-use Rattle.aio_exchange.specs.Outside.{IsOutside, Outside, Ported, ported}
 use Rattle.aio_base.specs.declared.memory.Memory.{Memory}
 use Rattle.aio_extra.specs.Added.{Added}
 use Rattle.aio_extra.specs.Called.{MayServe}
@@ -56,7 +57,7 @@ pub asks_number : {W : Type 0} (o : Outside W) (n m : ℤ) → n ≡ m → (byte
     → AsksOne o (call.Extra n bytes) old new result → AsksOne o (call.Extra m bytes) old new result
 asks_number o n m same bytes old new result one = subst (λ k. AsksOne o (call.Extra k bytes) old new result) same one
 
-module _ {X W : Type 0} (a : Added X) (o : Outside W) (laws : IsOutside o) (task : ℕ) (code : ℤ) (bytes : List ℕ) (key : ℕ) (old : Body X) (was : W) where
+module _ {X W : Type 0} (a : Added X) (o : Outside W) (task : ℕ) (code : ℤ) (bytes : List ℕ) (key : ℕ) (old : Body X) (was : W) where
   abbrev Asks_ : Asked
   Asks_ = asked.Outside code bytes key
 
@@ -283,7 +284,7 @@ module _ {X W : Type 0} (a : Added X) (o : Outside W) (laws : IsOutside o) (task
     wakes_again new next woke =
         subst (λ (l : EventList). Comes o (answering_once a task Asks_ old new) (ported was old.events) (ported mid l) (Ok (Again next)))
         (sym (ap (λ (b : Body X). b.events) woke.beside))
-        (comes_ends o laws (answering_once a task Asks_ old new) had (ported was old.events) (ported mid events) (Again next) (record {
+        (comes_ends o (answering_once a task Asks_ old new) had (ported was old.events) (ported mid events) (Again next) (record {
           exchanged = has_heard.exchanged;
           told = λ c at h. let t = has_heard.told c at h in (t.0, woken_so c at t.1 new next woke);
         }))
@@ -292,7 +293,7 @@ module _ {X W : Type 0} (a : Added X) (o : Outside W) (laws : IsOutside o) (task
     pub wakes_starved : (new : Body X)
         → Comes o (answering_once a task Asks_ old new) (ported was old.events) (ported mid new.events) (Err stop.Memory)
     wakes_starved new =
-        comes_starved o laws (answering_once a task Asks_ old new) had (ported was old.events) (ported mid events) (ported mid new.events) refl (record {
+        comes_starved o (answering_once a task Asks_ old new) had (ported was old.events) (ported mid events) (ported mid new.events) refl (record {
           exchanged = has_heard.exchanged;
           told = λ c at h.
               let t = has_heard.told c at h in (

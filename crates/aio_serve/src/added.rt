@@ -4,8 +4,8 @@ ghost use Rattle.model_value.specs.declared.request.Request.TheVariants as reque
 ghost use Rattle.model_machine.specs.Extra.{ExtraAnswer};
 ghost use Rattle.model_machine.specs.Replies.{extra_refused as plain_extra_refused, input_by as plain_input_by};
 ghost use Rattle.model_machine.specs.State.{State, Serving};
+ghost use Rattle.aio_wire.specs.Port.{ported};
 ghost use Rattle.aio_exchange.specs.Exchanged.{AsksOne};
-ghost use Rattle.aio_exchange.specs.Outside.{outside_of, ported};
 ghost use Rattle.aio_extra.specs.Called.{MayServe};
 ghost use Rattle.aio_extra.specs.declared.asked.Asked.{Asked as AnyAsked};
 ghost use Rattle.aio_extra.specs.declared.asked.Asked.TheVariants.{Outside, Wait};
@@ -40,7 +40,7 @@ pub fn extra<W: Wire, X: Extra>(
     arguments: &Value,
 ) -> Result<RequestReply, Stop>
     requires { Possible X.added (IsAskingFor task (request.Extra code.now arguments.now)) body.old }
-    ensures { Comes (outside_of W.seen W.fails W.keeps W.quiet)
+    ensures { Comes W.outside
         (serving X.added task (request.Extra code.now arguments.now) body.old body.new)
         (ported wire.old body.old.events) (ported wire.new body.new.events) result }
 {
@@ -69,8 +69,7 @@ pub fn wake<W: Wire, X: Extra>(
     input: Input,
 ) -> Result<RequestReply, Stop>
     requires { Possible X.added (IsDeciding task (Serving key)) body.old }
-    ensures { Comes (outside_of W.seen W.fails W.keeps W.quiet)
-        (waking X.added task key input body.old body.new)
+    ensures { Comes W.outside (waking X.added task key input body.old body.new)
         (ported wire.old body.old.events) (ported wire.new body.new.events) result }
 {
     match body.extra.wake(alloc, key, input, &mut body.parts) {
@@ -88,8 +87,7 @@ fn answer<W: Wire, X: Extra>(
     asked: Asked,
 ) -> Result<RequestReply, Stop>
     requires { Possible X.added (HasAnswer task asked) body.old }
-    ensures { Comes (outside_of W.seen W.fails W.keeps W.quiet)
-        (answering X.added task asked body.old body.new)
+    ensures { Comes W.outside (answering X.added task asked body.old body.new)
         (ported wire.old body.old.events) (ported wire.new body.new.events) result }
 {
     let mut asked = asked;
@@ -115,8 +113,7 @@ fn answer_one<W: Wire, X: Extra>(
     asked: Asked,
 ) -> Result<Answered, Stop>
     requires { Possible X.added (HasAnswer task asked) body.old }
-    ensures { Comes (outside_of W.seen W.fails W.keeps W.quiet)
-        (answering_once X.added task asked body.old body.new)
+    ensures { Comes W.outside (answering_once X.added task asked body.old body.new)
         (ported wire.old body.old.events) (ported wire.new body.new.events) result }
 {
     match asked {
@@ -140,7 +137,7 @@ fn ask_outside<W: Wire, X: Extra>(
     key: u64,
 ) -> Result<Answered, Stop>
     requires { Possible X.added (HasAnswer task (Outside code bytes key)) body.old }
-    ensures { Comes (outside_of W.seen W.fails W.keeps W.quiet)
+    ensures { Comes W.outside
         (answering_once X.added task (Outside code bytes key) body.old body.new)
         (ported wire.old body.old.events) (ported wire.new body.new.events) result }
 {
@@ -158,7 +155,7 @@ fn ask<W: Wire, X: Extra>(
     call: Call,
 ) -> Result<Answer, Stop>
     ensures beside { body.new ≡ record body.old { events = body.new.events } }
-    ensures asks { AsksOne (outside_of W.seen W.fails W.keeps W.quiet) call
+    ensures asks { AsksOne W.outside call
         (ported wire.old body.old.events) (ported wire.new body.new.events) result }
 {
     let mut port = Port::new(wire, &mut body.events);

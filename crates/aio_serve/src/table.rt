@@ -1,6 +1,6 @@
 //! The table of requests.
 ghost use Rattle.std.specs.Prelude.{◌≡◌, true, false};
-ghost use Rattle.aio_exchange.specs.Outside.{outside_of, ported};
+ghost use Rattle.aio_wire.specs.Port.{ported};
 ghost use Rattle.aio_body.specs.Asked.{Serves, IsAskingFor};
 ghost use Rattle.aio_body.specs.Asking.{Comes, serving};
 ghost use Rattle.aio_body.specs.Stands.{Possible};
@@ -23,8 +23,7 @@ pub fn reply<W: Wire, X: Extra>(
     request: Request,
 ) -> Result<RequestReply, Stop>
     requires { Possible X.added (IsAskingFor task request) body.old }
-    ensures { Comes (outside_of W.seen W.fails W.keeps W.quiet)
-        (serving X.added task request body.old body.new)
+    ensures { Comes W.outside (serving X.added task request body.old body.new)
         (ported wire.old body.old.events) (ported wire.new body.new.events) result }
 {
     if is_own(&request) {
@@ -75,8 +74,7 @@ fn serve_beside<W: Wire, X: Extra>(
 ) -> Result<RequestReply, Stop>
     requires asked { Possible X.added (IsAskingFor task request.now) body.old }
     requires beside { is_own request.now ≡ false }
-    ensures { Comes (outside_of W.seen W.fails W.keeps W.quiet)
-        (serving X.added task request.now body.old body.new)
+    ensures { Comes W.outside (serving X.added task request.now body.old body.new)
         (ported wire.old body.old.events) (ported wire.new body.new.events) result }
 {
     match request {

@@ -8,9 +8,10 @@ use Rattle.model_machine.specs.State as plain
 use Rattle.model_machine.specs.State.{State}
 use Rattle.aio_base.specs.declared.memory.Memory.{Memory}
 use Rattle.aio_timer.specs.declared.live.TimerId.{TimerId}
+use Rattle.aio_wire.specs.Outside.{Outside}
+use Rattle.aio_wire.specs.Port.{ported}
 use Rattle.aio_wire.specs.declared.stop.Stop.{Stop}
 use Rattle.aio_exchange.proofs.Among.{told_none}
-use Rattle.aio_exchange.specs.Outside.{IsOutside, Outside, ported}
 use Rattle.aio_extra.specs.Added.{Added}
 use Rattle.aio_body.proofs.Asking.{come_none, comes_alone, comes_ends, comes_goes}
 use Rattle.aio_body.specs.Asked.{IsDeciding, Says}
@@ -27,12 +28,12 @@ use Rattle.law_body.proofs.Unasked.{decides_told}
 use Rattle.aio_step.specs.Stepping.{DecidesAs, deciding}
 use Rattle.aio_step.proofs.First.{asked_decides, sleeping_decides}
 
-module _ {X W : Type 0} (a : Added X) (o : Outside W) (laws : IsOutside o) (task : ℕ) (input : Input) (old : Body X) (wire : W) where
+module _ {X W : Type 0} (a : Added X) (o : Outside W) (task : ℕ) (input : Input) (old : Body X) (wire : W) where
   -- the input answers what the coroutine asked
   pub heard_asked : Comes o (deciding a task Asked input old old) (ported wire old.events) (ported wire old.events) (Ok (reply_of input))
   heard_asked =
-      comes_ends o laws (deciding a task Asked input old old) [] (ported wire old.events) (ported wire old.events) (reply_of input)
-      (come_none o laws _ (ported wire old.events) (ported wire old.events) _ refl (λ c at h. (
+      comes_ends o (deciding a task Asked input old old) [] (ported wire old.events) (ported wire old.events) (reply_of input)
+      (come_none o _ (ported wire old.events) (ported wire old.events) _ refl (λ c at h. (
         told_none old.events.events,
         asked_decides task c old at.0 input at.1 h.1 h.0.in_step,
       )))
@@ -40,8 +41,8 @@ module _ {X W : Type 0} (a : Added X) (o : Outside W) (laws : IsOutside o) (task
   pub heard_sleeping : (timer : TimerId) (future : ℕ)
       → Comes o (deciding a task (Sleeping timer future) input old old) (ported wire old.events) (ported wire old.events) (Ok (reply_of input))
   heard_sleeping timer future =
-      comes_ends o laws (deciding a task (Sleeping timer future) input old old) [] (ported wire old.events) (ported wire old.events) (reply_of input)
-      (come_none o laws _ (ported wire old.events) (ported wire old.events) _ refl (λ c at h. (
+      comes_ends o (deciding a task (Sleeping timer future) input old old) [] (ported wire old.events) (ported wire old.events) (reply_of input)
+      (come_none o _ (ported wire old.events) (ported wire old.events) _ refl (λ c at h. (
         told_none old.events.events,
         sleeping_decides timer future task c old at.0 input at.1 h.1 h.0.in_step,
       )))
@@ -60,7 +61,7 @@ module _ {X W : Type 0} (a : Added X) (o : Outside W) (laws : IsOutside o) (task
         → Comes o (deciding a task code input old new) (ported wire old.events) (ported wire new.events) told
     heard_alone new result goes told same =
         subst (Comes o (deciding a task code input old new) (ported wire old.events) (ported wire new.events)) (sym same)
-        (comes_alone o laws (deciding a task code input old new) (ported wire old.events) (ported wire new.events)
+        (comes_alone o (deciding a task code input old new) (ported wire old.events) (ported wire new.events)
         (λ c at h. decides_begins a.meaning task (c.past ++ old.events.events) at.0 h.0.in_step.stands.events at.1 input) result refl
         (IfOk-weaker result _ _ (λ said given c at h.
         let says = subst (λ (st : plain.Standing). Says task c new said (decides a.meaning st task input at.0)) (is at.1 h.1)
@@ -72,9 +73,9 @@ module _ {X W : Type 0} (a : Added X) (o : Outside W) (laws : IsOutside o) (task
         → Comes o (resuming a task stood input old new) (ported wire old.events) (ported now new.events) result
         → Comes o (deciding a task code input old new) (ported wire old.events) (ported now new.events) result
     heard_on new now result goes =
-        comes_goes o laws (deciding a task code input old new) [] (ported wire old.events) (ported wire old.events)
+        comes_goes o (deciding a task code input old new) [] (ported wire old.events) (ported wire old.events)
         (λ c s. IsDeciding task stood c old s) (decides a.meaning stood task input) (ported now new.events) result
-        (come_none o laws (λ c at. IsDeciding task at.1 c old at.0 × DecidesAs code at.1) (ported wire old.events) (ported wire old.events)
+        (come_none o (λ c at. IsDeciding task at.1 c old at.0 × DecidesAs code at.1) (ported wire old.events) (ported wire old.events)
         (λ c at. (next : State a.Kept) × (IsDeciding task stood c old next
         × (decides a.meaning at.1 task input at.0 ≡ decides a.meaning stood task input next))) refl (λ c at h. (
           told_none old.events.events,

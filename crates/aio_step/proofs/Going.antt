@@ -10,12 +10,13 @@ use Rattle.model_machine.specs.State.{State, resumed}
 use Rattle.model_machine.specs.Step.{serve_all}
 use Rattle.model_machine.specs.Went.{Went, Goes, Stops}
 use Rattle.aio_wire.specs.EventList.{EventList}
+use Rattle.aio_wire.specs.Outside.{Outside}
+use Rattle.aio_wire.specs.Port.{ported}
 use Rattle.aio_wire.specs.declared.stop.Stop.{Stop}
 use Rattle.aio_wire.specs.declared.stop.Stop.TheVariants as stop
 use Rattle.aio_exchange.proofs.Among.{told_none}
 use Rattle.aio_exchange.specs.Among.{AreTold}
 use Rattle.aio_exchange.specs.Exchanged.{All, Exchange}
-use Rattle.aio_exchange.specs.Outside.{IsOutside, Outside, ported}
 use Rattle.aio_gen.specs.declared.generator.Gen.{Gen}
 use Rattle.aio_extra.specs.Added.{Added}
 use Rattle.aio_body.specs.declared.body.Body.{Body}
@@ -79,7 +80,7 @@ AreOn a o task first old start was fresh input body coroutine is =
     × HasCome {At = State a.Kept} {a = a} o (λ c s. IsServing task true first start c old s) had (ported was old.events) (ported is body.events)
     (λ c s. IsOn task first s fresh input c body coroutine)
 
-module _ {X W : Type 0} (a : Added X) (o : Outside W) (laws : IsOutside o) (task : ℕ) (first : Input) (old : Body X) (start : Gen) (was : W) where
+module _ {X W : Type 0} (a : Added X) (o : Outside W) (task : ℕ) (first : Input) (old : Body X) (start : Gen) (was : W) where
   abbrev From : Setting a → State a.Kept → Type 0
   From c s = IsServing task true first start c old s
 
@@ -90,7 +91,7 @@ module _ {X W : Type 0} (a : Added X) (o : Outside W) (laws : IsOutside o) (task
   pub on_first : AreOn a o task first old start was true first old start was
   on_first = (
     [],
-    come_none o laws From (ported was old.events) (ported was old.events) (λ c s. IsOn task first s true first c old start) refl
+    come_none o From (ported was old.events) (ported was old.events) (λ c s. IsOn task first s true first c old start) refl
         (λ c s h. (
           told_none old.events.events,
           record {
@@ -116,7 +117,7 @@ module _ {X W : Type 0} (a : Added X) (o : Outside W) (laws : IsOutside o) (task
     -- memory is refused
     pub on_starved : (new : Body X) → Comes o (serving_on a task first start old new) (ported was old.events) (ported mid new.events) (Err stop.Memory)
     on_starved new =
-        comes_starved o laws (serving_on a task first start old new) on.0 (ported was old.events) (ported mid body.events) (ported mid new.events) refl
+        comes_starved o (serving_on a task first start old new) on.0 (ported was old.events) (ported mid body.events) (ported mid new.events) refl
         (record {
           exchanged = on.1.exchanged;
           told = λ c s h.
@@ -132,7 +133,7 @@ module _ {X W : Type 0} (a : Added X) (o : Outside W) (laws : IsOutside o) (task
           → Comes o (serving_once a task fresh input coroutine after body new) (ported mid body.events) (ported is new.events) (Ok (Answered next))
           → AreOn a o task first old start was false next new after is
       on_next next once =
-          come_then o laws From on.0 (ported was old.events) (ported mid body.events) (serving_once a task fresh input coroutine after body new)
+          come_then o From on.0 (ported was old.events) (ported mid body.events) (serving_once a task fresh input coroutine after body new)
           (ported is new.events) On (λ c s. IsOn task first s false next c new after) (Answered next) on.1 once (λ more c s t. (
             t.now,
             (
@@ -150,7 +151,7 @@ module _ {X W : Type 0} (a : Added X) (o : Outside W) (laws : IsOutside o) (task
           → Comes o (serving_once a task fresh input coroutine after body new) (ported mid body.events) (ported is new.events) (Err why)
           → Comes o (serving_on a task first start old new) (ported was old.events) (ported is new.events) (Err why)
       on_stop why once =
-          comes_stops o laws From on.0 (ported was old.events) (ported mid body.events) (serving_once a task fresh input coroutine after body new)
+          comes_stops o From on.0 (ported was old.events) (ported mid body.events) (serving_once a task fresh input coroutine after body new)
           (ported is new.events) (does, (Stops, (λ c went it. Steps c new went it, WentBegins))) why
           (record {
             exchanged = on.1.exchanged;
@@ -175,7 +176,7 @@ module _ {X W : Type 0} (a : Added X) (o : Outside W) (laws : IsOutside o) (task
       pub on_goes : Comes o (serving_once a task fresh input coroutine after body new) (ported mid body.events) (ported is new.events) (Ok (Ended went.Goes))
           → Comes o (serving_on a task first start old new) (ported was old.events) (ported is new.events) (Ok went.Goes)
       on_goes once =
-          let all = come_then o laws From on.0 (ported was old.events) (ported mid body.events) (serving_once a task fresh input coroutine after body new)
+          let all = come_then o From on.0 (ported was old.events) (ported mid body.events) (serving_once a task fresh input coroutine after body new)
           (ported is new.events) On (λ c s. Steps c new went.Goes (does s)) (Ended went.Goes) on.1 once (λ more c s t. (
             t.now,
             (
@@ -185,14 +186,14 @@ module _ {X W : Type 0} (a : Added X) (o : Outside W) (laws : IsOutside o) (task
                   e.between,
             ),
           )) in
-          comes_ends o laws (serving_on a task first start old new) all.0 (ported was old.events) (ported is new.events) went.Goes all.1
+          comes_ends o (serving_on a task first start old new) all.0 (ported was old.events) (ported is new.events) went.Goes all.1
 
       pub on_runaway : (other : ℕ)
           → Comes o (serving_once a task fresh input coroutine after body new) (ported mid body.events) (ported is new.events)
           (Ok (Ended (went.Runaway other)))
           → Comes o (serving_on a task first start old new) (ported was old.events) (ported is new.events) (Ok (went.Runaway other))
       on_runaway other once =
-          let all = come_then o laws From on.0 (ported was old.events) (ported mid body.events) (serving_once a task fresh input coroutine after body new)
+          let all = come_then o From on.0 (ported was old.events) (ported mid body.events) (serving_once a task fresh input coroutine after body new)
           (ported is new.events) On (λ c s. Steps c new (went.Runaway other) (does s)) (Ended (went.Runaway other)) on.1 once (λ more c s t. (
             t.now,
             (
@@ -203,7 +204,7 @@ module _ {X W : Type 0} (a : Added X) (o : Outside W) (laws : IsOutside o) (task
                   (ap end.Runaway (sym e.0), e.1.told),
             ),
           )) in
-          comes_ends o laws (serving_on a task first start old new) all.0 (ported was old.events) (ported is new.events) (went.Runaway other) all.1
+          comes_ends o (serving_on a task first start old new) all.0 (ported was old.events) (ported is new.events) (went.Runaway other) all.1
 
       -- the step ended or ran away
       pub on_end : (said : Stepped)
@@ -217,7 +218,7 @@ module _ {X W : Type 0} (a : Added X) (o : Outside W) (laws : IsOutside o) (task
         ceased : (had : List Exchange)
             × HasCome o From had (ported was old.events) (ported is new.events) (λ c s. HasCeased task first s c new after)
         ceased =
-            come_then o laws From on.0 (ported was old.events) (ported mid body.events) (serving_once a task fresh input coroutine after body new)
+            come_then o From on.0 (ported was old.events) (ported mid body.events) (serving_once a task fresh input coroutine after body new)
             (ported is new.events) On (λ c s. HasCeased task first s c new after) Rests on.1 once (λ more c s t. (
               t.now,
               (
@@ -242,8 +243,8 @@ module _ {X W : Type 0} (a : Added X) (o : Outside W) (laws : IsOutside o) (task
         pub on_rest : (last : Body X) → last ≡ record new { slots = last.slots } → last.slots.items ≡ put_back task after new.slots.items
             → Comes o (serving_on a task first start old last) (ported was old.events) (ported is last.events) (Ok went.Goes)
         on_rest last beside items =
-            comes_ends o laws (serving_on a task first start old last) ceased.0 (ported was old.events) (ported is last.events) went.Goes
-            (come_beside o laws From ceased.0 (ported was old.events) (ported is new.events) (ported is last.events)
+            comes_ends o (serving_on a task first start old last) ceased.0 (ported was old.events) (ported is last.events) went.Goes
+            (come_beside o From ceased.0 (ported was old.events) (ported is new.events) (ported is last.events)
             (λ c s. HasCeased task first s c new after) (λ c s. Steps c last went.Goes (does s)) ceased.1 refl
             (λ c s r. (
               subst (λ (l : EventList). AreTold [] All new.events.events l.events) (sym (ap (λ (x : Body X). x.events) beside)) (told_none new.events.events),

@@ -23,12 +23,13 @@ use Rattle.aio_extra.specs.Added.{Added}
 use Rattle.aio_body.specs.declared.body.Body.{Body}
 use Rattle.aio_body.specs.declared.reply.RequestReply.{RequestReply}
 use Rattle.aio_wire.specs.EventList.{EventList}
+use Rattle.aio_wire.specs.Outside.{Outside}
+use Rattle.aio_wire.specs.Port.{ported}
 use Rattle.aio_wire.specs.declared.stop.Stop.{Stop}
 use Rattle.aio_wire.specs.declared.stop.Stop.TheVariants as stop
 use Rattle.aio_exchange.proofs.Among.{told_none}
 use Rattle.aio_exchange.specs.Among.{AreTold}
 use Rattle.aio_exchange.specs.Exchanged.{All}
-use Rattle.aio_exchange.specs.Outside.{IsOutside, Outside, ported}
 use Rattle.aio_body.proofs.Asking.{HasCome, come_none, come_then, comes_ends, comes_stops, comes_without}
 use Rattle.aio_body.specs.Asked.{IsAskingFor}
 use Rattle.aio_body.specs.Asking.{Comes, Piece, before, serving}
@@ -103,7 +104,7 @@ module _ {X : Type 0} {a : Added X} (task : ℕ) (fresh : Bool) (input : Input) 
     ask_of may request e = ∥∥₁_map may (λ w. (holding now w.0, (resumed fresh task input w.1.0, asking w.0 w.1.0 w.1.1 request e)))
 
     -- ---- what it says is served
-    module _ {W : Type 0} (o : Outside W) (laws : IsOutside o) (was : W) where
+    module _ {W : Type 0} (o : Outside W) (was : W) where
       abbrev From : Setting a → State a.Kept → Type 0
       From c s = IsServing task fresh input taken c body s
 
@@ -111,7 +112,7 @@ module _ {X : Type 0} {a : Added X} (task : ℕ) (fresh : Bool) (input : Input) 
       none : (new : Body X) (so : Setting a → State a.Kept → Type 0) → new.events ≡ body.events
           → ((c : Setting a) (s : State a.Kept) → From c s → so c s) → HasCome o From [] (ported was body.events) (ported was new.events) so
       none new so same all =
-          come_none o laws From (ported was body.events) (ported was new.events) so refl
+          come_none o From (ported was body.events) (ported was new.events) so refl
           (λ c s h. (subst (λ (l : EventList). AreTold [] All body.events.events l.events) (sym same) (told_none body.events.events), all c s h))
 
       abbrev asked : Request → (new : Body X) → Piece a (State a.Kept) (plain.RequestReply a.Kept) RequestReply
@@ -129,7 +130,7 @@ module _ {X : Type 0} {a : Added X} (task : ℕ) (fresh : Bool) (input : Input) 
         pub asks_so : (it : RequestReply) → Comes o (serving a task request body new) (ported was body.events) (ported is new.events) (Ok it)
             → Comes o (serving_once a task fresh input taken now body new) (ported was body.events) (ported is new.events) (Ok (served_of it))
         asks_so it replies =
-            let all = come_then o laws From [] (ported was body.events) (ported was body.events) (asked request new) (ported is new.events)
+            let all = come_then o From [] (ported was body.events) (ported was body.events) (asked request new) (ported is new.events)
             From (λ c s. LeadsOn task c new now (served_of it) (serves_once a.meaning task (resumed fresh task input s))) it
             (none body From refl (λ c s h. h)) (held request new is (Ok it) replies)
             (λ more c s h. (
@@ -142,13 +143,13 @@ module _ {X : Type 0} {a : Added X} (task : ℕ) (fresh : Bool) (input : Input) 
                     (requests_sound a.meaning (extra_sound a) task request (resumed fresh task input s) h.sound (says_asks (before more c) s h request e)),
               ),
             )) in
-            comes_ends o laws (serving_once a task fresh input taken now body new) all.0 (ported was body.events) (ported is new.events) (served_of it) all.1
+            comes_ends o (serving_once a task fresh input taken now body new) all.0 (ported was body.events) (ported is new.events) (served_of it) all.1
 
         -- or it stopped
         pub asks_stop : (why : Stop) → Comes o (serving a task request body new) (ported was body.events) (ported is new.events) (Err why)
             → Comes o (serving_once a task fresh input taken now body new) (ported was body.events) (ported is new.events) (Err why)
         asks_stop why replies =
-            comes_stops o laws From [] (ported was body.events) (ported was body.events) (asked request new) (ported is new.events)
+            comes_stops o From [] (ported was body.events) (ported was body.events) (asked request new) (ported is new.events)
             ((λ s. serves_once a.meaning task (resumed fresh task input s)), (halted, (λ c said it. LeadsOn task c new now said it, OnwardBegins))) why
             (none body _ refl (λ c s h. (
               resumed fresh task input s,
@@ -167,13 +168,13 @@ module _ {X : Type 0} {a : Added X} (task : ℕ) (fresh : Bool) (input : Input) 
           → ((c : Setting a) (s : State a.Kept) → From c s → LeadsOn task c new now said (serves_once a.meaning task (resumed fresh task input s)))
           → Comes o (serving_once a task fresh input taken now body new) (ported was body.events) (ported was new.events) (Ok said)
       ends_so new said same all =
-          comes_ends o laws (serving_once a task fresh input taken now body new) [] (ported was body.events) (ported was new.events) said
+          comes_ends o (serving_once a task fresh input taken now body new) [] (ported was body.events) (ported was new.events) said
           (none new _ same all)
 
 -- it had no memory
-module _ {X W : Type 0} (a : Added X) (o : Outside W) (laws : IsOutside o) (task : ℕ) (fresh : Bool) (input : Input) (body : Body X) (taken after : Gen)
+module _ {X W : Type 0} (a : Added X) (o : Outside W) (task : ℕ) (fresh : Bool) (input : Input) (body : Body X) (taken after : Gen)
     (was : W) where
   pub resumes_without : Comes o (serving_once a task fresh input taken after body body) (ported was body.events) (ported was body.events) (Err stop.Memory)
   resumes_without =
-      comes_without o laws (serving_once a task fresh input taken after body body) (ported was body.events) (ported was body.events)
+      comes_without o (serving_once a task fresh input taken after body body) (ported was body.events) (ported was body.events)
       (λ c s h. once_begins a.meaning task (resumed fresh task input s) (c.past ++ body.events.events) h.in_step.stands.events) refl

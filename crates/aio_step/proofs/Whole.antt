@@ -11,11 +11,12 @@ use Rattle.model_machine.specs.State.{State, generator_of, resumed}
 use Rattle.model_machine.specs.Step.{step, serve_all}
 use Rattle.model_machine.specs.Went.{Stops}
 use Rattle.aio_wire.specs.EventList.{EventList}
+use Rattle.aio_wire.specs.Outside.{Outside}
+use Rattle.aio_wire.specs.Port.{ported}
 use Rattle.aio_wire.specs.declared.stop.Stop.{Stop}
 use Rattle.aio_exchange.proofs.Among.{told_none}
 use Rattle.aio_exchange.specs.Among.{AreTold}
 use Rattle.aio_exchange.specs.Exchanged.{All, Exchange}
-use Rattle.aio_exchange.specs.Outside.{IsOutside, Outside, ported}
 use Rattle.aio_extra.specs.Added.{Added}
 use Rattle.aio_body.proofs.Asking.{HasCome, come_beside, come_none, come_then, comes_ends, comes_goes, comes_stops}
 use Rattle.aio_body.specs.Asked.{Says}
@@ -54,7 +55,7 @@ called_again {a = a} answers task c body s h = record {
   running = h.running;
 }
 
-module _ {X W : Type 0} (a : Added X) (o : Outside W) (laws : IsOutside o) (task : ℕ) (input : Input) (old : Body X) (made : HearsMade input old)
+module _ {X W : Type 0} (a : Added X) (o : Outside W) (task : ℕ) (input : Input) (old : Body X) (made : HearsMade input old)
     (started : Started) (begun : Body X) (b : (c : Setting a) (s : State a.Kept) → IsCalled task c old s → HasBegun task input c s started begun)
     (was : W) (new : Body X) (mid : W) where
   abbrev From : Setting a → State a.Kept → Type 0
@@ -66,7 +67,7 @@ module _ {X W : Type 0} (a : Added X) (o : Outside W) (laws : IsOutside o) (task
 
   begins : HasCome o From [] (ported was old.events) (ported was begun.events) Begun
   begins =
-      come_none o laws From (ported was old.events) (ported was begun.events) Begun refl (λ c s h. let it = b c s h in (
+      come_none o From (ported was old.events) (ported was begun.events) Begun refl (λ c s h. let it = b c s h in (
         told_so c.past old.events.events begun.events.events s.events s.events h.stands.events it.deciding.in_step.stands.events
             ([], sym (append-nil s.events)) refl,
         (h, it),
@@ -88,7 +89,7 @@ module _ {X W : Type 0} (a : Added X) (o : Outside W) (laws : IsOutside o) (task
       → Comes o (stepping a task input old new) (ported was old.events) (ported mid new.events) (Err why)
   unfolding step
   decides_stop why decides =
-      comes_stops o laws From [] (ported was old.events) (ported was begun.events) decides_so (ported mid new.events)
+      comes_stops o From [] (ported was old.events) (ported was begun.events) decides_so (ported mid new.events)
       (step step_limit a.meaning task input, (Stops, (λ c went it. Steps c new went it, WentBegins))) why
       (record {
         exchanged = begins.exchanged;
@@ -126,7 +127,7 @@ module _ {X W : Type 0} (a : Added X) (o : Outside W) (laws : IsOutside o) (task
 
     gone : (had : List Exchange) × HasCome o From had (ported was old.events) (ported mid new.events) Gone
     gone =
-        come_then o laws From [] (ported was old.events) (ported was begun.events) decides_so (ported mid new.events) Begun Gone it begins
+        come_then o From [] (ported was old.events) (ported was begun.events) decides_so (ported mid new.events) Begun Gone it begins
         (held (Ok it) decides) (λ more c s t. (
           (begun_in task input s, (generator_of task s).standing),
           ((t.1.deciding, t.1.decides), λ says. resumes (before more c) c s t.0 t.1 says),
@@ -143,7 +144,7 @@ module _ {X W : Type 0} (a : Added X) (o : Outside W) (laws : IsOutside o) (task
         → Comes o (stepping a task input old last) (ported was old.events) (ported is last.events) result
     unfolding step
     serves_on last is result serves =
-        comes_goes o laws (stepping a task input old last) gone.0 (ported was old.events) (ported mid new.events)
+        comes_goes o (stepping a task input old last) gone.0 (ported was old.events) (ported mid new.events)
         (λ c s. IsServing task true next started.coroutine c new s) (λ s. serve_all step_limit a.meaning task (resumed true task next s))
         (ported is last.events) result
         (record {
@@ -159,7 +160,7 @@ module _ {X W : Type 0} (a : Added X) (o : Outside W) (laws : IsOutside o) (task
 
     waits : (had : List Exchange) × HasCome o From had (ported was old.events) (ported mid new.events) Waits
     waits =
-        come_then o laws From [] (ported was old.events) (ported was begun.events) decides_so (ported mid new.events) Begun Waits said.Rests begins
+        come_then o From [] (ported was old.events) (ported was begun.events) decides_so (ported mid new.events) Begun Waits said.Rests begins
         (held (Ok said.Rests) decides) (λ more c s t. (
           (begun_in task input s, (generator_of task s).standing),
           (
@@ -180,8 +181,8 @@ module _ {X W : Type 0} (a : Added X) (o : Outside W) (laws : IsOutside o) (task
         → Comes o (stepping a task input old last) (ported was old.events) (ported mid last.events) (Ok went.Goes)
     unfolding step
     waits_on last beside items =
-        comes_ends o laws (stepping a task input old last) waits.0 (ported was old.events) (ported mid last.events) went.Goes
-        (come_beside o laws From waits.0 (ported was old.events) (ported mid new.events) (ported mid last.events) Waits
+        comes_ends o (stepping a task input old last) waits.0 (ported was old.events) (ported mid last.events) went.Goes
+        (come_beside o From waits.0 (ported was old.events) (ported mid new.events) (ported mid last.events) Waits
         (λ c s. Steps c last went.Goes (step step_limit a.meaning task input s)) waits.1 refl (λ c s w. (
           subst (λ (l : EventList). AreTold [] All new.events.events l.events) (sym (ap (λ (x : Body X). x.events) beside)) (told_none new.events.events),
           subst (Steps c last went.Goes) (sym (w.0.goes (serve_all step_limit a.meaning task)))

@@ -1,7 +1,7 @@
 //! A step of a task.
 ghost use Rattle.std.specs.Prelude.{◌≡◌, true};
 ghost use Rattle.model_machine.specs.State.{State};
-ghost use Rattle.aio_exchange.specs.Outside.{outside_of, ported};
+ghost use Rattle.aio_wire.specs.Port.{ported};
 ghost use Rattle.aio_body.specs.Asking.{Comes};
 ghost use Rattle.aio_body.specs.Stands.{Setting, Possible};
 ghost use Rattle.aio_step.specs.Serving.{served_of, serving_once};
@@ -53,8 +53,7 @@ pub fn step<W: Wire, X: Extra>(
 ) -> Result<Stepped, Stop>
     requires called { Possible X.added (IsCalled task) body.old }
     requires made { HearsMade input body.old }
-    ensures { Comes (outside_of W.seen W.fails W.keeps W.quiet)
-        (stepping X.added task input body.old body.new)
+    ensures { Comes W.outside (stepping X.added task input body.old body.new)
         (ported wire.old body.old.events) (ported wire.new body.new.events) result }
 {
     let Started {
@@ -115,8 +114,7 @@ fn decide<W: Wire, X: Extra>(
     input: Input,
 ) -> Result<RequestReply, Stop>
     requires { Possible X.added (IsDecidingAs task standing) body.old }
-    ensures { Comes (outside_of W.seen W.fails W.keeps W.quiet)
-        (deciding X.added task standing input body.old body.new)
+    ensures { Comes W.outside (deciding X.added task standing input body.old body.new)
         (ported wire.old body.old.events) (ported wire.new body.new.events) result }
 {
     match standing {
@@ -148,8 +146,7 @@ fn serve<W: Wire, X: Extra>(
     input: Input,
 ) -> Result<Stepped, Stop>
     requires { Possible X.added (IsServing task true input coroutine) body.old }
-    ensures { Comes (outside_of W.seen W.fails W.keeps W.quiet)
-        (serving_on X.added task input coroutine body.old body.new)
+    ensures { Comes W.outside (serving_on X.added task input coroutine body.old body.new)
         (ported wire.old body.old.events) (ported wire.new body.new.events) result }
 {
     let mut coroutine = coroutine;
@@ -192,7 +189,7 @@ fn serve_one<W: Wire, X: Extra>(
     fresh: bool,
 ) -> Result<Served, Stop>
     requires { Possible X.added (IsServing task fresh input coroutine.old) body.old }
-    ensures { Comes (outside_of W.seen W.fails W.keeps W.quiet)
+    ensures { Comes W.outside
         (serving_once X.added task fresh input coroutine.old coroutine.new body.old body.new)
         (ported wire.old body.old.events) (ported wire.new body.new.events) result }
 {

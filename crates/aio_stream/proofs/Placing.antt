@@ -14,8 +14,8 @@ use Rattle.model_stream.specs.Receivers.{give_up_read}
 use Rattle.model_stream.specs.Requests as requests
 use Rattle.model_stream.specs.Requests.{OfConn, asked_one, noted, write, write_unnoted, written_by}
 use Rattle.model_stream.specs.Streams.{Streams, its_connections, on_one}
+use Rattle.aio_wire.specs.Outside.{Outside}
 use Rattle.aio_wire.specs.declared.stop.Stop.{Stop}
-use Rattle.aio_exchange.specs.Outside.{IsOutside, Outside}
 use Rattle.law_doing.specs.Follows.{Follows, Reach, after_of, with_after}
 use Rattle.law_doing.specs.Tells.{Tells}
 use Rattle.law_doing.proofs.Following.{follows_ends, follows_stopped, follows_then}
@@ -100,7 +100,7 @@ module _ (k : Kept) (id : ℕ) (c after : Connection) (at : slice_get k.connecti
     | Some one ↦ and_then (change one) (λ it. Ends (record s { connections = slice_set s.connections id it }))
   ]
 
-  module _ {R W : Type 0} (o : Outside W) (laws : IsOutside o) (change : Connection → Doing Connection) (old new : Reach View W)
+  module _ {R W : Type 0} (o : Outside W) (change : Connection → Doing Connection) (old new : Reach View W)
       (result : Result R Stop) (f : Follows o seen_changed (change c) old new (after_of after result)) where
     pub comes_placed : Comes o (on_one its_connections id change) k placed old new result
     comes_placed s h = (
@@ -114,10 +114,10 @@ module _ (k : Kept) (id : ℕ) (c after : Connection) (at : slice_get k.connecti
         goes : (r : Result R Stop) → Follows o seen_changed (change c) old new (after_of after r)
             → Follows o seen_changed (on_by change s (Some c)) old new (after_of (put_in s) r)
         goes (Ok done) f =
-            follows_then o laws seen_changed (change c) (λ it. Ends (record s { connections = slice_set s.connections id it })) after old new new
-            (Ok (put_in s)) f (follows_ends o laws seen_changed (put_in s) new)
+            follows_then o seen_changed (change c) (λ it. Ends (record s { connections = slice_set s.connections id it })) after old new new
+            (Ok (put_in s)) f (follows_ends o seen_changed (put_in s) new)
         goes (Err why) f =
-            follows_stopped o laws seen_changed (change c) (λ it. Ends (record s { connections = slice_set s.connections id it })) why old new f
+            follows_stopped o seen_changed (change c) (λ it. Ends (record s { connections = slice_set s.connections id it })) why old new f
 
         ok : (r : Result R Stop) → OnOk r (StandsAfter placed s (put_in s))
         ok (Ok said) = stands_placed s h
@@ -132,7 +132,7 @@ module _ (k : Kept) (id : ℕ) (c after : Connection) (at : slice_get k.connecti
         by (Err why) f one = tt
 
   -- a piece is written to it, which is noted in the streams alone
-  module _ {W : Type 0} (o : Outside W) (laws : IsOutside o) (piece : List ℕ) (old new : Reach View W) (result : Result Wrote Stop)
+  module _ {W : Type 0} (o : Outside W) (piece : List ℕ) (old new : Reach View W) (result : Result Wrote Stop)
       (f : Follows o seen_changed (write_to id piece c) old new (with_after after result)) where
     abbrev unnoted_by : Streams → Option Connection → Doing (Streams × Wrote)
     unnoted_by s it = elim it [
@@ -147,10 +147,10 @@ module _ (k : Kept) (id : ℕ) (c after : Connection) (at : slice_get k.connecti
         goes : (r : Result Wrote Stop) → Follows o seen_changed (write_to id piece c) old new (with_after after r)
             → Follows o seen_changed (unnoted_by s (Some c)) old new (with_after (put_in s) r)
         goes (Ok done) f =
-            follows_then o laws seen_changed (write_to id piece c) (λ it. Ends (record s { connections = slice_set s.connections id it.0 }, it.1))
-            (after, done) old new new (Ok (put_in s, done)) f (follows_ends o laws seen_changed (put_in s, done) new)
+            follows_then o seen_changed (write_to id piece c) (λ it. Ends (record s { connections = slice_set s.connections id it.0 }, it.1))
+            (after, done) old new new (Ok (put_in s, done)) f (follows_ends o seen_changed (put_in s, done) new)
         goes (Err why) f =
-            follows_stopped o laws seen_changed (write_to id piece c) (λ it. Ends (record s { connections = slice_set s.connections id it.0 }, it.1)) why
+            follows_stopped o seen_changed (write_to id piece c) (λ it. Ends (record s { connections = slice_set s.connections id it.0 }, it.1)) why
             old new f
 
     noted_so : (s : Streams) → StandsFor k s → (noting : List ℕ)
@@ -288,30 +288,30 @@ module _ (k : Kept) (id : ℕ) (past : slice_get k.connections id ≡ None) wher
         | Some one ↦ record s { connections = slice_set s.connections id (its_receiver.put (give_up_read on one.receiver) one) }
       ])) (none_there s h) (h, refl)
 
-  pub comes_absent : {R W : Type 0} (o : Outside W) (laws : IsOutside o) (change : Connection → Doing Connection) (at : Reach View W) (result : R)
+  pub comes_absent : {R W : Type 0} (o : Outside W) (change : Connection → Doing Connection) (at : Reach View W) (result : R)
       → Comes o (on_one its_connections id change) k k at at (Ok result)
-  comes_absent o laws change at result s h = (
+  comes_absent o change at result s h = (
     s,
     (
       subst (λ (it : Option Connection). Follows o seen_changed
           (elim it [
             | None ↦ Ends s
             | Some one ↦ and_then (change one) (λ it. Ends (record s { connections = slice_set s.connections id it }))
-          ]) at at (Ok s)) (none_there s h) (follows_ends o laws seen_changed s at),
+          ]) at at (Ok s)) (none_there s h) (follows_ends o seen_changed s at),
       (h, refl),
     ),
   )
 
-  pub writes_absent : {W : Type 0} (o : Outside W) (laws : IsOutside o) (piece : List ℕ) (at : Reach View W)
+  pub writes_absent : {W : Type 0} (o : Outside W) (piece : List ℕ) (at : Reach View W)
       → Answers o (write (to.Conn id) piece) k k at at (Ok wrote.Done)
-  writes_absent o laws piece at s h = (
+  writes_absent o piece at s h = (
     s,
     (
       subst (λ (it : Option Connection). Follows {A = Streams × Wrote} o seen_changed
           (elim (option_map (λ (c : Connection). c.sender) it) [
             | None ↦ Ends (s, wrote.Done)
             | Some sender ↦ write_unnoted (to.Conn id) piece (noted (to.Conn id) (written_by (to.Conn id) piece sender) s)
-          ]) at at (Ok (s, wrote.Done))) (none_there s h) (follows_ends o laws seen_changed {A = Streams × Wrote} (s, wrote.Done) at),
+          ]) at at (Ok (s, wrote.Done))) (none_there s h) (follows_ends o seen_changed {A = Streams × Wrote} (s, wrote.Done) at),
       (h, refl),
     ),
   )

@@ -2,8 +2,8 @@
 use Rattle.std.specs.Prelude.{◌≡◌, Result, OnOk}
 use Rattle.model_stream.specs.Doing.{Doing}
 use Rattle.model_stream.specs.Streams.{Streams}
+use Rattle.aio_wire.specs.Outside.{Outside}
 use Rattle.aio_wire.specs.declared.stop.Stop.{Stop}
-use Rattle.aio_exchange.specs.Outside.{Outside}
 use Rattle.law_doing.specs.Follows.{Follows, Reach, after_of, with_after}
 use Rattle.law_doing.specs.Tells.{Tells}
 use Rattle.aio_task.specs.View.{View}

@@ -9,8 +9,9 @@ use Rattle.model_machine.specs.Replies as plain
 use Rattle.model_machine.specs.Replies.{reply, streams_do}
 use Rattle.model_machine.specs.Sound.{AreStreamsFutures}
 use Rattle.model_machine.specs.State.{State}
+use Rattle.aio_wire.specs.Outside.{Outside}
+use Rattle.aio_wire.specs.Port.{ported}
 use Rattle.aio_wire.specs.declared.stop.Stop.{Stop}
-use Rattle.aio_exchange.specs.Outside.{IsOutside, Outside, ported}
 use Rattle.law_doing.specs.Follows.{reach}
 use Rattle.law_reach.specs.Reaches.{left_by}
 use Rattle.law_trees.specs.Trees.{AnswersStreams, Keeping}
@@ -26,7 +27,7 @@ use Rattle.law_does.proofs.Served.{serving_answers, serving_fails, serving_raise
 use Rattle.aio_streaming.specs.Answered.{Answered, AnsweredAs, ComesAs, Raising, With, answered_by}
 
 -- `said` is what the call's answer is to the request, and `next` the same in the machine.
-module _ {X W R : Type 0} {a : Added X} (task : ℕ) (request : Request) (old : Body X) (o : Outside W) (laws : IsOutside o)
+module _ {X W R : Type 0} {a : Added X} (task : ℕ) (request : Request) (old : Body X) (o : Outside W)
     (possible : Possible a (IsAskingFor task request) old) (new : Body X) (wire after : W) (tree : ℕ → Streams → Doing (Streams × R))
     (said : R → Answered) (next : R → State a.Kept → plain.RequestReply a.Kept)
     (is : (it : R) (t : State a.Kept) → next it t ≡ answered_by (said it) t) (adds : (it : R) → AddsEvents left_by (next it))
@@ -49,14 +50,14 @@ module _ {X W R : Type 0} {a : Added X} (task : ℕ) (request : Request) (old : 
       at : (y : Answered) → said it ≡ y → ComesAs y result → ComesTo result
       at (With value) e same =
           subst ComesTo (sym same)
-          (serving_answers task request old o laws possible new wire after tree next means Waits it call keeping beside value
+          (serving_answers task request old o possible new wire after tree next means Waits it call keeping beside value
           (λ t. is it t ∙ ap (λ y. answered_by y t) e))
       at (Raising fault) e (inl same) =
           subst ComesTo (sym same)
-          (serving_raises task request old o laws possible new wire after tree next means Waits it call keeping beside fault
+          (serving_raises task request old o possible new wire after tree next means Waits it call keeping beside fault
           (λ t. is it t ∙ ap (λ y. answered_by y t) e))
       at (Raising fault) e (inr same) =
           subst ComesTo (sym same)
-          (serving_starves task request old o laws possible new wire after tree next means Waits it call keeping beside new (adds it))
+          (serving_starves task request old o possible new wire after tree next means Waits it call keeping beside new (adds it))
   answered_so (Err why) result call comes =
-      subst ComesTo (sym comes) (serving_fails task request old o laws possible new wire after tree next means adds forgets why call)
+      subst ComesTo (sym comes) (serving_fails task request old o possible new wire after tree next means adds forgets why call)

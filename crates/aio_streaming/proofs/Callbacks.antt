@@ -16,8 +16,9 @@ use Rattle.model_machine.specs.Extra.{Extra}
 use Rattle.model_machine.specs.State.{State, with_streams}
 use Rattle.model_machine.specs.Turn.{effect, is_returned, streams_go}
 use Rattle.model_machine.specs.Went.{Went, Goes, Stops}
+use Rattle.aio_wire.specs.Outside.{Outside}
+use Rattle.aio_wire.specs.Port.{ported}
 use Rattle.aio_wire.specs.declared.stop.Stop.{Stop}
-use Rattle.aio_exchange.specs.Outside.{IsOutside, Outside, ported}
 use Rattle.law_doing.specs.Follows.{reach}
 use Rattle.law_kept.proofs.Telling.{future_of_kept, outcome_kept}
 use Rattle.law_machine.proofs.Counts.{goes_on_same}
@@ -106,7 +107,7 @@ module _ {X : Type 0} {a : Added X} (it : Action) (old : Body X) where
   returned_read c s h _ = refl
 
   -- ---- what comes of it
-  module _ {W : Type 0} (o : Outside W) (laws : IsOutside o) (returned : Bool) (new : Body X) (wire after : W)
+  module _ {W : Type 0} (o : Outside W) (returned : Bool) (new : Body X) (wire after : W)
       (possible : Possible a (IsTaken it) old) (of : is_of_streams it ≡ true)
       (read : returned ≡ returned_in (parts old.parts) it) where
     abbrev piece : Piece a (State a.Kept) (Went a.Kept) (Unit {0})
@@ -134,6 +135,6 @@ module _ {X : Type 0} {a : Added X} (it : Action) (old : Body X) where
     acts_so (Ok said) call beside =
         let come = change_goes o piece None old new wire after may (taken_streams possible) tree Goes means said call
         (λ s kept. acts (is_plain s.loop.parts) (next_future s.loop.parts) returned it s.streams kept) beside in
-        gone_ends o laws piece None old new wire after (λ first now. Unit {0}) Goes come new said refl
+        gone_ends o piece None old new wire after (λ first now. Unit {0}) Goes come new said refl
         (λ c s began g.
         callback_so it (before come.0 c) c old new s began (steps_none it of) (λ first now. Unit {0}) (piece.does s) Goes g)

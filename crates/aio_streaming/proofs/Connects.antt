@@ -13,9 +13,10 @@ use Rattle.model_machine.specs.Sound.{AreStreamsFutures}
 use Rattle.model_machine.specs.State.{State}
 use Rattle.model_machine.specs.State as state
 use Rattle.aio_base.specs.declared.memory.Memory.{Memory}
+use Rattle.aio_wire.specs.Outside.{Outside}
+use Rattle.aio_wire.specs.Port.{ported}
 use Rattle.aio_wire.specs.declared.stop.Stop.{Stop}
 use Rattle.aio_exchange.specs.Exchanged.{Exchange}
-use Rattle.aio_exchange.specs.Outside.{IsOutside, Outside, ported}
 use Rattle.law_doing.specs.Follows.{reach}
 use Rattle.law_trees.specs.Trees.{AnswersStreams, IsMade, Keeping}
 use Rattle.law_trees.proofs.Opening.{connects}
@@ -42,7 +43,7 @@ use Rattle.law_does.proofs.Requests.{begun_waits}
 use Rattle.law_does.proofs.Served.{asking_idle, serving_fails, serving_goes, serving_raises, serving_stands, serving_starves}
 use Rattle.law_body.proofs.HasSlot.{slot_there}
 
-module _ {X W : Type 0} {a : Added X} (task number : ℕ) (request : Request) (old : Body X) (o : Outside W) (laws : IsOutside o)
+module _ {X W : Type 0} {a : Added X} (task number : ℕ) (request : Request) (old : Body X) (o : Outside W)
     (possible : Possible a (IsAskingFor task request) old) (new : Body X) (wire after : W)
     (means : (c : Setting a) (s : State a.Kept) → IsAskingFor task request c old s
     → reply a.meaning task request s ≡ streams_do (connect number (next_future s.loop.parts) s.streams) (connects_as task) s) where
@@ -62,7 +63,7 @@ module _ {X W : Type 0} {a : Added X} (task number : ℕ) (request : Request) (o
   -- it stopped
   pub connect_fails : (why : Stop) → Says (Err why) → Comes o (serving a task request old new) (ported wire old.events) (ported after new.events) (Err why)
   connect_fails why call =
-      serving_fails task request old o laws possible new wire after (connect number) (connects_as task) means (connects_add task)
+      serving_fails task request old o possible new wire after (connect number) (connects_as task) means (connects_add task)
       (connect_forgets number (length old.parts.futures)) why call
 
   module _ (it : Option (ℕ × ℕ)) (call : Says (Ok it))
@@ -72,10 +73,10 @@ module _ {X W : Type 0} {a : Added X} (task number : ℕ) (request : Request) (o
         → Comes o (serving a task request old new) (ported wire old.events) (ported after new.events) (or_stop result)
     connect_raises none (Ok reply_) is =
         subst (λ r. Comes o (serving a task request old new) (ported wire old.events) (ported after new.events) (Ok r)) (sym is)
-        (serving_raises task request old o laws possible new wire after (connect number) (connects_as task) means BegunWaits it call keeping beside
+        (serving_raises task request old o possible new wire after (connect number) (connects_as task) means BegunWaits it call keeping beside
         connect_refused (λ t. ap (λ k. connects_as task k t) none))
     connect_raises none (Err memory) is =
-        serving_starves task request old o laws possible new wire after (connect number) (connects_as task) means BegunWaits it call keeping beside new
+        serving_starves task request old o possible new wire after (connect number) (connects_as task) means BegunWaits it call keeping beside new
         (connects_add task it)
 
     module _ (begun : ℕ × ℕ) (is : it ≡ Some begun) where
@@ -87,7 +88,7 @@ module _ {X W : Type 0} {a : Added X} (task number : ℕ) (request : Request) (o
           (λ (c : Setting a) (s : State a.Kept).
           HasGone (Some task) (λ first now. BegunWaits (IsMade first now) it) (reply a.meaning task request s) (connects_as task it) c old new s)
       come =
-          serving_goes task request old o laws possible new wire after (connect number) (connects_as task) means BegunWaits it call keeping beside
+          serving_goes task request old o possible new wire after (connect number) (connects_as task) means BegunWaits it call keeping beside
 
       may : (c : Setting a) (s : State a.Kept) → IsAskingFor task request c old s → MayCall (Some task) c old s
       may c s from = may_asking c old s task request from
@@ -121,6 +122,6 @@ module _ {X W : Type 0} {a : Added X} (task number : ℕ) (request : Request) (o
           → last.slots.items ≡ standing_at task (code.Connecting begun.0) new.slots.items
           → Comes o (serving a task request old last) (ported wire old.events) (ported after last.events) (Ok said.Rests)
       connect_stands last suspends same items =
-          serving_stands task request old o laws possible new wire after (connect number) (connects_as task) means BegunWaits it call keeping beside last
+          serving_stands task request old o possible new wire after (connect number) (connects_as task) means BegunWaits it call keeping beside last
           begun.1 last.parts (code.Connecting begun.0) (state.Connecting begun.0) same items connect_there (λ t p named. refl) suspends made_it
           (λ t. ap (λ k. connects_as task k t) is)

@@ -10,8 +10,9 @@ use Rattle.model_machine.specs.Replies as plain
 use Rattle.model_machine.specs.Replies.{reply, streams_change}
 use Rattle.model_machine.specs.Sound.{AreStreamsFutures}
 use Rattle.model_machine.specs.State.{State}
+use Rattle.aio_wire.specs.Outside.{Outside}
+use Rattle.aio_wire.specs.Port.{ported}
 use Rattle.aio_wire.specs.declared.stop.Stop.{Stop}
-use Rattle.aio_exchange.specs.Outside.{IsOutside, Outside, ported}
 use Rattle.law_doing.specs.Follows.{reach}
 use Rattle.law_trees.specs.Trees.{Keeping, KeepsStreams}
 use Rattle.aio_transports.specs.Standing.{Comes as Changes}
@@ -39,7 +40,7 @@ told_beside {X} old new is =
     is ∙ ap (λ (b : Body X). record old { parts = b.parts; events = new.events; transports = new.transports }) (sym is)
 
 -- It answers with none where the machine does this tree, and then answers so.
-module _ {X W R : Type 0} {a : Added X} (task : ℕ) (request : Request) (old : Body X) (o : Outside W) (laws : IsOutside o)
+module _ {X W R : Type 0} {a : Added X} (task : ℕ) (request : Request) (old : Body X) (o : Outside W)
     (possible : Possible a (IsAskingFor task request) old) (new : Body X) (wire after : W) (tree : ℕ → Streams → Doing Streams)
     (means : (c : Setting a) (s : State a.Kept) → IsAskingFor task request c old s
     → reply a.meaning task request s ≡ streams_change (tree (next_future s.loop.parts) s.streams) (plain.Answers Nothing) s)
@@ -52,6 +53,6 @@ module _ {X W R : Type 0} {a : Added X} (task : ℕ) (request : Request) (old : 
       → Changes o (tree (length old.parts.futures)) old.transports new.transports (reach old.parts wire old.events) (reach new.parts after new.events) result
       → Comes o (serving a task request old new) (ported wire old.events) (ported after new.events) (done_as result)
   done_so (Ok it) call =
-      changing_answers task request old o laws possible new wire after tree (plain.Answers Nothing) means it call keeping beside Nothing (λ t. refl)
+      changing_answers task request old o possible new wire after tree (plain.Answers Nothing) means it call keeping beside Nothing (λ t. refl)
   done_so (Err why) call =
-      changing_fails task request old o laws possible new wire after tree (plain.Answers Nothing) means R (answers_add Nothing) forgets why call
+      changing_fails task request old o possible new wire after tree (plain.Answers Nothing) means R (answers_add Nothing) forgets why call

@@ -12,9 +12,10 @@ use Rattle.model_machine.specs.Replies as plain
 use Rattle.model_machine.specs.Replies.{decides, hears, waits_no_more}
 use Rattle.model_machine.specs.State as state
 use Rattle.model_machine.specs.State.{State}
+use Rattle.aio_wire.specs.Outside.{Outside}
+use Rattle.aio_wire.specs.Port.{ported}
 use Rattle.aio_wire.specs.declared.stop.Stop.{Stop}
 use Rattle.aio_exchange.proofs.Among.{told_none}
-use Rattle.aio_exchange.specs.Outside.{IsOutside, Outside, ported}
 use Rattle.law_doing.specs.Follows.{reach}
 use Rattle.law_trees.proofs.Asking.{drops}
 use Rattle.aio_transports.specs.Kept.{Kept as Transports}
@@ -133,15 +134,15 @@ module _ {X : Type 0} (a : Added X) (task : ℕ) (stood : state.Standing) (old :
     deciding_idle = ∥∥₁_elim possible (same_prop old.parts.called None) (λ w. w.1.1.in_step.called)
 
   -- ---- a connect
-  module _ {W : Type 0} (o : Outside W) (laws : IsOutside o) where
+  module _ {W : Type 0} (o : Outside W) where
     -- the connection stands
     pub connect_answers : (value : Value) (wire : W)
         → ((s : State a.Kept) → decides a.meaning stood task (Send value) s ≡ plain.Answers value s)
         → Comes o (resuming a task stood (Send value) old old) (ported wire old.events) (ported wire old.events) (Ok (said.Answers value))
     connect_answers value wire means =
-        comes_ends o laws (resuming a task stood (Send value) old old) [] (ported wire old.events) (ported wire old.events)
+        comes_ends o (resuming a task stood (Send value) old old) [] (ported wire old.events) (ported wire old.events)
         (said.Answers value)
-        (come_none o laws (λ c s. IsDeciding task stood c old s) (ported wire old.events) (ported wire old.events) _ refl
+        (come_none o (λ c s. IsDeciding task stood c old s) (ported wire old.events) (ported wire old.events) _ refl
         (λ c s h. (told_none old.events.events, subst (Says task c old (said.Answers value)) (sym (means s)) (refl, h.in_step))))
 
     -- or an exception came, and the connection is dropped
@@ -153,16 +154,16 @@ module _ {X : Type 0} (a : Added X) (task : ℕ) (stood : state.Standing) (old :
           → Changes o (drop_connect conn) old.transports new.transports (reach old.parts wire old.events) (reach new.parts after new.events) result
           → Comes o (resuming a task stood (Throw fault) old new) (ported wire old.events) (ported after new.events) (raised_as fault result)
       connect_raises (Ok it) call =
-          raises_go o laws task old new new wire after (λ c s. IsDeciding task stood c old s)
+          raises_go o task old new new wire after (λ c s. IsDeciding task stood c old s)
           (decides a.meaning stood task (Throw fault)) may in_step
           (λ first now. Unit {0}) (plain.Raises fault)
-          (changed_goes o laws task old new new wire after (λ c s. IsDeciding task stood c old s)
+          (changed_goes o task old new new wire after (λ c s. IsDeciding task stood c old s)
           (decides a.meaning stood task (Throw fault)) may in_step
           (λ n. drop_connect conn) (plain.Raises fault) (λ c s h. means s) (deciding_streams possible) it call
           (λ s kept. drops (is_plain s.loop.parts) (next_future s.loop.parts) conn s.streams kept) beside)
           refl fault (λ t. refl)
       connect_raises {R} (Err why) call =
-          changed_fails o laws task old new new wire after (λ c s. IsDeciding task stood c old s)
+          changed_fails o task old new new wire after (λ c s. IsDeciding task stood c old s)
           (decides a.meaning stood task (Throw fault)) may in_step
           (λ n. drop_connect conn) (plain.Raises fault) (λ c s h. means s) (deciding_streams possible) R (raises_add fault)
           (drop_connect_forgets conn) why

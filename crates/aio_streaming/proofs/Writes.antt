@@ -30,7 +30,8 @@ use Rattle.law_inside.proofs.Counts.{lives_within}
 use Rattle.law_trees.specs.Trees.{AnswersStreams, DrainWaits, IsMade, Keeping, KeepsStreams, WaitsNever}
 use Rattle.law_trees.proofs.Asking.{drains}
 use Rattle.aio_base.specs.declared.memory.Memory.{Memory}
-use Rattle.aio_exchange.specs.Outside.{IsOutside, Outside, ported}
+use Rattle.aio_wire.specs.Outside.{Outside}
+use Rattle.aio_wire.specs.Port.{ported}
 use Rattle.aio_ready.specs.Queue as queue
 use Rattle.aio_task.specs.View.{View, parts}
 use Rattle.aio_transports.specs.Owned.{OwnsTransports}
@@ -61,7 +62,7 @@ use Rattle.aio_streaming.specs.Written.{limited_as}
 use Rattle.aio_streaming.proofs.Ending.{done_so}
 
 -- ---- a call that asks nothing and has no answer
-module _ {X W R : Type 0} {a : Added X} (task : ℕ) (request : Request) (old : Body X) (o : Outside W) (laws : IsOutside o)
+module _ {X W R : Type 0} {a : Added X} (task : ℕ) (request : Request) (old : Body X) (o : Outside W)
     (possible : Possible a (IsAskingFor task request) old) (new : Body X) (wire : W) (tree : ℕ → Streams → Doing Streams)
     (means : (c : Setting a) (s : State a.Kept) → IsAskingFor task request c old s
     → reply a.meaning task request s ≡ streams_change (tree (next_future s.loop.parts) s.streams) (plain.Answers Nothing) s)
@@ -75,10 +76,10 @@ module _ {X W R : Type 0} {a : Added X} (task : ℕ) (request : Request) (old : 
       → OnOk result (Told (tree (length old.parts.futures)) old.transports new.transports old.parts new.parts)
       → Comes o (serving a task request old new) (ported wire old.events) (ported wire new.events) (done_as (or_stop result))
   told_so (Ok it) told =
-      done_so task request old o laws possible new wire wire tree means forgets keeping beside (Ok it)
-      (told_changes o laws old.transports new.transports old.parts new.parts (ported wire old.events) (ported wire new.events)
+      done_so task request old o possible new wire wire tree means forgets keeping beside (Ok it)
+      (told_changes o old.transports new.transports old.parts new.parts (ported wire old.events) (ported wire new.events)
       (ap (ported wire) events) (tree (length old.parts.futures)) it told)
-  told_so (Err memory) told = serves_without a o laws task request old wire new
+  told_so (Err memory) told = serves_without a o task request old wire new
 
 -- ---- marks are set, or refused
 module _ {X : Type 0} {a : Added X} (task : ℕ) (request : Request) (old : Body X)

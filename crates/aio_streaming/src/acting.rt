@@ -4,7 +4,7 @@ ghost use Rattle.std.specs.Option.{option_copied};
 ghost use Rattle.model_value.specs.declared.action.Action.TheVariants as action;
 ghost use Rattle.model_stream.specs.Streams as plain;
 ghost use Rattle.model_machine.specs.Turn.{is_returned};
-ghost use Rattle.aio_exchange.specs.Outside.{outside_of, ported};
+ghost use Rattle.aio_wire.specs.Port.{ported};
 ghost use Rattle.law_doing.specs.Follows.{reach};
 ghost use Rattle.aio_task.specs.View.{parts};
 ghost use Rattle.aio_transports.specs.Owned.{OwnsTransports};
@@ -31,8 +31,7 @@ pub fn act<W: Wire, X: Extra>(
 ) -> Result<(), Stop>
     requires taken { Possible X.added (IsTaken action.now) body.old }
     requires of_streams { is_of_streams action.now ≡ true }
-    ensures comes { Comes (outside_of W.seen W.fails W.keeps W.quiet)
-        (acting X.added action.now body.old body.new)
+    ensures comes { Comes W.outside (acting X.added action.now body.old body.new)
         (ported wire.old body.old.events) (ported wire.new body.new.events) result }
 {
     let returned = has_returned(body, action);
@@ -54,7 +53,7 @@ fn run<W: Wire, X: Extra>(
       events = body.new.events;
       transports = body.new.transports;
     } }
-    ensures comes { Changes (outside_of W.seen W.fails W.keeps W.quiet)
+    ensures comes { Changes W.outside
         (plain.act (length body.old.parts.futures) returned action.now)
         body.old.transports body.new.transports
         (reach body.old.parts wire.old body.old.events)

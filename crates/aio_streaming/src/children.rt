@@ -4,7 +4,7 @@ ghost use Rattle.model_value.specs.declared.request.Request.TheVariants as reque
 ghost use Rattle.model_stream.specs.Requests.{kill as plain_kill};
 ghost use Rattle.model_stream.specs.Streams.{launch as plain_launch};
 ghost use Rattle.model_machine.specs.Replies.{code_of as plain_code_of};
-ghost use Rattle.aio_exchange.specs.Outside.{outside_of, ported};
+ghost use Rattle.aio_wire.specs.Port.{ported};
 ghost use Rattle.law_doing.specs.Follows.{reach};
 ghost use Rattle.aio_transports.specs.Owned.{OwnsTransports};
 ghost use Rattle.aio_transports.specs.Standing.{Answers as AnswersTree, Comes as Changes};
@@ -31,7 +31,7 @@ pub fn launch<W: Wire, X: Extra>(
     words: &Value,
 ) -> Result<RequestReply, Stop>
     requires { Possible X.added (IsAskingFor task (request.Launch words.now)) body.old }
-    ensures comes { Comes (outside_of W.seen W.fails W.keeps W.quiet)
+    ensures comes { Comes W.outside
         (serving X.added task (request.Launch words.now) body.old body.new)
         (ported wire.old body.old.events) (ported wire.new body.new.events) result }
 {
@@ -59,8 +59,7 @@ fn launch_child<W: Wire, X: Extra>(
       events = body.new.events;
       transports = body.new.transports;
     } }
-    ensures comes { AnswersTree (outside_of W.seen W.fails W.keeps W.quiet)
-        (plain_launch words (length body.old.parts.futures))
+    ensures comes { AnswersTree W.outside (plain_launch words (length body.old.parts.futures))
         body.old.transports body.new.transports
         (reach body.old.parts wire.old body.old.events)
         (reach body.new.parts wire.new body.new.events) result }
@@ -154,7 +153,7 @@ pub fn kill<W: Wire, X: Extra>(
     child: &Value,
 ) -> Result<RequestReply, Stop>
     requires { Possible X.added (IsAskingFor task (request.Kill child.now)) body.old }
-    ensures comes { Comes (outside_of W.seen W.fails W.keeps W.quiet)
+    ensures comes { Comes W.outside
         (serving X.added task (request.Kill child.now) body.old body.new)
         (ported wire.old body.old.events) (ported wire.new body.new.events) result }
 {
@@ -172,7 +171,7 @@ fn kill_child<W: Wire, X: Extra>(
     child: u32,
 ) -> Result<(), Stop>
     ensures beside { body.new ≡ record body.old { events = body.new.events } }
-    ensures comes { Changes (outside_of W.seen W.fails W.keeps W.quiet) (plain_kill child)
+    ensures comes { Changes W.outside (plain_kill child)
         body.old.transports body.new.transports
         (reach body.old.parts wire.old body.old.events)
         (reach body.new.parts wire.new body.new.events) result }

@@ -4,7 +4,7 @@ ghost use Rattle.model_value.specs.declared.request.Request.TheVariants as reque
 ghost use Rattle.model_loop.specs.Futures.{is_pending_at};
 ghost use Rattle.model_stream.specs.Streams.{connect as plain_connect, listen as plain_listen};
 ghost use Rattle.model_machine.specs.Replies.{bad_port as plain_bad_port};
-ghost use Rattle.aio_exchange.specs.Outside.{outside_of, ported};
+ghost use Rattle.aio_wire.specs.Port.{ported};
 ghost use Rattle.law_doing.specs.Follows.{reach};
 ghost use Rattle.aio_transports.specs.Owned.{OwnsTransports};
 ghost use Rattle.aio_transports.specs.Standing.{Answers as AnswersTree};
@@ -33,7 +33,7 @@ pub fn listen<W: Wire, X: Extra>(
     handler: u32,
 ) -> Result<RequestReply, Stop>
     requires { Possible X.added (IsAskingFor task (request.Listen port.now handler)) body.old }
-    ensures comes { Comes (outside_of W.seen W.fails W.keeps W.quiet)
+    ensures comes { Comes W.outside
         (serving X.added task (request.Listen port.now handler) body.old body.new)
         (ported wire.old body.old.events) (ported wire.new body.new.events) result }
 {
@@ -62,8 +62,7 @@ fn listen_at<W: Wire, X: Extra>(
       events = body.new.events;
       transports = body.new.transports;
     } }
-    ensures comes { AnswersTree (outside_of W.seen W.fails W.keeps W.quiet)
-        (plain_listen number handler)
+    ensures comes { AnswersTree W.outside (plain_listen number handler)
         body.old.transports body.new.transports
         (reach body.old.parts wire.old body.old.events)
         (reach body.new.parts wire.new body.new.events) result }
@@ -92,7 +91,7 @@ pub fn connect<W: Wire, X: Extra>(
     port: &Value,
 ) -> Result<RequestReply, Stop>
     requires { Possible X.added (IsAskingFor task (request.Connect port.now)) body.old }
-    ensures comes { Comes (outside_of W.seen W.fails W.keeps W.quiet)
+    ensures comes { Comes W.outside
         (serving X.added task (request.Connect port.now) body.old body.new)
         (ported wire.old body.old.events) (ported wire.new body.new.events) result }
 {
@@ -127,8 +126,7 @@ fn begun<W: Wire, X: Extra>(
       events = body.new.events;
       transports = body.new.transports;
     } }
-    ensures comes { AnswersTree (outside_of W.seen W.fails W.keeps W.quiet)
-        (plain_connect number (length body.old.parts.futures))
+    ensures comes { AnswersTree W.outside (plain_connect number (length body.old.parts.futures))
         body.old.transports body.new.transports
         (reach body.old.parts wire.old body.old.events)
         (reach body.new.parts wire.new body.new.events) result }

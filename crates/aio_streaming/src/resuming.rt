@@ -2,7 +2,7 @@
 ghost use Rattle.std.specs.Prelude.{◌≡◌, None};
 ghost use Rattle.model_stream.specs.Requests.{drop_connect as plain_drop_connect};
 ghost use Rattle.model_machine.specs.State.{Connecting, Yielding, Reading, ReadingAll};
-ghost use Rattle.aio_exchange.specs.Outside.{outside_of, ported};
+ghost use Rattle.aio_wire.specs.Port.{ported};
 ghost use Rattle.law_doing.specs.Follows.{reach};
 ghost use Rattle.aio_transports.specs.Owned.{OwnsTransports};
 ghost use Rattle.aio_transports.specs.Standing.{Comes as Changes};
@@ -36,7 +36,7 @@ pub fn connected<W: Wire, X: Extra>(
     input: Input,
 ) -> Result<RequestReply, Stop>
     requires { Possible X.added (IsDeciding task (Connecting conn)) body.old }
-    ensures comes { Comes (outside_of W.seen W.fails W.keeps W.quiet)
+    ensures comes { Comes W.outside
         (resuming X.added task (Connecting conn) input body.old body.new)
         (ported wire.old body.old.events) (ported wire.new body.new.events) result }
 {
@@ -60,7 +60,7 @@ fn drop_made<W: Wire, X: Extra>(
       events = body.new.events;
       transports = body.new.transports;
     } }
-    ensures comes { Changes (outside_of W.seen W.fails W.keeps W.quiet) (plain_drop_connect conn)
+    ensures comes { Changes W.outside (plain_drop_connect conn)
         body.old.transports body.new.transports
         (reach body.old.parts wire.old body.old.events)
         (reach body.new.parts wire.new body.new.events) result }

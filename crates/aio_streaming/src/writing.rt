@@ -4,7 +4,7 @@ ghost use Rattle.model_value.specs.declared.request.Request.TheVariants as reque
 ghost use Rattle.model_stream.specs.Requests.{write as plain_write, write_eof as plain_write_eof};
 ghost use Rattle.model_stream.specs.Streams.{close_server as plain_close_server};
 ghost use Rattle.model_machine.specs.Replies.{drains};
-ghost use Rattle.aio_exchange.specs.Outside.{outside_of, ported};
+ghost use Rattle.aio_wire.specs.Port.{ported};
 ghost use Rattle.law_doing.specs.Follows.{reach};
 ghost use Rattle.aio_transports.specs.Owned.{OwnsTransports};
 ghost use Rattle.aio_transports.specs.Standing.{Answers as AnswersTree, Comes as Changes};
@@ -36,7 +36,7 @@ pub fn write<W: Wire, X: Extra>(
     bytes: &Value,
 ) -> Result<RequestReply, Stop>
     requires { Possible X.added (IsAskingFor task (request.Write stream.now bytes.now)) body.old }
-    ensures comes { Comes (outside_of W.seen W.fails W.keeps W.quiet)
+    ensures comes { Comes W.outside
         (serving X.added task (request.Write stream.now bytes.now) body.old body.new)
         (ported wire.old body.old.events) (ported wire.new body.new.events) result }
 {
@@ -67,8 +67,7 @@ fn write_piece<W: Wire, X: Extra>(
       events = body.new.events;
       transports = body.new.transports;
     } }
-    ensures comes { AnswersTree (outside_of W.seen W.fails W.keeps W.quiet)
-        (plain_write whom piece.now)
+    ensures comes { AnswersTree W.outside (plain_write whom piece.now)
         body.old.transports body.new.transports
         (reach body.old.parts wire.old body.old.events)
         (reach body.new.parts wire.new body.new.events) result }
@@ -87,7 +86,7 @@ pub fn write_eof<W: Wire, X: Extra>(
     stream: &Value,
 ) -> Result<RequestReply, Stop>
     requires { Possible X.added (IsAskingFor task (request.WriteEof stream.now)) body.old }
-    ensures comes { Comes (outside_of W.seen W.fails W.keeps W.quiet)
+    ensures comes { Comes W.outside
         (serving X.added task (request.WriteEof stream.now) body.old body.new)
         (ported wire.old body.old.events) (ported wire.new body.new.events) result }
 {
@@ -111,7 +110,7 @@ fn write_end<W: Wire, X: Extra>(
       events = body.new.events;
       transports = body.new.transports;
     } }
-    ensures comes { Changes (outside_of W.seen W.fails W.keeps W.quiet) (plain_write_eof conn)
+    ensures comes { Changes W.outside (plain_write_eof conn)
         body.old.transports body.new.transports
         (reach body.old.parts wire.old body.old.events)
         (reach body.new.parts wire.new body.new.events) result }
@@ -130,8 +129,7 @@ pub fn close<W: Wire, X: Extra>(
     x: &Value,
 ) -> Result<RequestReply, Stop>
     requires { Possible X.added (IsAskingFor task (request.Close x.now)) body.old }
-    ensures comes { Comes (outside_of W.seen W.fails W.keeps W.quiet)
-        (serving X.added task (request.Close x.now) body.old body.new)
+    ensures comes { Comes W.outside (serving X.added task (request.Close x.now) body.old body.new)
         (ported wire.old body.old.events) (ported wire.new body.new.events) result }
 {
     match as_closable::<X>(&body.transports, x) {
@@ -154,7 +152,7 @@ fn close_listener<W: Wire, X: Extra>(
       events = body.new.events;
       transports = body.new.transports;
     } }
-    ensures comes { Changes (outside_of W.seen W.fails W.keeps W.quiet) (plain_close_server id)
+    ensures comes { Changes W.outside (plain_close_server id)
         body.old.transports body.new.transports
         (reach body.old.parts wire.old body.old.events)
         (reach body.new.parts wire.new body.new.events) result }

@@ -3,6 +3,7 @@ ghost use Rattle.std.specs.Prelude.{◌≡◌, None, IfOk};
 ghost use Rattle.model_tree.specs.Syntax.{Program};
 ghost use Rattle.aio_extra.specs.Nothing.{nothing_added};
 ghost use Rattle.aio_core.specs.Turned.{Begins, ended};
+ghost use Rattle.aio_core.specs.Turning.{wire_turn};
 ghost use Rattle.aio_tally.specs.Tallied.{CountsTurn, EndsAtLimit, Tallies};
 
 use crate::counts::Counts;
@@ -28,7 +29,7 @@ pub fn tally_run<W: Wire>(
     turns: u64,
     wire: &mut W,
 ) -> Result<Tally, Uncounted>
-    ensures { IfOk result (Tallies program.now turns (W.seen wire.old)) }
+    ensures { IfOk result (Tallies program.now turns (W.outside.seen wire.old)) }
 {
     match Kernel::new(alloc, program, NoExtra) {
         Ok(mut kernel) => {
@@ -49,7 +50,7 @@ fn tally_kernel<W: Wire>(
     wire: &mut W,
 ) -> Result<Tally, Uncounted>
     ensures { (program : Program) → Begins nothing_added tt program kernel.old
-        → IfOk result (Tallies program turns (W.seen wire.old)) }
+        → IfOk result (Tallies program turns (W.outside.seen wire.old)) }
 {
     let mut counts = Counts {
         tasks: 0,
@@ -76,13 +77,7 @@ fn count_turn<W: Wire>(
     counts: &mut Counts,
 ) -> Result<Option<u8>, Uncounted>
     ensures { ended kernel.old ≡ None → CountsTurn
-        (record {
-          before = W.seen wire.old;
-          after = W.seen wire.new;
-          fails = W.fails wire.old;
-          quiet = W.quiet wire.old wire.new;
-        })
-        kernel.old kernel.new counts.old counts.new result }
+        (wire_turn W.outside wire.old wire.new) kernel.old kernel.new counts.old counts.new result }
 {
     let before = kernel.tasks();
     let went = kernel.turn(alloc, wire);

@@ -2,10 +2,10 @@
 use Rattle.std.proofs.Common.{◌≡◌, ℕ, List, [], ◌∷◌, ◌++◌, Option, Some, None, Result, Ok, Err, ◌∙◌, refl, sym, ap, subst}
 use Rattle.model_stream.specs.Doing.{Doing}
 use Rattle.model_stream.specs.Streams.{OpenedChild, Streams, launch}
+use Rattle.aio_wire.specs.Outside.{Outside}
 use Rattle.aio_wire.specs.declared.stop.Stop.{Stop}
 use Rattle.aio_wire.specs.declared.stop.Stop.TheVariants as stop
 use Rattle.aio_exchange.specs.Exchanged.{Exchanged, Last, All, Met, Starved}
-use Rattle.aio_exchange.specs.Outside.{IsOutside, Outside}
 use Rattle.law_doing.specs.Follows.{EndsBy, Follows, Reach, UnlessStarved}
 use Rattle.law_doing.specs.Ways.{Leads, changed_on, had_on}
 use Rattle.law_doing.proofs.Following.{follows_on, follows_starved}
@@ -26,21 +26,21 @@ use Rattle.aio_transports.proofs.Numbering.{follows_in}
 use Rattle.aio_transports.proofs.Remaining.{still_remains}
 
 -- memory was refused after all was done
-starved_after : {A W : Type 0} (o : Outside W) (laws : IsOutside o) (doing : Doing A) (old new : Reach View W) (result : A)
+starved_after : {A W : Type 0} (o : Outside W) (doing : Doing A) (old new : Reach View W) (result : A)
     → Follows o seen_changed doing old new (Ok result) → Follows o seen_changed doing old new (Err stop.Memory)
-starved_after {A} o laws doing old new result f = at f.last f.left f.leads f.exchanged f.parts f.ends
+starved_after {A} o doing old new result f = at f.last f.left f.leads f.exchanged f.parts f.ends
   where
     at : (last : Last) (left : Doing A) → Leads doing f.way left → Exchanged o (had_on f.way) last old.port new.port
         → UnlessStarved (new.parts ≡ changed_on seen_changed f.way old.parts) last
         → EndsBy last left new.port.events.answers (Ok result)
         → Follows o seen_changed doing old new (Err stop.Memory)
     at All left leads exchanged parts ends =
-        follows_on o laws seen_changed doing left f.way old new new (Err stop.Memory) leads exchanged parts
-        (follows_starved o laws seen_changed left new new refl)
+        follows_on o seen_changed doing left f.way old new new (Err stop.Memory) leads exchanged parts
+        (follows_starved o seen_changed left new new refl)
     at (Met call said) left leads exchanged parts ends = absurd ends
     at Starved left leads exchanged parts ends = absurd ends
 
-module _ {W : Type 0} (o : Outside W) (laws : IsOutside o) (words : List (List ℕ)) (n : ℕ) (c : Conns) (p : Children)
+module _ {W : Type 0} (o : Outside W) (words : List (List ℕ)) (n : ℕ) (c : Conns) (p : Children)
     (rest : Remaining) (next : Children) (old new : Reach View W) where
   abbrev Launched : Result (Option ℕ) Stop → Type 0
   Launched result = Launches o (launch words n) p next old new result
@@ -98,7 +98,7 @@ module _ {W : Type 0} (o : Outside W) (laws : IsOutside o) (words : List (List �
   pub launch_starves : (said : Option ℕ) (after : Conns) → Launched (Ok said) → ComesTo after (Err stop.Memory)
   launch_starves said after it s h =
       let done = it s h.children in
-      (done.0, (starved_after o laws (launch words n s) old new (done.0, said) done.1.0, tt))
+      (done.0, (starved_after o (launch words n s) old new (done.0, said) done.1.0, tt))
 
   kept_after : (said : Option ℕ) → Launched (Ok said) → OwnsStreams old.parts c → OwnsStreams new.parts c
   kept_after said it own =

@@ -28,8 +28,8 @@ use Rattle.model_stream.specs.Senders.{Sender}
 use Rattle.model_stream.specs.Streams.{Streams, accept, accept_most, act, add_child, add_connection, add_server, close_server, closed_server}
 use Rattle.model_stream.specs.Streams.{connect, its_children}
 use Rattle.model_stream.specs.Streams.{its_connections, launch, listen, may_connect, most_accepts, on_one, readable_server}
+use Rattle.aio_wire.specs.Outside.{Outside}
 use Rattle.aio_exchange.specs.Exchanged.{Last, All, Met, Starved}
-use Rattle.aio_exchange.specs.Outside.{Outside}
 use Rattle.law_doing.specs.Follows.{EndsBy, Follows, Reach}
 use Rattle.law_doing.specs.Tells.{Tells}
 use Rattle.law_doing.specs.Ways.{Move, Did, Heard, Leads}

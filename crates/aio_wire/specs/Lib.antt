@@ -2,6 +2,7 @@ pub mod EventList
 pub mod Events
 pub mod Files
 pub mod Got
+pub mod Outside
 pub mod Places
 pub mod Port
 pub mod Replied

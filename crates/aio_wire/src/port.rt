@@ -1,11 +1,9 @@
 //! Where the loop asks the outside.
-ghost use Rattle.std.specs.Prelude.{◌≡◌, ◌⊎◌, IfOk, OnOk, OnErr};
+ghost use Rattle.std.specs.Prelude.{◌≡◌, IfOk, OnOk, OnErr};
 ghost use Rattle.model_wire.specs.declared.event.Event.TheVariants as event;
 ghost use Rattle.model_wire.specs.Fits.{fits};
 ghost use Rattle.aio_wire.specs.Events.{pushed};
-ghost use Rattle.aio_wire.specs.Port.{Exchanges, StopsShort, AlwaysFails, UnlessStopped};
-ghost use Rattle.aio_wire.specs.Replied.{Replied, MayHaveReplied, Stays};
-ghost use Rattle.aio_wire.specs.declared.wire.Reply.{Reply as AnyReply};
+ghost use Rattle.aio_wire.specs.Port.{PortAsked, ported};
 
 use crate::call::{Answer, Call};
 use crate::copying::{copy_of_answer, copy_of_call};
@@ -46,15 +44,8 @@ impl<'a, W: Wire> Port<'a, W> {
     pub fn ask(&mut self, alloc: Global, call: Call) -> Result<Answer, Stop>
         ensures wire_name { self.new.wire.ghost_name ≡ self.old.wire.ghost_name }
         ensures events_name { self.new.events.ghost_name ≡ self.old.events.ghost_name }
-        ensures asks { ((said : AnyReply)
-            × Exchanges call self.old.events.now self.new.events.now result said
-            × Replied call (W.seen self.old.wire.now) (W.seen self.new.wire.now) said)
-            ⊎ (StopsShort self.old.events.now self.new.events.now result
-            × MayHaveReplied call (W.seen self.old.wire.now) (W.seen self.new.wire.now)) }
-        ensures stays { Stays (W.seen self.old.wire.now) (W.seen self.new.wire.now) }
-        ensures fails { W.fails self.old.wire.now → AlwaysFails call result }
-        ensures keeps { W.keeps self.old.wire.now self.new.wire.now }
-        ensures quiet { UnlessStopped (W.quiet self.old.wire.now self.new.wire.now) result }
+        ensures asked { PortAsked W.outside call (ported self.old.wire.now self.old.events.now)
+            (ported self.new.wire.now self.new.events.now) result }
     {
         note_call(alloc, self.events, &call)?;
         match self.wire.ask(alloc, &call)? {

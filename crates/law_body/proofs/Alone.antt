@@ -8,8 +8,9 @@ use Rattle.model_machine.specs.Replies as plain
 use Rattle.model_machine.specs.Replies.{reply}
 use Rattle.model_machine.specs.State.{State}
 use Rattle.aio_base.specs.declared.memory.Memory.{Memory}
+use Rattle.aio_wire.specs.Outside.{Outside}
+use Rattle.aio_wire.specs.Port.{ported}
 use Rattle.aio_wire.specs.declared.stop.Stop.TheVariants as stop
-use Rattle.aio_exchange.specs.Outside.{IsOutside, Outside, ported}
 use Rattle.aio_extra.specs.Added.{Added}
 use Rattle.aio_body.specs.declared.body.Body.{Body}
 use Rattle.aio_body.specs.declared.reply.RequestReply.{RequestReply}
@@ -43,19 +44,19 @@ module _ {X : Type 0} (a : Added X) (task : ℕ) (asked : Request) (old : Body X
       (subst (λ (one : RequestReply). Says task c old one (plain.Answers value s)) (sym e) (refl, h.going.in_step))) answers
 
 -- ---- one that asks nothing
-module _ {X W : Type 0} (a : Added X) (o : Outside W) (laws : IsOutside o) (task : ℕ) (asked : Request) (old : Body X) (wire : W) where
+module _ {X W : Type 0} (a : Added X) (o : Outside W) (task : ℕ) (asked : Request) (old : Body X) (wire : W) where
   serving_begins : (c : Setting a) (s : State a.Kept) → IsAskingFor task asked c old s
       → ReplyBegins (c.past ++ old.events.events) (reply a.meaning task asked s)
   serving_begins c s h = reply_begins a.meaning task (c.past ++ old.events.events) s h.going.in_step.stands.events asked
 
   pub serves_without : (new : Body X) → Comes o (serving a task asked old new) (ported wire old.events) (ported wire new.events) (Err stop.Memory)
   serves_without new =
-      comes_without o laws (serving a task asked old new) (ported wire old.events) (ported wire new.events) serving_begins refl
+      comes_without o (serving a task asked old new) (ported wire old.events) (ported wire new.events) serving_begins refl
 
   pub serves_alone : (new : Body X) (result : Result RequestReply Memory) → Serves a task asked old new result
       → Comes o (serving a task asked old new) (ported wire old.events) (ported wire new.events) (or_stop result)
   serves_alone new result serves =
-      comes_alone o laws (serving a task asked old new) (ported wire old.events) (ported wire new.events) serving_begins result refl
+      comes_alone o (serving a task asked old new) (ported wire old.events) (ported wire new.events) serving_begins result refl
       (IfOk-weaker result _ _
       (λ it are c s h. let says = are c s h in (reply_told task c new old s h.going.in_step it asked says, says)) serves)
 

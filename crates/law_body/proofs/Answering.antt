@@ -9,8 +9,9 @@ use Rattle.model_machine.specs.Sound.{IsSoundBut, IsStateSound}
 use Rattle.model_machine.specs.State as standing
 use Rattle.model_machine.specs.State.{State}
 use Rattle.law_inside.specs.InStep.{IsAsked, IsStepSound}
+use Rattle.aio_wire.specs.Outside.{Outside}
+use Rattle.aio_wire.specs.Port.{Ported}
 use Rattle.aio_exchange.specs.Exchanged.{Exchange, entries_of}
-use Rattle.aio_exchange.specs.Outside.{Outside, Ported}
 use Rattle.aio_extra.specs.Added.{Added}
 use Rattle.aio_body.specs.declared.body.Body.{Body}
 use Rattle.aio_body.specs.Asked.{IsAskingFor, IsDeciding, IsGoing, IsInStep}

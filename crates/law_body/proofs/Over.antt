@@ -2,9 +2,10 @@
 use Rattle.std.proofs.Common.{◌≡◌, List, ◌++◌, Result, Ok, Err, ◌∙◌, sym, ap, subst}
 use Rattle.model_wire.specs.Journal.{Entry}
 use Rattle.model_wire.specs.Event.{Event}
+use Rattle.aio_wire.specs.Outside.{Outside}
+use Rattle.aio_wire.specs.Port.{Ported}
 use Rattle.aio_wire.specs.declared.stop.Stop.{Stop}
 use Rattle.aio_exchange.specs.Exchanged.{Exchange, Last, All, Met, Starved, entries_of}
-use Rattle.aio_exchange.specs.Outside.{Outside, Ported}
 use Rattle.aio_extra.specs.Added.{Added}
 use Rattle.aio_body.specs.Asking.{Comes, ComesBy, Piece, RestFits, StopsWith, before}
 use Rattle.aio_body.specs.Stands.{Setting}

@@ -9,9 +9,10 @@ use Rattle.model_machine.specs.Replies.{waits}
 use Rattle.model_machine.specs.State as state
 use Rattle.model_machine.specs.State.{State, stands}
 use Rattle.aio_wire.specs.EventList.{EventList}
+use Rattle.aio_wire.specs.Outside.{Outside}
+use Rattle.aio_wire.specs.Port.{ported}
 use Rattle.aio_wire.specs.declared.stop.Stop.TheVariants as stop
 use Rattle.aio_exchange.specs.Exchanged.{Exchange}
-use Rattle.aio_exchange.specs.Outside.{IsOutside, Outside, ported}
 use Rattle.law_trees.specs.Trees.{IsMade}
 use Rattle.aio_task.specs.Keeps.{Ties}
 use Rattle.aio_task.specs.View.{View, stepped}
@@ -30,7 +31,7 @@ use Rattle.law_does.specs.Alike.{AddsEvents, LeavesState}
 use Rattle.law_does.specs.Went.{HasGone, Suspends}
 
 -- ---- whatever it says
-module _ {X W M Q : Type 0} {a : Added X} (o : Outside W) (laws : IsOutside o) (p : Piece a (State a.Kept) M Q) (out : Option ℕ) (old new : Body X)
+module _ {X W M Q : Type 0} {a : Added X} (o : Outside W) (p : Piece a (State a.Kept) M Q) (out : Option ℕ) (old new : Body X)
     (wire after : W) (Known : (first now : ℕ) → Type 0) (next : State a.Kept → M)
     (come : (had : List Exchange)
     × HasCome o p.from had (ported wire old.events) (ported after new.events) (λ c s. HasGone out Known (p.does s) next c old new s)) where
@@ -40,7 +41,7 @@ module _ {X W M Q : Type 0} {a : Added X} (o : Outside W) (laws : IsOutside o) (
       → Comes o p (ported wire old.events) (ported after last.events) (Ok it)
   gone_ends last it events says =
       subst (λ (es : EventList). Comes o p (ported wire old.events) (ported after es) (Ok it)) (sym events)
-      (comes_ends o laws p come.0 (ported wire old.events) (ported after new.events) it (record {
+      (comes_ends o p come.0 (ported wire old.events) (ported after new.events) it (record {
         exchanged = come.1.exchanged;
         told = λ c s from.
             let both = come.1.told c s from in
@@ -51,7 +52,7 @@ module _ {X W M Q : Type 0} {a : Added X} (o : Outside W) (laws : IsOutside o) (
   pub gone_starved : (leaves : LeavesState p) → AddsEvents leaves.left next → (last : Body X)
       → Comes o p (ported wire old.events) (ported after last.events) (Err stop.Memory)
   gone_starved leaves adds last =
-      comes_starved o laws p come.0 (ported wire old.events) (ported after new.events) (ported after last.events) refl (record {
+      comes_starved o p come.0 (ported wire old.events) (ported after new.events) (ported after last.events) refl (record {
         exchanged = come.1.exchanged;
         told = λ c s from.
             let both = come.1.told c s from in (

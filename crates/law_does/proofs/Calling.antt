@@ -6,11 +6,11 @@ use Rattle.model_stream.specs.Doing.{Doing, Ends}
 use Rattle.model_stream.specs.Streams.{Streams}
 use Rattle.model_machine.specs.Does.{does}
 use Rattle.model_machine.specs.State.{State}
+use Rattle.aio_wire.specs.Outside.{Outside}
 use Rattle.aio_wire.specs.declared.stop.Stop.{Stop}
 use Rattle.aio_wire.specs.declared.wire.Reply.{Reply}
 use Rattle.aio_exchange.specs.Among.{told_by}
 use Rattle.aio_exchange.specs.Exchanged.{All, AllFit, Exchange, Exchanged, Last, Met, Starved, StopsAs, entries_of, noted_by}
-use Rattle.aio_exchange.specs.Outside.{Outside}
 use Rattle.aio_exchange.proofs.Among.{met_told, noted_told, on_wire}
 use Rattle.law_doing.specs.Follows.{EndsBy, Follows, Reach, UnlessStarved}
 use Rattle.law_doing.specs.Ways.{Leads, Move, changed_on, had_on}

@@ -8,9 +8,10 @@ use Rattle.model_stream.specs.Streams.{Streams}
 use Rattle.model_machine.specs.Does.{does}
 use Rattle.model_machine.specs.Sound.{AreStreamsFutures}
 use Rattle.model_machine.specs.State.{State, with_streams}
+use Rattle.aio_wire.specs.Outside.{Outside}
+use Rattle.aio_wire.specs.Port.{ported}
 use Rattle.aio_wire.specs.declared.stop.Stop.{Stop}
 use Rattle.aio_exchange.specs.Exchanged.{AllFit, Exchange, entries_of, noted_by}
-use Rattle.aio_exchange.specs.Outside.{Outside, ported}
 use Rattle.law_doing.specs.Follows.{Follows, Reach, reach}
 use Rattle.law_doing.specs.Tells.{Tells}
 use Rattle.law_doing.specs.Ways.{Leads, had_on}

@@ -5,8 +5,9 @@ use Rattle.std.proofs.Props.{props}
 use Rattle.model_wire.specs.Journal.{Entry}
 use Rattle.model_loop.specs.Futures.{is_pending_at}
 use Rattle.model_machine.specs.State.{State}
+use Rattle.aio_wire.specs.Outside.{Outside}
+use Rattle.aio_wire.specs.Port.{Ported}
 use Rattle.aio_exchange.specs.Exchanged.{Exchange}
-use Rattle.aio_exchange.specs.Outside.{Outside, Ported}
 use Rattle.law_trees.specs.Trees.{IsMade}
 use Rattle.aio_transports.specs.Owned.{OwnsTransports}
 use Rattle.aio_extra.specs.Added.{Added}

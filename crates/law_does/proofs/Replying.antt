@@ -11,10 +11,11 @@ use Rattle.model_machine.specs.Replies.{streams_change, streams_do, waits}
 use Rattle.model_machine.specs.Sound.{AreStreamsFutures}
 use Rattle.model_machine.specs.State as state
 use Rattle.model_machine.specs.State.{State, stands}
+use Rattle.aio_wire.specs.Outside.{Outside}
+use Rattle.aio_wire.specs.Port.{ported}
 use Rattle.aio_wire.specs.declared.stop.Stop.{Stop}
 use Rattle.aio_wire.specs.declared.stop.Stop.TheVariants as stop
 use Rattle.aio_exchange.specs.Exchanged.{Exchange}
-use Rattle.aio_exchange.specs.Outside.{IsOutside, Outside, ported}
 use Rattle.law_doing.specs.Follows.{reach}
 use Rattle.law_reach.specs.Reaches.{left_by}
 use Rattle.law_trees.specs.Trees.{AnswersStreams, IsMade, Keeping, KeepsStreams}
@@ -39,7 +40,7 @@ use Rattle.law_does.proofs.Nexts.{reply_leaves}
 use Rattle.law_does.proofs.Requests.{change_fails, change_goes, do_fails, do_goes}
 
 -- In a task's step, where `from` says, the machine makes `makes` of its request. `last` is the body in the end.
-module _ {X W : Type 0} {a : Added X} (o : Outside W) (laws : IsOutside o) (task : ℕ) (old new last : Body X) (wire after : W)
+module _ {X W : Type 0} {a : Added X} (o : Outside W) (task : ℕ) (old new last : Body X) (wire after : W)
     (from : Setting a → State a.Kept → Type 0) (makes : State a.Kept → plain.RequestReply a.Kept)
     (may : (c : Setting a) (s : State a.Kept) → from c s → MayCall (Some task) c old s)
     (in_step : (c : Setting a) (s : State a.Kept) → from c s → IsInStep task c old s) where
@@ -53,7 +54,7 @@ module _ {X W : Type 0} {a : Added X} (o : Outside W) (laws : IsOutside o) (task
     pub answers_go : last ≡ new → (value : Value) → ((t : State a.Kept) → next t ≡ plain.Answers value t)
         → Comes o replying (ported wire old.events) (ported after last.events) (Ok (said.Answers value))
     answers_go same value is =
-        gone_ends o laws replying (Some task) old new wire after Known next come last (said.Answers value) (ap (λ (b : Body X). b.events) same)
+        gone_ends o replying (Some task) old new wire after Known next come last (said.Answers value) (ap (λ (b : Body X). b.events) same)
         (λ c s began g.
         subst (λ (b : Body X). Says task c b (said.Answers value) (next g.now)) (sym same)
         (answers_so task (before come.0 c) old new s (in_step (before come.0 c) s began) Known (replying.does s) next c g value is))
@@ -61,7 +62,7 @@ module _ {X W : Type 0} {a : Added X} (o : Outside W) (laws : IsOutside o) (task
     pub raises_go : last ≡ new → (fault : Exc) → ((t : State a.Kept) → next t ≡ plain.Raises fault t)
         → Comes o replying (ported wire old.events) (ported after last.events) (Ok (said.Raises fault))
     raises_go same fault is =
-        gone_ends o laws replying (Some task) old new wire after Known next come last (said.Raises fault) (ap (λ (b : Body X). b.events) same)
+        gone_ends o replying (Some task) old new wire after Known next come last (said.Raises fault) (ap (λ (b : Body X). b.events) same)
         (λ c s began g.
         subst (λ (b : Body X). Says task c b (said.Raises fault) (next g.now)) (sym same)
         (raises_so task (before come.0 c) old new s (in_step (before come.0 c) s began) Known (replying.does s) next c g fault is))
@@ -70,7 +71,7 @@ module _ {X W : Type 0} {a : Added X} (o : Outside W) (laws : IsOutside o) (task
         → ((first now : ℕ) → Known first now → IsMade first now on) → ((t : State a.Kept) → next t ≡ plain.Rests (waits task on t))
         → Comes o replying (ported wire old.events) (ported after last.events) (Ok said.Rests)
     rests_go on v same suspends made is =
-        gone_ends o laws replying (Some task) old new wire after Known next come last said.Rests (ap (λ (b : Body X). b.events) same)
+        gone_ends o replying (Some task) old new wire after Known next come last said.Rests (ap (λ (b : Body X). b.events) same)
         (λ c s began g.
         subst (λ (b : Body X). Says task c b said.Rests (next g.now)) (sym same)
         (rests_so task (before come.0 c) old new s (in_step (before come.0 c) s began) Known (replying.does s) next c g on v made suspends is))
@@ -83,7 +84,7 @@ module _ {X W : Type 0} {a : Added X} (o : Outside W) (laws : IsOutside o) (task
         → ((t : State a.Kept) → next t ≡ plain.Rests (stands standing task (waits task on t)))
         → Comes o replying (ported wire old.events) (ported after last.events) (Ok said.Rests)
     stands_go on v code standing beside items within at_it suspends made is =
-        gone_ends o laws replying (Some task) old new wire after Known next come last said.Rests (ap (λ (b : Body X). b.events) beside)
+        gone_ends o replying (Some task) old new wire after Known next come last said.Rests (ap (λ (b : Body X). b.events) beside)
         (λ c s began g.
         subst (Says task c last said.Rests) (sym (is g.now))
         (stands_so task c (record new { parts = v }) last (waits task on g.now) code standing
@@ -93,7 +94,7 @@ module _ {X W : Type 0} {a : Added X} (o : Outside W) (laws : IsOutside o) (task
     -- memory is refused after it
     pub starves_go : AddsEvents left_by next → Comes o replying (ported wire old.events) (ported after last.events) (Err stop.Memory)
     starves_go adds =
-        gone_starved o laws replying (Some task) old new wire after Known next come
+        gone_starved o replying (Some task) old new wire after Known next come
         (reply_leaves from makes (λ c it machine. Says task c last it machine)) adds last
 
   -- ---- by a call with an answer

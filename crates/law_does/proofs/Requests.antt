@@ -8,9 +8,10 @@ use Rattle.model_stream.specs.Streams.{Streams}
 use Rattle.model_machine.specs.Does.{does}
 use Rattle.model_machine.specs.Sound.{AreStreamsFutures}
 use Rattle.model_machine.specs.State.{State, with_streams}
+use Rattle.aio_wire.specs.Outside.{Outside}
+use Rattle.aio_wire.specs.Port.{Ported, ported}
 use Rattle.aio_wire.specs.declared.stop.Stop.{Stop}
 use Rattle.aio_exchange.specs.Exchanged.{Exchange}
-use Rattle.aio_exchange.specs.Outside.{IsOutside, Outside, Ported, ported}
 use Rattle.law_doing.specs.Follows.{reach}
 use Rattle.law_doing.proofs.Telling.{tells_follow}
 use Rattle.law_trees.specs.Trees.{AnswersStreams, ConnectWaits, ConnectsStreams, IsMade, Keeping, KeepsStreams}
@@ -31,14 +32,14 @@ use Rattle.law_does.specs.Went.{BegunWaits, HasGone, MayCall}
 use Rattle.law_does.proofs.Going.{call_fails, call_passes, call_tells}
 
 -- ---- a call that asks nothing is one that may
-module _ {W : Type 0} (o : Outside W) (laws : IsOutside o) (old new : Transports) (from to : View) (x y : Ported W) (same : y ≡ x) where
+module _ {W : Type 0} (o : Outside W) (old new : Transports) (from to : View) (x y : Ported W) (same : y ≡ x) where
   pub told_answers : {R : Type 0} (tree : Streams → Doing (Streams × R)) (said : R) → ToldWith tree old new from to said
       → Answers o tree old new (record { parts = from; port = x }) (record { parts = to; port = y }) (Ok said)
   told_answers tree said told s stood =
       let it = told s stood in (
         it.0,
         (
-          tells_follow seen_changed o laws (tree s) (record { parts = from; port = x }) (record { parts = to; port = y }) (it.0, said) it.1.0 same,
+          tells_follow seen_changed o (tree s) (record { parts = from; port = x }) (record { parts = to; port = y }) (it.0, said) it.1.0 same,
           it.1.1,
         ),
       )
@@ -48,7 +49,7 @@ module _ {W : Type 0} (o : Outside W) (laws : IsOutside o) (old new : Transports
   told_changes tree said told s stood =
       let it = told s stood in (
         it.0,
-        (tells_follow seen_changed o laws (tree s) (record { parts = from; port = x }) (record { parts = to; port = y }) it.0 it.1.0 same, it.1.1),
+        (tells_follow seen_changed o (tree s) (record { parts = from; port = x }) (record { parts = to; port = y }) it.0 it.1.0 same, it.1.1),
       )
 
 module _ {X W M Q : Type 0} {a : Added X} (o : Outside W) (p : Piece a (State a.Kept) M Q) (out : Option ℕ) (old new : Body X) (wire after : W)

@@ -13,10 +13,11 @@ use Rattle.model_machine.specs.Replies.{reply, streams_change, streams_do, waits
 use Rattle.model_machine.specs.Sound.{AreStreamsFutures}
 use Rattle.model_machine.specs.State as state
 use Rattle.model_machine.specs.State.{State, stands}
+use Rattle.aio_wire.specs.Outside.{Outside}
+use Rattle.aio_wire.specs.Port.{ported}
 use Rattle.aio_wire.specs.declared.stop.Stop.{Stop}
 use Rattle.aio_wire.specs.declared.stop.Stop.TheVariants as stop
 use Rattle.aio_exchange.specs.Exchanged.{Exchange}
-use Rattle.aio_exchange.specs.Outside.{IsOutside, Outside, ported}
 use Rattle.law_doing.specs.Follows.{reach}
 use Rattle.law_reach.specs.Reaches.{left_by}
 use Rattle.law_trees.specs.Trees.{AnswersStreams, IsMade, Keeping, KeepsStreams}
@@ -60,7 +61,7 @@ module _ {X : Type 0} {a : Added X} (task : ℕ) (request : Request) (old : Body
     pub asking_idle : old.parts.called ≡ None
     asking_idle = idle_of task old (going_of task request old possible)
 
-  module _ {W : Type 0} (o : Outside W) (laws : IsOutside o) (possible : Possible a (IsAskingFor task request) old) (new : Body X) (wire after : W) where
+  module _ {W : Type 0} (o : Outside W) (possible : Possible a (IsAskingFor task request) old) (new : Body X) (wire after : W) where
     abbrev Asks : Setting a → State a.Kept → Type 0
     Asks = λ c s. IsAskingFor task request c old s
 
@@ -76,7 +77,7 @@ module _ {X : Type 0} {a : Added X} (task : ℕ) (request : Request) (old : Body
           (reach new.parts after new.events) (Err why)
           → Comes o (serving a task request old new) (ported wire old.events) (ported after new.events) (Err why)
       serving_fails adds forgets why call =
-          asked_fails o laws task old new new wire after Asks makes may in_step tree next means (asking_streams possible) adds forgets why call
+          asked_fails o task old new new wire after Asks makes may in_step tree next means (asking_streams possible) adds forgets why call
 
       module _ (Waits : (ℕ → Type 0) → R → Type 0) (it : R)
           (call : Answers o (tree (length old.parts.futures)) old.transports new.transports (reach old.parts wire old.events)
@@ -91,22 +92,22 @@ module _ {X : Type 0} {a : Added X} (task : ℕ) (request : Request) (old : Body
         pub serving_goes : (had : List Exchange) × HasCome o Asks had (ported wire old.events) (ported after new.events)
             (λ c s. HasGone (Some task) Known (makes s) (next it) c old new s)
         serving_goes =
-            asked_goes o laws task old new new wire after Asks makes may in_step tree next means (asking_streams possible) Waits it call keeping beside
+            asked_goes o task old new new wire after Asks makes may in_step tree next means (asking_streams possible) Waits it call keeping beside
 
         pub serving_answers : (value : Value) → ((t : State a.Kept) → next it t ≡ plain.Answers value t)
             → Comes o (serving a task request old new) (ported wire old.events) (ported after new.events) (Ok (said.Answers value))
         serving_answers value is =
-            answers_go o laws task old new new wire after Asks makes may in_step Known (next it) serving_goes refl value is
+            answers_go o task old new new wire after Asks makes may in_step Known (next it) serving_goes refl value is
 
         pub serving_raises : (fault : Exc) → ((t : State a.Kept) → next it t ≡ plain.Raises fault t)
             → Comes o (serving a task request old new) (ported wire old.events) (ported after new.events) (Ok (said.Raises fault))
-        serving_raises fault is = raises_go o laws task old new new wire after Asks makes may in_step Known (next it) serving_goes refl fault is
+        serving_raises fault is = raises_go o task old new new wire after Asks makes may in_step Known (next it) serving_goes refl fault is
 
         module _ (last : Body X) where
           pub serving_rests : (on : ℕ) (v : View) → last ≡ record new { parts = v } → Suspends task on new.parts v
               → ((first now : ℕ) → Known first now → IsMade first now on) → ((t : State a.Kept) → next it t ≡ plain.Rests (waits task on t))
               → Comes o (serving a task request old last) (ported wire old.events) (ported after last.events) (Ok said.Rests)
-          serving_rests = rests_go o laws task old new last wire after Asks makes may in_step Known (next it) serving_goes
+          serving_rests = rests_go o task old new last wire after Asks makes may in_step Known (next it) serving_goes
 
           pub serving_stands : (on : ℕ) (v : View) (code : Standing) (standing : state.Standing)
               → last ≡ record new { parts = v; slots = last.slots } → last.slots.items ≡ standing_at task code new.slots.items
@@ -115,12 +116,12 @@ module _ {X : Type 0} {a : Added X} (task : ℕ) (request : Request) (old : Body
               → ((first now : ℕ) → Known first now → IsMade first now on)
               → ((t : State a.Kept) → next it t ≡ plain.Rests (stands standing task (waits task on t)))
               → Comes o (serving a task request old last) (ported wire old.events) (ported after last.events) (Ok said.Rests)
-          serving_stands = stands_go o laws task old new last wire after Asks makes may in_step Known (next it) serving_goes
+          serving_stands = stands_go o task old new last wire after Asks makes may in_step Known (next it) serving_goes
 
           -- memory is refused after it
           pub serving_starves : AddsEvents left_by (next it)
               → Comes o (serving a task request old last) (ported wire old.events) (ported after last.events) (Err stop.Memory)
-          serving_starves = starves_go o laws task old new last wire after Asks makes may in_step Known (next it) serving_goes
+          serving_starves = starves_go o task old new last wire after Asks makes may in_step Known (next it) serving_goes
 
     -- ---- by one with none
     module _ (tree : ℕ → Streams → Doing Streams) (next : State a.Kept → plain.RequestReply a.Kept)
@@ -131,7 +132,7 @@ module _ {X : Type 0} {a : Added X} (task : ℕ) (request : Request) (old : Body
           (reach new.parts after new.events) (Err why)
           → Comes o (serving a task request old new) (ported wire old.events) (ported after new.events) (Err why)
       changing_fails R adds forgets why call =
-          changed_fails o laws task old new new wire after Asks makes may in_step tree next means (asking_streams possible) R adds forgets why call
+          changed_fails o task old new new wire after Asks makes may in_step tree next means (asking_streams possible) R adds forgets why call
 
       pub changing_answers : {R : Type 0} (it : R)
           → Changes o (tree (length old.parts.futures)) old.transports new.transports (reach old.parts wire old.events)
@@ -143,8 +144,8 @@ module _ {X : Type 0} {a : Added X} (task : ℕ) (request : Request) (old : Body
           → (value : Value) → ((t : State a.Kept) → next t ≡ plain.Answers value t)
           → Comes o (serving a task request old new) (ported wire old.events) (ported after new.events) (Ok (said.Answers value))
       changing_answers it call keeping beside value is =
-          answers_go o laws task old new new wire after Asks makes may in_step (λ first now. Unit {0}) next
-          (changed_goes o laws task old new new wire after Asks makes may in_step tree next means (asking_streams possible) it call keeping beside) refl
+          answers_go o task old new new wire after Asks makes may in_step (λ first now. Unit {0}) next
+          (changed_goes o task old new new wire after Asks makes may in_step tree next means (asking_streams possible) it call keeping beside) refl
           value is
 
   -- ---- by a call that asks nothing

@@ -12,8 +12,8 @@ ghost use Rattle.model_machine.specs.Replies as plain;
 ghost use Rattle.model_machine.specs.Replies.{reply, streams_do};
 ghost use Rattle.model_machine.specs.Sound.{AreStreamsFutures};
 ghost use Rattle.model_machine.specs.State.{State};
+ghost use Rattle.aio_wire.specs.Port.{ported};
 ghost use Rattle.aio_wire.specs.declared.stop.Stop.{Stop as AnyStop};
-ghost use Rattle.aio_exchange.specs.Outside.{outside_of, ported};
 ghost use Rattle.law_doing.specs.Follows.{reach};
 ghost use Rattle.law_reach.specs.Reaches.{left_by};
 ghost use Rattle.law_trees.specs.Trees.{AnswersStreams, Keeping, WaitsNever};
@@ -42,10 +42,10 @@ pub fn requests_go_by_their_calls<X: Extra, W: Wire, R>()
         → HasStreams old.transports
         → ((it : R) → AddsEvents left_by (next it))
         → ForgetsWritten (tree (length old.parts.futures))
-        → AnswersTree (outside_of W.seen W.fails W.keeps W.quiet) (tree (length old.parts.futures))
+        → AnswersTree W.outside (tree (length old.parts.futures))
         old.transports new.transports (reach old.parts wire old.events)
         (reach new.parts after new.events) (Err why)
-        → Comes (outside_of W.seen W.fails W.keeps W.quiet) (serving X.added task request old new)
+        → Comes W.outside (serving X.added task request old new)
         (ported wire old.events) (ported after new.events) (Err why) }
     ensures answers { (task : ℕ) (request : AnyRequest) (old new : Body X) (wire after : W)
         (tree : ℕ → Streams → Doing (Streams × R))
@@ -55,7 +55,7 @@ pub fn requests_go_by_their_calls<X: Extra, W: Wire, R>()
         → reply X.added.meaning task request s
         ≡ streams_do (tree (next_future s.loop.parts) s.streams) next s)
         → HasStreams old.transports
-        → AnswersTree (outside_of W.seen W.fails W.keeps W.quiet) (tree (length old.parts.futures))
+        → AnswersTree W.outside (tree (length old.parts.futures))
         old.transports new.transports (reach old.parts wire old.events)
         (reach new.parts after new.events) (Ok it)
         → ((s : State X.added.Kept) → AreStreamsFutures s
@@ -70,6 +70,6 @@ pub fn requests_go_by_their_calls<X: Extra, W: Wire, R>()
           transports = new.transports;
         }
         → ((t : State X.added.Kept) → next it t ≡ plain.Answers value t)
-        → Comes (outside_of W.seen W.fails W.keeps W.quiet) (serving X.added task request old new)
+        → Comes W.outside (serving X.added task request old new)
         (ported wire old.events) (ported after new.events) (Ok (said.Answers value)) }
 {}

@@ -3,16 +3,17 @@ use Rattle.std.proofs.Common.{◌≡◌, Bool, true, false, if◌then◌else◌,
 use Rattle.std.proofs.Common.{◌∙◌, refl, sym, ap, subst}
 use Rattle.model_wire.specs.Call.{Call, Answer}
 use Rattle.model_stream.specs.Doing.{Change, Doing, Ends, Changes, Asks, and_then}
+use Rattle.aio_wire.specs.Outside.{Outside}
+use Rattle.aio_wire.specs.Port.{Ported}
 use Rattle.aio_wire.specs.declared.stop.Stop.{Stop}
 use Rattle.aio_wire.specs.declared.stop.Stop.TheVariants as stop
 use Rattle.aio_exchange.specs.Exchanged.{AsksOne, Exchange, Exchanged, Last, All, Met, Starved, IsOf, StopsAs}
-use Rattle.aio_exchange.specs.Outside.{IsOutside, Outside, Ported}
 use Rattle.aio_exchange.proofs.Exchanging.{exchanged_none, exchanged_then, exchanged_starved}
 use Rattle.law_doing.specs.Ways.{Move, Did, Heard, Leads, had_on, changed_on}
 use Rattle.law_doing.specs.Follows.{EndsBy, Follows, Reach, UnlessStarved}
 use Rattle.law_doing.proofs.Leading.{changed-append, had-append, leads_on, leads_then}
 
-module _ {V W : Type 0} (o : Outside W) (laws : IsOutside o) (change : Change → V → V) where
+module _ {V W : Type 0} (o : Outside W) (change : Change → V → V) where
   -- ---- one piece of a tree
   pub follows_ends : {A : Type 0} (result : A) (at : Reach V W) → Follows o change (Ends result) at at (Ok result)
   follows_ends result at = record {
@@ -20,7 +21,7 @@ module _ {V W : Type 0} (o : Outside W) (laws : IsOutside o) (change : Change �
     left = Ends result;
     last = All;
     leads = refl;
-    exchanged = exchanged_none o laws at.port;
+    exchanged = exchanged_none o at.port;
     parts = refl;
     ends = refl;
   }
@@ -46,7 +47,7 @@ module _ {V W : Type 0} (o : Outside W) (laws : IsOutside o) (change : Change �
     leads = refl;
     exchanged =
         subst (λ (p : Ported W). Exchanged o [] Starved old.port p) (sym same)
-        (exchanged_starved o laws [] old.port old.port (exchanged_none o laws old.port));
+        (exchanged_starved o [] old.port old.port (exchanged_none o old.port));
     parts = tt;
     ends = refl;
   }
@@ -69,7 +70,7 @@ module _ {V W : Type 0} (o : Outside W) (laws : IsOutside o) (change : Change �
       leads = leads_on xs f.way doing between f.left leads f.leads;
       exchanged =
           subst (λ (es : List Exchange). Exchanged o es f.last old.port new.port) (sym (had-append xs f.way))
-          (exchanged_then o laws (had_on xs) (had_on f.way) old.port mid.port new.port exchanged f.last f.exchanged);
+          (exchanged_then o (had_on xs) (had_on f.way) old.port mid.port new.port exchanged f.last f.exchanged);
       parts = parts_on f.last f.way parts f.parts;
       ends = f.ends;
     }
@@ -79,7 +80,7 @@ module _ {V W : Type 0} (o : Outside W) (laws : IsOutside o) (change : Change �
       → Follows o change rest mid new result → Follows o change (Changes it rest) old new result
   follows_changed it rest old mid new result parts port f =
       follows_on (Changes it rest) rest (Did it ∷ []) old mid new result (refl, refl)
-      (subst (λ (p : Ported W). Exchanged o [] All old.port p) (sym port) (exchanged_none o laws old.port)) parts f
+      (subst (λ (p : Ported W). Exchanged o [] All old.port p) (sym port) (exchanged_none o old.port)) parts f
 
   pub follows_asked : {A : Type 0} (call : Call) (answer : Answer) (rest : Answer → Doing A) (old mid new : Reach V W) (result : Result A Stop)
       → AsksOne o call old.port mid.port (Ok answer) → mid.parts ≡ old.parts

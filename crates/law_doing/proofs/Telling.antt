@@ -1,8 +1,9 @@
 -- Calls that ask nothing, one after another; and such a call as one that may ask.
 use Rattle.std.proofs.Common.{◌≡◌, Bool, true, false, if◌then◌else◌, List, [], ◌∷◌, ◌++◌, Ok, ◌∙◌, refl, sym, ap, subst}
 use Rattle.model_stream.specs.Doing.{Change, Doing, Ends, Changes, and_then}
+use Rattle.aio_wire.specs.Outside.{Outside}
+use Rattle.aio_wire.specs.Port.{Ported}
 use Rattle.aio_exchange.specs.Exchanged.{All, Exchange, Exchanged}
-use Rattle.aio_exchange.specs.Outside.{IsOutside, Outside, Ported}
 use Rattle.aio_exchange.proofs.Exchanging.{exchanged_none}
 use Rattle.law_doing.specs.Follows.{Follows, Reach}
 use Rattle.law_doing.specs.Tells.{Tells}
@@ -45,16 +46,16 @@ module _ {V : Type 0} (change : Change → V → V) where
   tells_unless b x y old new result is f = subst (λ it. Tells change (if it then x else y) old new result) (sym is) f
 
   -- it is one that may ask
-  pub tells_follow : {A W : Type 0} (o : Outside W) (laws : IsOutside o) (doing : Doing A) (old new : Reach V W) (result : A)
+  pub tells_follow : {A W : Type 0} (o : Outside W) (doing : Doing A) (old new : Reach V W) (result : A)
       → Tells change doing old.parts new.parts result → new.port ≡ old.port → Follows o change doing old new (Ok result)
-  tells_follow {A} {W} o laws doing old new result h same = record {
+  tells_follow {A} {W} o doing old new result h same = record {
     way = h.way;
     left = Ends result;
     last = All;
     leads = h.leads;
     exchanged =
         subst (λ (es : List Exchange). Exchanged o es All old.port new.port) (sym h.asks_none)
-        (subst (λ (p : Ported W). Exchanged o [] All old.port p) (sym same) (exchanged_none o laws old.port));
+        (subst (λ (p : Ported W). Exchanged o [] All old.port p) (sym same) (exchanged_none o old.port));
     parts = h.parts;
     ends = refl;
   }

@@ -5,8 +5,9 @@ use Rattle.model_stream.specs.Doing.{Change, Doing, Ends, Asks}
 use Rattle.aio_wire.specs.declared.stop.Stop.{Stop}
 use Rattle.aio_wire.specs.declared.stop.Stop.TheVariants as stop
 use Rattle.aio_wire.specs.EventList.{EventList}
+use Rattle.aio_wire.specs.Outside.{Outside}
+use Rattle.aio_wire.specs.Port.{Ported}
 use Rattle.aio_exchange.specs.Exchanged.{Exchanged, Last, All, Met, Starved, StopsAs}
-use Rattle.aio_exchange.specs.Outside.{Outside, Ported}
 use Rattle.law_doing.specs.Ways.{Move, Leads, had_on, changed_on}
 
 -- what such a call may change beside its own: the loop's parts, as they are seen, and the port

@@ -5,7 +5,6 @@ ghost use Rattle.model_stream.specs.Doing.{Change, Doing, Ends, Changes, Asks, a
 ghost use Rattle.aio_wire.specs.declared.stop.Stop.{Stop as AnyStop};
 ghost use Rattle.aio_wire.specs.declared.stop.Stop.TheVariants.{Memory as OutOfMemory};
 ghost use Rattle.aio_exchange.specs.Exchanged.{AsksOne};
-ghost use Rattle.aio_exchange.specs.Outside.{outside_of};
 ghost use Rattle.law_doing.specs.Follows.{Follows, Reach};
 
 use aio_wire::Wire;
@@ -14,32 +13,32 @@ use aio_wire::Wire;
 /// answer that fits; and where memory was refused before anything was asked, each tree is.
 pub fn trees_are_followed<V, W: Wire, A>()
     ensures ends { (change : Change → V → V) (result : A) (at : Reach V W)
-        → Follows (outside_of W.seen W.fails W.keeps W.quiet) change (Ends result)
+        → Follows W.outside change (Ends result)
         at at (Ok result) }
     ensures changes { (change : Change → V → V) (it : Change) (rest : Doing A)
         (old between new : Reach V W) (result : Result A AnyStop)
         → between.parts ≡ change it old.parts → between.port ≡ old.port
-        → Follows (outside_of W.seen W.fails W.keeps W.quiet) change rest between new result
-        → Follows (outside_of W.seen W.fails W.keeps W.quiet) change (Changes it rest)
+        → Follows W.outside change rest between new result
+        → Follows W.outside change (Changes it rest)
         old new result }
     ensures asks { (change : Change → V → V) (call : AnyCall) (answer : AnyAnswer)
         (rest : AnyAnswer → Doing A) (old between new : Reach V W) (result : Result A AnyStop)
-        → AsksOne (outside_of W.seen W.fails W.keeps W.quiet) call
+        → AsksOne W.outside call
         old.port between.port (Ok answer)
         → between.parts ≡ old.parts
-        → Follows (outside_of W.seen W.fails W.keeps W.quiet) change (rest answer)
+        → Follows W.outside change (rest answer)
         between new result
-        → Follows (outside_of W.seen W.fails W.keeps W.quiet) change (Asks call rest)
+        → Follows W.outside change (Asks call rest)
         old new result }
     ensures met { (change : Change → V → V) (call : AnyCall) (why : AnyStop)
         (rest : AnyAnswer → Doing A) (old new : Reach V W)
-        → AsksOne (outside_of W.seen W.fails W.keeps W.quiet) call old.port new.port (Err why)
+        → AsksOne W.outside call old.port new.port (Err why)
         → new.parts ≡ old.parts
-        → Follows (outside_of W.seen W.fails W.keeps W.quiet) change (Asks call rest)
+        → Follows W.outside change (Asks call rest)
         old new (Err why) }
     ensures starved { (change : Change → V → V) (doing : Doing A) (old new : Reach V W)
         → new.port ≡ old.port
-        → Follows (outside_of W.seen W.fails W.keeps W.quiet) change doing
+        → Follows W.outside change doing
         old new (Err OutOfMemory) }
 {}
 
@@ -47,13 +46,13 @@ pub fn trees_are_followed<V, W: Wire, A>()
 pub fn calls_go_on<V, W: Wire, A, B>()
     ensures goes { (change : Change → V → V) (doing : Doing A) (next : A → Doing B) (a : A)
         (old between new : Reach V W) (result : Result B AnyStop)
-        → Follows (outside_of W.seen W.fails W.keeps W.quiet) change doing old between (Ok a)
-        → Follows (outside_of W.seen W.fails W.keeps W.quiet) change (next a) between new result
-        → Follows (outside_of W.seen W.fails W.keeps W.quiet) change (and_then doing next)
+        → Follows W.outside change doing old between (Ok a)
+        → Follows W.outside change (next a) between new result
+        → Follows W.outside change (and_then doing next)
         old new result }
     ensures stops { (change : Change → V → V) (doing : Doing A) (next : A → Doing B)
         (why : AnyStop) (old new : Reach V W)
-        → Follows (outside_of W.seen W.fails W.keeps W.quiet) change doing old new (Err why)
-        → Follows (outside_of W.seen W.fails W.keeps W.quiet) change (and_then doing next)
+        → Follows W.outside change doing old new (Err why)
+        → Follows W.outside change (and_then doing next)
         old new (Err why) }
 {}

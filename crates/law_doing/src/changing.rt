@@ -1,7 +1,6 @@
 //! Calls that ask nothing.
 ghost use Rattle.std.specs.Prelude.{◌≡◌, Ok};
 ghost use Rattle.model_stream.specs.Doing.{Change, Doing, Ends, Changes, and_then};
-ghost use Rattle.aio_exchange.specs.Outside.{outside_of};
 ghost use Rattle.law_doing.specs.Follows.{Follows, Reach};
 ghost use Rattle.law_doing.specs.Tells.{Tells};
 
@@ -24,5 +23,5 @@ pub fn trees_are_told<V, A, B>()
 pub fn changes_are_calls<V, W: Wire, A>()
     ensures { (change : Change → V → V) (doing : Doing A) (old new : Reach V W) (result : A)
         → Tells change doing old.parts new.parts result → new.port ≡ old.port
-        → Follows (outside_of W.seen W.fails W.keeps W.quiet) change doing old new (Ok result) }
+        → Follows W.outside change doing old new (Ok result) }
 {}

@@ -2,8 +2,8 @@
 use Rattle.std.proofs.Common.{◌≡◌, true, List, [], ◌∷◌, Ok, subst}
 use Rattle.model_stream.specs.Doing.{Change, Doing, Ends, Changes, Asks}
 use Rattle.model_stream.specs.Streams.{Opened, Streams}
+use Rattle.aio_wire.specs.Outside.{Outside}
 use Rattle.aio_exchange.specs.Exchanged.{Last, All, Met, Starved}
-use Rattle.aio_exchange.specs.Outside.{Outside}
 use Rattle.law_doing.specs.Follows.{EndsBy, Follows, Reach}
 use Rattle.law_doing.specs.Tells.{Tells}
 use Rattle.law_doing.specs.Ways.{Move, Did, Heard, Leads}

@@ -2,7 +2,6 @@
 ghost use Rattle.std.specs.Prelude.{◌≡◌, true, Ok};
 ghost use Rattle.model_stream.specs.Doing.{Change, Doing};
 ghost use Rattle.model_stream.specs.Streams.{Opened, Streams};
-ghost use Rattle.aio_exchange.specs.Outside.{outside_of};
 ghost use Rattle.law_doing.specs.Follows.{Follows, Reach};
 ghost use Rattle.law_doing.specs.Tells.{Tells};
 ghost use Rattle.law_over.specs.Gone.{StaysGone, StaysGoneWith, is_gone};
@@ -15,11 +14,11 @@ use aio_wire::Wire;
 pub fn calls_leave_gone<V, W: Wire, R>()
     ensures follows { (change : Change → V → V) (tree : Streams → Doing Streams)
         (old new : Reach V W) (one : Opened) (s after : Streams) → StaysGone tree
-        → Follows (outside_of W.seen W.fails W.keeps W.quiet) change (tree s) old new (Ok after)
+        → Follows W.outside change (tree s) old new (Ok after)
         → is_gone one s ≡ true → is_gone one after ≡ true }
     ensures answers { (change : Change → V → V) (tree : Streams → Doing (Streams × R))
         (old new : Reach V W) (one : Opened) (s after : Streams) (said : R) → StaysGoneWith tree
-        → Follows (outside_of W.seen W.fails W.keeps W.quiet) change (tree s) old new
+        → Follows W.outside change (tree s) old new
         (Ok (after, said))
         → is_gone one s ≡ true → is_gone one after ≡ true }
     ensures tells { (change : Change → V → V) (tree : Streams → Doing Streams) (old new : V)
@@ -36,11 +35,11 @@ pub fn calls_leave_gone<V, W: Wire, R>()
 pub fn calls_keep_order<V, W: Wire, R>()
     ensures follows { (change : Change → V → V) (tree : Streams → Doing Streams)
         (old new : Reach V W) (s after : Streams) → Grows tree
-        → Follows (outside_of W.seen W.fails W.keeps W.quiet) change (tree s) old new (Ok after)
+        → Follows W.outside change (tree s) old new (Ok after)
         → Grown s after }
     ensures answers { (change : Change → V → V) (tree : Streams → Doing (Streams × R))
         (old new : Reach V W) (s after : Streams) (said : R) → GrowsWith tree
-        → Follows (outside_of W.seen W.fails W.keeps W.quiet) change (tree s) old new
+        → Follows W.outside change (tree s) old new
         (Ok (after, said))
         → Grown s after }
     ensures tells { (change : Change → V → V) (tree : Streams → Doing Streams) (old new : V)

@@ -1,7 +1,6 @@
 //! Its callbacks that ask the outside.
 ghost use Rattle.std.specs.Prelude.{◌≡◌, None, OnOk};
 ghost use Rattle.model_stream.specs.Children as plain;
-ghost use Rattle.aio_exchange.specs.Outside.{outside_of};
 ghost use Rattle.law_doing.specs.Follows.{Follows, after_of, reach};
 ghost use Rattle.aio_change.specs.Seen.{seen_changed};
 ghost use Rattle.aio_child.specs.Owned.{OwnsChild};
@@ -24,7 +23,7 @@ impl Child {
         requires own { OwnsChild parts.old self.old }
         ensures wire_name { port.new.wire.ghost_name ≡ port.old.wire.ghost_name }
         ensures events_name { port.new.events.ghost_name ≡ port.old.events.ghost_name }
-        ensures follows { Follows (outside_of W.seen W.fails W.keeps W.quiet) seen_changed
+        ensures follows { Follows W.outside seen_changed
             (plain.feed_more id self.old)
             (reach parts.old port.old.wire.now port.old.events.now)
             (reach parts.new port.new.wire.now port.new.events.now)
@@ -51,7 +50,7 @@ impl Child {
         requires own { OwnsChild parts.old self.old }
         ensures wire_name { port.new.wire.ghost_name ≡ port.old.wire.ghost_name }
         ensures events_name { port.new.events.ghost_name ≡ port.old.events.ghost_name }
-        ensures follows { Follows (outside_of W.seen W.fails W.keeps W.quiet) seen_changed
+        ensures follows { Follows W.outside seen_changed
             (plain.fed id self.old)
             (reach parts.old port.old.wire.now port.old.events.now)
             (reach parts.new port.new.wire.now port.new.events.now)

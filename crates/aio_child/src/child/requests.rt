@@ -1,7 +1,6 @@
 //! Requests that concern more than its standard input alone, or its exit.
 ghost use Rattle.std.specs.Prelude.{◌≡◌, None, IfOk, OnOk, length};
 ghost use Rattle.model_stream.specs.Children as plain;
-ghost use Rattle.aio_exchange.specs.Outside.{outside_of};
 ghost use Rattle.law_doing.specs.Follows.{Follows, after_of, reach, with_after};
 ghost use Rattle.law_doing.specs.Tells.{Tells};
 ghost use Rattle.aio_task.specs.View.{View};
@@ -30,7 +29,7 @@ impl Child {
         requires idle { parts.old.called ≡ None }
         ensures wire_name { port.new.wire.ghost_name ≡ port.old.wire.ghost_name }
         ensures events_name { port.new.events.ghost_name ≡ port.old.events.ghost_name }
-        ensures follows { Follows (outside_of W.seen W.fails W.keeps W.quiet) seen_changed
+        ensures follows { Follows W.outside seen_changed
             (plain.write_child id piece.now self.old)
             (reach parts.old port.old.wire.now port.old.events.now)
             (reach parts.new port.new.wire.now port.new.events.now)
@@ -65,8 +64,7 @@ impl Child {
     pub fn kill<W: Wire>(&self, alloc: Global, id: u32, port: &mut Port<W>) -> Result<(), Stop>
         ensures wire_name { port.new.wire.ghost_name ≡ port.old.wire.ghost_name }
         ensures events_name { port.new.events.ghost_name ≡ port.old.events.ghost_name }
-        ensures follows { (v : View) → Follows (outside_of W.seen W.fails W.keeps W.quiet)
-            seen_changed (plain.kill id self.now)
+        ensures follows { (v : View) → Follows W.outside seen_changed (plain.kill id self.now)
             (reach v port.old.wire.now port.old.events.now)
             (reach v port.new.wire.now port.new.events.now)
             (after_of self.now result) }

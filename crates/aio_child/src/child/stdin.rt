@@ -4,7 +4,6 @@ ghost use Rattle.model_stream.specs.Children as plain;
 ghost use Rattle.model_stream.specs.Children.{inlet, its_stdin};
 ghost use Rattle.model_stream.specs.Doing.{Ends, asked_on, on};
 ghost use Rattle.model_stream.specs.Senders as senders;
-ghost use Rattle.aio_exchange.specs.Outside.{outside_of};
 ghost use Rattle.law_doing.specs.Follows.{Follows, after_of, reach, with_after};
 ghost use Rattle.law_doing.specs.Tells.{Tells};
 ghost use Rattle.aio_task.specs.View.{View};
@@ -34,7 +33,7 @@ impl Child {
         requires idle { parts.old.called ≡ None }
         ensures wire_name { port.new.wire.ghost_name ≡ port.old.wire.ghost_name }
         ensures events_name { port.new.events.ghost_name ≡ port.old.events.ghost_name }
-        ensures follows { Follows (outside_of W.seen W.fails W.keeps W.quiet) seen_changed
+        ensures follows { Follows W.outside seen_changed
             (asked_on its_stdin (senders.write (inlet id) piece.now) self.old)
             (reach parts.old port.old.wire.now port.old.events.now)
             (reach parts.new port.new.wire.now port.new.events.now)
@@ -58,7 +57,7 @@ impl Child {
         requires own { OwnsChild parts.old self.old }
         ensures wire_name { port.new.wire.ghost_name ≡ port.old.wire.ghost_name }
         ensures events_name { port.new.events.ghost_name ≡ port.old.events.ghost_name }
-        ensures follows { Follows (outside_of W.seen W.fails W.keeps W.quiet) seen_changed
+        ensures follows { Follows W.outside seen_changed
             (on its_stdin (senders.send_more (inlet id)) self.old)
             (reach parts.old port.old.wire.now port.old.events.now)
             (reach parts.new port.new.wire.now port.new.events.now)
@@ -82,7 +81,7 @@ impl Child {
         requires own { OwnsChild parts.old self.old }
         ensures wire_name { port.new.wire.ghost_name ≡ port.old.wire.ghost_name }
         ensures events_name { port.new.events.ghost_name ≡ port.old.events.ghost_name }
-        ensures follows { Follows (outside_of W.seen W.fails W.keeps W.quiet) seen_changed
+        ensures follows { Follows W.outside seen_changed
             (plain.lose_child id broken self.old)
             (reach parts.old port.old.wire.now port.old.events.now)
             (reach parts.new port.new.wire.now port.new.events.now)

@@ -2,7 +2,6 @@
 ghost use Rattle.std.specs.Prelude.{◌≡◌, None, OnOk};
 ghost use Rattle.model_stream.specs.Children as child;
 ghost use Rattle.model_stream.specs.Streams.{its_children, on_one};
-ghost use Rattle.aio_exchange.specs.Outside.{outside_of};
 ghost use Rattle.law_doing.specs.Follows.{reach};
 ghost use Rattle.aio_children.specs.Owned.{OwnsChildren};
 ghost use Rattle.aio_children.specs.Standing.{Comes, Told};
@@ -26,8 +25,7 @@ impl Children {
         requires own { OwnsChildren parts.old self.old }
         ensures wire_name { port.new.wire.ghost_name ≡ port.old.wire.ghost_name }
         ensures events_name { port.new.events.ghost_name ≡ port.old.events.ghost_name }
-        ensures comes { Comes (outside_of W.seen W.fails W.keeps W.quiet)
-            (on_one its_children id (child.feed_more id))
+        ensures comes { Comes W.outside (on_one its_children id (child.feed_more id))
             self.old self.new
             (reach parts.old port.old.wire.now port.old.events.now)
             (reach parts.new port.new.wire.now port.new.events.now)
@@ -54,8 +52,7 @@ impl Children {
         requires own { OwnsChildren parts.old self.old }
         ensures wire_name { port.new.wire.ghost_name ≡ port.old.wire.ghost_name }
         ensures events_name { port.new.events.ghost_name ≡ port.old.events.ghost_name }
-        ensures comes { Comes (outside_of W.seen W.fails W.keeps W.quiet)
-            (on_one its_children id (child.lose_child id broken))
+        ensures comes { Comes W.outside (on_one its_children id (child.lose_child id broken))
             self.old self.new
             (reach parts.old port.old.wire.now port.old.events.now)
             (reach parts.new port.new.wire.now port.new.events.now)

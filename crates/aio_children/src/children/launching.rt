@@ -2,7 +2,6 @@
 ghost use Rattle.std.specs.Prelude.{◌≡◌, ◌<◌, ◌^◌, ◌++◌, ◌∷◌, [], true, None, OnOk, length, nat_lt};
 ghost use Rattle.model_stream.specs.Answers.{is_child};
 ghost use Rattle.model_stream.specs.Streams as plain;
-ghost use Rattle.aio_exchange.specs.Outside.{outside_of};
 ghost use Rattle.law_doing.specs.Follows.{reach};
 ghost use Rattle.aio_children.specs.Owned.{OwnsChildren};
 ghost use Rattle.aio_children.specs.Standing.{Launches};
@@ -55,8 +54,7 @@ impl Children {
         requires own { OwnsChildren parts.old self.old }
         ensures wire_name { port.new.wire.ghost_name ≡ port.old.wire.ghost_name }
         ensures events_name { port.new.events.ghost_name ≡ port.old.events.ghost_name }
-        ensures comes { Launches (outside_of W.seen W.fails W.keeps W.quiet)
-            (plain.launch words (length parts.old.futures))
+        ensures comes { Launches W.outside (plain.launch words (length parts.old.futures))
             self.old self.new
             (reach parts.old port.old.wire.now port.old.events.now)
             (reach parts.new port.new.wire.now port.new.events.now)

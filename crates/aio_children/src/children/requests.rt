@@ -2,7 +2,6 @@
 ghost use Rattle.std.specs.Prelude.{◌≡◌, None, IfOk, OnOk, length};
 ghost use Rattle.model_wire.specs.declared.event.Handed.TheVariants as to;
 ghost use Rattle.model_stream.specs.Requests as plain;
-ghost use Rattle.aio_exchange.specs.Outside.{outside_of};
 ghost use Rattle.law_doing.specs.Follows.{reach};
 ghost use Rattle.aio_task.specs.View.{View};
 ghost use Rattle.aio_children.specs.Owned.{OwnsChildren};
@@ -31,8 +30,7 @@ impl Children {
         requires own { OwnsChildren parts.old self.old }
         ensures wire_name { port.new.wire.ghost_name ≡ port.old.wire.ghost_name }
         ensures events_name { port.new.events.ghost_name ≡ port.old.events.ghost_name }
-        ensures comes { Answers (outside_of W.seen W.fails W.keeps W.quiet)
-            (plain.write (to.Child id) piece.now)
+        ensures comes { Answers W.outside (plain.write (to.Child id) piece.now)
             self.old self.new
             (reach parts.old port.old.wire.now port.old.events.now)
             (reach parts.new port.new.wire.now port.new.events.now)
@@ -115,8 +113,7 @@ impl Children {
     pub fn kill<W: Wire>(&self, alloc: Global, id: u32, port: &mut Port<W>) -> Result<(), Stop>
         ensures wire_name { port.new.wire.ghost_name ≡ port.old.wire.ghost_name }
         ensures events_name { port.new.events.ghost_name ≡ port.old.events.ghost_name }
-        ensures comes { (v : View) → Comes (outside_of W.seen W.fails W.keeps W.quiet)
-            (plain.kill id) self.now self.now
+        ensures comes { (v : View) → Comes W.outside (plain.kill id) self.now self.now
             (reach v port.old.wire.now port.old.events.now)
             (reach v port.new.wire.now port.new.events.now)
             result }

@@ -1,7 +1,6 @@
 //! Requests that concern more than one side, or ask.
 ghost use Rattle.std.specs.Prelude.{◌≡◌, None, IfOk, OnOk, length};
 ghost use Rattle.model_stream.specs.Connections as plain;
-ghost use Rattle.aio_exchange.specs.Outside.{outside_of};
 ghost use Rattle.law_doing.specs.Follows.{Follows, after_of, reach};
 ghost use Rattle.law_doing.specs.Tells.{Tells};
 ghost use Rattle.aio_change.specs.Seen.{seen_changed};
@@ -28,7 +27,7 @@ impl Connection {
         requires idle { parts.old.called ≡ None }
         ensures wire_name { port.new.wire.ghost_name ≡ port.old.wire.ghost_name }
         ensures events_name { port.new.events.ghost_name ≡ port.old.events.ghost_name }
-        ensures follows { Follows (outside_of W.seen W.fails W.keeps W.quiet) seen_changed
+        ensures follows { Follows W.outside seen_changed
             (plain.write_eof id self.old)
             (reach parts.old port.old.wire.now port.old.events.now)
             (reach parts.new port.new.wire.now port.new.events.now)
@@ -60,7 +59,7 @@ impl Connection {
         requires idle { parts.old.called ≡ None }
         ensures wire_name { port.new.wire.ghost_name ≡ port.old.wire.ghost_name }
         ensures events_name { port.new.events.ghost_name ≡ port.old.events.ghost_name }
-        ensures follows { Follows (outside_of W.seen W.fails W.keeps W.quiet) seen_changed
+        ensures follows { Follows W.outside seen_changed
             (plain.drop_connect id self.old)
             (reach parts.old port.old.wire.now port.old.events.now)
             (reach parts.new port.new.wire.now port.new.events.now)

@@ -3,7 +3,6 @@ ghost use Rattle.std.specs.Prelude.{◌≡◌, None, OnOk};
 ghost use Rattle.model_stream.specs.Connections as connection;
 ghost use Rattle.model_stream.specs.Doing.{Ends};
 ghost use Rattle.model_stream.specs.Streams.{its_connections, on_one};
-ghost use Rattle.aio_exchange.specs.Outside.{outside_of};
 ghost use Rattle.law_doing.specs.Follows.{reach};
 ghost use Rattle.aio_task.specs.View.{View};
 ghost use Rattle.aio_stream.specs.Owned.{OwnsStreams};
@@ -28,8 +27,7 @@ impl Streams {
         requires own { OwnsStreams parts.old self.old }
         ensures wire_name { port.new.wire.ghost_name ≡ port.old.wire.ghost_name }
         ensures events_name { port.new.events.ghost_name ≡ port.old.events.ghost_name }
-        ensures comes { Comes (outside_of W.seen W.fails W.keeps W.quiet)
-            (on_one its_connections id (connection.readable id))
+        ensures comes { Comes W.outside (on_one its_connections id (connection.readable id))
             self.old self.new
             (reach parts.old port.old.wire.now port.old.events.now)
             (reach parts.new port.new.wire.now port.new.events.now)
@@ -55,8 +53,7 @@ impl Streams {
         requires own { OwnsStreams parts.old self.old }
         ensures wire_name { port.new.wire.ghost_name ≡ port.old.wire.ghost_name }
         ensures events_name { port.new.events.ghost_name ≡ port.old.events.ghost_name }
-        ensures comes { Comes (outside_of W.seen W.fails W.keeps W.quiet)
-            (on_one its_connections id (connection.writable id))
+        ensures comes { Comes W.outside (on_one its_connections id (connection.writable id))
             self.old self.new
             (reach parts.old port.old.wire.now port.old.events.now)
             (reach parts.new port.new.wire.now port.new.events.now)
@@ -82,8 +79,7 @@ impl Streams {
         requires own { OwnsStreams parts.old self.old }
         ensures wire_name { port.new.wire.ghost_name ≡ port.old.wire.ghost_name }
         ensures events_name { port.new.events.ghost_name ≡ port.old.events.ghost_name }
-        ensures comes { Comes (outside_of W.seen W.fails W.keeps W.quiet)
-            (on_one its_connections id (connection.down id))
+        ensures comes { Comes W.outside (on_one its_connections id (connection.down id))
             self.old self.new
             (reach parts.old port.old.wire.now port.old.events.now)
             (reach parts.new port.new.wire.now port.new.events.now)
@@ -110,8 +106,7 @@ impl Streams {
         requires own { OwnsStreams parts.old self.old }
         ensures wire_name { port.new.wire.ghost_name ≡ port.old.wire.ghost_name }
         ensures events_name { port.new.events.ghost_name ≡ port.old.events.ghost_name }
-        ensures comes { Comes (outside_of W.seen W.fails W.keeps W.quiet)
-            (on_one its_connections id (connection.lose id broken))
+        ensures comes { Comes W.outside (on_one its_connections id (connection.lose id broken))
             self.old self.new
             (reach parts.old port.old.wire.now port.old.events.now)
             (reach parts.new port.new.wire.now port.new.events.now)

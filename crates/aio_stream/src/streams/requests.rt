@@ -3,7 +3,6 @@ ghost use Rattle.std.specs.Prelude.{◌≡◌, [], None, IfOk, OnOk, length};
 ghost use Rattle.model_stream.specs.declared.answers.StreamGot.TheVariants as got_as;
 ghost use Rattle.model_wire.specs.declared.event.Handed.TheVariants as to;
 ghost use Rattle.model_stream.specs.Requests as plain;
-ghost use Rattle.aio_exchange.specs.Outside.{outside_of};
 ghost use Rattle.law_doing.specs.Follows.{reach};
 ghost use Rattle.aio_task.specs.View.{View};
 ghost use Rattle.aio_receiver.specs.Gotten.{all_got};
@@ -33,8 +32,7 @@ impl Streams {
         requires own { OwnsStreams parts.old self.old }
         ensures wire_name { port.new.wire.ghost_name ≡ port.old.wire.ghost_name }
         ensures events_name { port.new.events.ghost_name ≡ port.old.events.ghost_name }
-        ensures comes { Answers (outside_of W.seen W.fails W.keeps W.quiet)
-            (plain.write (to.Conn id) piece.now)
+        ensures comes { Answers W.outside (plain.write (to.Conn id) piece.now)
             self.old self.new
             (reach parts.old port.old.wire.now port.old.events.now)
             (reach parts.new port.new.wire.now port.new.events.now)
@@ -60,8 +58,7 @@ impl Streams {
         requires own { OwnsStreams parts.old self.old }
         ensures wire_name { port.new.wire.ghost_name ≡ port.old.wire.ghost_name }
         ensures events_name { port.new.events.ghost_name ≡ port.old.events.ghost_name }
-        ensures comes { Comes (outside_of W.seen W.fails W.keeps W.quiet)
-            (plain.write_eof id)
+        ensures comes { Comes W.outside (plain.write_eof id)
             self.old self.new
             (reach parts.old port.old.wire.now port.old.events.now)
             (reach parts.new port.new.wire.now port.new.events.now)
@@ -87,8 +84,7 @@ impl Streams {
         requires own { OwnsStreams parts.old self.old }
         ensures wire_name { port.new.wire.ghost_name ≡ port.old.wire.ghost_name }
         ensures events_name { port.new.events.ghost_name ≡ port.old.events.ghost_name }
-        ensures comes { Comes (outside_of W.seen W.fails W.keeps W.quiet)
-            (plain.drop_connect id)
+        ensures comes { Comes W.outside (plain.drop_connect id)
             self.old self.new
             (reach parts.old port.old.wire.now port.old.events.now)
             (reach parts.new port.new.wire.now port.new.events.now)

@@ -1,7 +1,6 @@
 //! What a callback does.
 ghost use Rattle.std.specs.Prelude.{◌≡◌, None, OnOk, length};
 ghost use Rattle.model_stream.specs.Streams as plain;
-ghost use Rattle.aio_exchange.specs.Outside.{outside_of};
 ghost use Rattle.law_doing.specs.Follows.{reach};
 ghost use Rattle.aio_transports.specs.Owned.{OwnsTransports};
 ghost use Rattle.aio_transports.specs.Standing.{Comes};
@@ -29,8 +28,7 @@ impl Transports {
         requires own { OwnsTransports parts.old self.old }
         ensures wire_name { port.new.wire.ghost_name ≡ port.old.wire.ghost_name }
         ensures events_name { port.new.events.ghost_name ≡ port.old.events.ghost_name }
-        ensures comes { Comes (outside_of W.seen W.fails W.keeps W.quiet)
-            (plain.act (length parts.old.futures) returned action.now)
+        ensures comes { Comes W.outside (plain.act (length parts.old.futures) returned action.now)
             self.old self.new
             (reach parts.old port.old.wire.now port.old.events.now)
             (reach parts.new port.new.wire.now port.new.events.now)

@@ -2,7 +2,6 @@
 ghost use Rattle.std.specs.Prelude.{◌≡◌, None, IfOk, OnOk, length};
 ghost use Rattle.model_stream.specs.Requests as plain;
 ghost use Rattle.model_stream.specs.Streams as streams;
-ghost use Rattle.aio_exchange.specs.Outside.{outside_of};
 ghost use Rattle.law_doing.specs.Follows.{reach};
 ghost use Rattle.aio_task.specs.View.{View};
 ghost use Rattle.aio_transports.specs.Owned.{OwnsTransports};
@@ -42,8 +41,7 @@ impl Transports {
     ) -> Result<(), Stop>
         ensures wire_name { port.new.wire.ghost_name ≡ port.old.wire.ghost_name }
         ensures events_name { port.new.events.ghost_name ≡ port.old.events.ghost_name }
-        ensures comes { (v : View) → Comes (outside_of W.seen W.fails W.keeps W.quiet)
-            (streams.close_server id)
+        ensures comes { (v : View) → Comes W.outside (streams.close_server id)
             self.old self.new
             (reach v port.old.wire.now port.old.events.now)
             (reach v port.new.wire.now port.new.events.now)
@@ -66,8 +64,7 @@ impl Transports {
         requires own { OwnsTransports parts.old self.old }
         ensures wire_name { port.new.wire.ghost_name ≡ port.old.wire.ghost_name }
         ensures events_name { port.new.events.ghost_name ≡ port.old.events.ghost_name }
-        ensures comes { Comes (outside_of W.seen W.fails W.keeps W.quiet)
-            (plain.drop_connect conn)
+        ensures comes { Comes W.outside (plain.drop_connect conn)
             self.old self.new
             (reach parts.old port.old.wire.now port.old.events.now)
             (reach parts.new port.new.wire.now port.new.events.now)
@@ -100,8 +97,7 @@ impl Transports {
     pub fn kill<W: Wire>(&self, alloc: Global, child: u32, port: &mut Port<W>) -> Result<(), Stop>
         ensures wire_name { port.new.wire.ghost_name ≡ port.old.wire.ghost_name }
         ensures events_name { port.new.events.ghost_name ≡ port.old.events.ghost_name }
-        ensures comes { (v : View) → Comes (outside_of W.seen W.fails W.keeps W.quiet)
-            (plain.kill child) self.now self.now
+        ensures comes { (v : View) → Comes W.outside (plain.kill child) self.now self.now
             (reach v port.old.wire.now port.old.events.now)
             (reach v port.new.wire.now port.new.events.now)
             result }

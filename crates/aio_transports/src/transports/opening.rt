@@ -1,7 +1,6 @@
 //! How listeners, connections and children are opened.
 ghost use Rattle.std.specs.Prelude.{◌≡◌, ◌<◌, ◌^◌, true, None, OnOk, length};
 ghost use Rattle.model_stream.specs.Streams as plain;
-ghost use Rattle.aio_exchange.specs.Outside.{outside_of};
 ghost use Rattle.law_doing.specs.Follows.{reach};
 ghost use Rattle.aio_task.specs.View.{View};
 ghost use Rattle.aio_transports.specs.Kept.{with_launched};
@@ -67,8 +66,7 @@ impl Transports {
         requires room { length self.old.streams.servers < 2 ^ 32 }
         ensures wire_name { port.new.wire.ghost_name ≡ port.old.wire.ghost_name }
         ensures events_name { port.new.events.ghost_name ≡ port.old.events.ghost_name }
-        ensures comes { (v : View) → Answers (outside_of W.seen W.fails W.keeps W.quiet)
-            (plain.listen number handler)
+        ensures comes { (v : View) → Answers W.outside (plain.listen number handler)
             self.old self.new
             (reach v port.old.wire.now port.old.events.now)
             (reach v port.new.wire.now port.new.events.now)
@@ -93,8 +91,7 @@ impl Transports {
         requires room { length self.old.streams.connections < 2 ^ 32 }
         ensures wire_name { port.new.wire.ghost_name ≡ port.old.wire.ghost_name }
         ensures events_name { port.new.events.ghost_name ≡ port.old.events.ghost_name }
-        ensures comes { Answers (outside_of W.seen W.fails W.keeps W.quiet)
-            (plain.connect number (length parts.old.futures))
+        ensures comes { Answers W.outside (plain.connect number (length parts.old.futures))
             self.old self.new
             (reach parts.old port.old.wire.now port.old.events.now)
             (reach parts.new port.new.wire.now port.new.events.now)
@@ -118,8 +115,7 @@ impl Transports {
         requires room { length self.old.children.children < 2 ^ 32 }
         ensures wire_name { port.new.wire.ghost_name ≡ port.old.wire.ghost_name }
         ensures events_name { port.new.events.ghost_name ≡ port.old.events.ghost_name }
-        ensures comes { Answers (outside_of W.seen W.fails W.keeps W.quiet)
-            (plain.launch words (length parts.old.futures))
+        ensures comes { Answers W.outside (plain.launch words (length parts.old.futures))
             self.old self.new
             (reach parts.old port.old.wire.now port.old.events.now)
             (reach parts.new port.new.wire.now port.new.events.now)

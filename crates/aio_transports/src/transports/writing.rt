@@ -1,7 +1,6 @@
 //! What is written to a connection, or to a child's standard input.
 ghost use Rattle.std.specs.Prelude.{◌≡◌, None, IfOk, OnOk, length};
 ghost use Rattle.model_stream.specs.Requests as plain;
-ghost use Rattle.aio_exchange.specs.Outside.{outside_of};
 ghost use Rattle.law_doing.specs.Follows.{reach};
 ghost use Rattle.aio_task.specs.View.{View};
 ghost use Rattle.aio_transports.specs.Owned.{OwnsTransports};
@@ -30,8 +29,7 @@ impl Transports {
         requires own { OwnsTransports parts.old self.old }
         ensures wire_name { port.new.wire.ghost_name ≡ port.old.wire.ghost_name }
         ensures events_name { port.new.events.ghost_name ≡ port.old.events.ghost_name }
-        ensures comes { Answers (outside_of W.seen W.fails W.keeps W.quiet)
-            (plain.write whom piece.now)
+        ensures comes { Answers W.outside (plain.write whom piece.now)
             self.old self.new
             (reach parts.old port.old.wire.now port.old.events.now)
             (reach parts.new port.new.wire.now port.new.events.now)
@@ -57,8 +55,7 @@ impl Transports {
         requires own { OwnsTransports parts.old self.old }
         ensures wire_name { port.new.wire.ghost_name ≡ port.old.wire.ghost_name }
         ensures events_name { port.new.events.ghost_name ≡ port.old.events.ghost_name }
-        ensures comes { Comes (outside_of W.seen W.fails W.keeps W.quiet)
-            (plain.write_eof conn)
+        ensures comes { Comes W.outside (plain.write_eof conn)
             self.old self.new
             (reach parts.old port.old.wire.now port.old.events.now)
             (reach parts.new port.new.wire.now port.new.events.now)

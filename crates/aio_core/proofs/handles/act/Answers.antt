@@ -1,15 +1,5 @@
-use Rattle.aio_exchange.specs.Outside.{IsOutside, outside_of}
 use Rattle.aio_core.proofs.Acting.{acts_stepping, acts_without, steps_may}
-use Rattle.aio_core.proofs.handles.act.Given.{Over}
 use Rattle.aio_core.proofs.handles.act.Goals as goal
-
-laws : (g : Over) → IsOutside (outside_of g.W.Wire.seen g.W.Wire.fails g.W.Wire.keeps g.W.Wire.quiet)
-laws g = record {
-  keeps_same = g.met.W.Wire.keeps_same;
-  keeps_on = g.met.W.Wire.keeps_on;
-  quiet_same = g.met.W.Wire.quiet_same;
-  quiet_on = g.met.W.Wire.quiet_on;
-}
 
 pub step-requires-clause-called : goal.step-requires-clause-called
 step-requires-clause-called g c =
@@ -20,7 +10,7 @@ step-requires-clause-made g c = (rw c.in-Ok-Some.field-0-is at c.in-Ok-Some.ensu
 
 pub returns-in-Ok-Some : goal.returns-in-Ok-Some
 returns-in-Ok-Some g c =
-    acts_stepping g.X.Extra.added _ (laws g) c.args.action.now c.args.body.now c.in-Ok-Some.task c.in-Ok-Some.input
+    acts_stepping g.X.Extra.added g.W.Wire.outside c.args.action.now c.args.body.now c.in-Ok-Some.task c.in-Ok-Some.input
     (rw c.in-Ok-Some.field-0-is at c.in-Ok-Some.ensures) c.step.new.body c.args.wire.now c.step.new.wire c.step.result c.step.ensures
 
 pub call_back-requires-clause-idle : goal.call_back-requires-clause-idle
@@ -31,4 +21,4 @@ returns-in-Ok-None g c = c.call_back.ensures
 
 pub returns-in-Err : goal.returns-in-Err
 returns-in-Err g c =
-    acts_without g.X.Extra.added _ (laws g) c.args.action.now c.args.body.now _ c.args.wire.now
+    acts_without g.X.Extra.added g.W.Wire.outside c.args.action.now c.args.body.now _ c.args.wire.now

@@ -1,21 +1,12 @@
 use Rattle.std.proofs.Common.{◌⊎◌, inl, inr, ◌∙◌, ap, sym, subst}
 use Rattle.model_value.specs.Action.{Action}
 use Rattle.law_trees.specs.Trees.{is_of_streams}
-use Rattle.aio_exchange.specs.Outside.{IsOutside, outside_of, ported}
+use Rattle.aio_wire.specs.Port.{ported}
 use Rattle.aio_body.specs.Asking.{Comes}
 use Rattle.aio_streaming.specs.Acting as streaming
 use Rattle.aio_core.specs.Running.{acting, goes_as}
 use Rattle.aio_core.proofs.Acting.{acts_alone, acts_made, acts_streaming}
-use Rattle.aio_core.proofs.handles.call_back.Given.{Over}
 use Rattle.aio_core.proofs.handles.call_back.Goals as goal
-
-laws : (g : Over) → IsOutside (outside_of g.W.Wire.seen g.W.Wire.fails g.W.Wire.keeps g.W.Wire.quiet)
-laws g = record {
-  keeps_same = g.met.W.Wire.keeps_same;
-  keeps_on = g.met.W.Wire.keeps_on;
-  quiet_same = g.met.W.Wire.quiet_same;
-  quiet_on = g.met.W.Wire.quiet_on;
-}
 
 module _ {P : Type 0} (it : Action) where
   either : {A B : Type 0} → A ⊎ B → (A → P) → (B → P) → P
@@ -46,7 +37,7 @@ returns-in-StartRead g c =
     subst (Comes _ (acting g.X.Extra.added c.args.action.now c.args.body.now c.act.new.body)
     (ported c.args.wire.now c.args.body.now.events)
     (ported c.act.new.wire c.act.new.body.events)) (sym c.goes-in-StartRead.ensures)
-    (acts_streaming g.X.Extra.added _ (laws g) c.args.action.now c.args.body.now c.act.new.body c.args.wire.now c.act.new.wire
+    (acts_streaming g.X.Extra.added g.W.Wire.outside c.args.action.now c.args.body.now c.act.new.body c.args.wire.now c.act.new.wire
     c.act.result
     c.act.ensures.comes)
 
@@ -59,7 +50,7 @@ returns-in-Made g c =
     (ported c.args.wire.now c.args.body.now.events)
     (ported c.args.wire.now c.made.new.body.events)) (sym (c.goes.ensures ∙ ap goes_as c.or_stop.ensures))
     (rw c.in-Made.is
-    (acts_made g.X.Extra.added _ (laws g) _ c.args.body.now c.made.new.body c.args.wire.now c.made.result c.made.ensures))
+    (acts_made g.X.Extra.added g.W.Wire.outside _ c.args.body.now c.made.new.body c.args.wire.now c.made.result c.made.ensures))
 
 -- ---- all others
 pub call-requires-clause-of_loop : goal.call-requires-clause-of_loop
@@ -80,6 +71,6 @@ returns-in-Step g c =
     subst (Comes _ (acting g.X.Extra.added c.args.action.now c.args.body.now c.call.new.body)
     (ported c.args.wire.now c.args.body.now.events)
     (ported c.args.wire.now c.call.new.body.events)) (sym c.or_stop-in-Step.ensures)
-    (acts_alone g.X.Extra.added _ (laws g) c.args.action.now c.args.body.now c.call.new.body c.args.wire.now c.call.result
+    (acts_alone g.X.Extra.added g.W.Wire.outside c.args.action.now c.args.body.now c.call.new.body c.args.wire.now c.call.result
     c.call.ensures.acts
     c.call.ensures.goes)

@@ -10,14 +10,14 @@ use Rattle.aio_drive.proofs.driver.drive_kernel.Given as goal
 abbrev pub invariant-loop-made : goal.invariant-loop-made
 invariant-loop-made g l = record {
   running : (program : Program) → Begins nothing_added tt program l.fn.kernel
-      → IsUnderWay program l.fn.manner l._made l.kernel (g.W.Wire.seen l.fn.wire) (g.W.Wire.seen l.wire)
+      → IsUnderWay program l.fn.manner l._made l.kernel (g.W.Wire.outside.seen l.fn.wire) (g.W.Wire.outside.seen l.wire)
       (g.K.Sink.seen l.fn.out) (g.K.Sink.seen l.out)
       (record {
         name = option_copied l.fn.journal;
         old = g.F.Shelf.seen l.fn.shelf;
         new = g.F.Shelf.seen l.shelf;
       })
-      (g.W.Wire.fails l.fn.wire) (g.W.Wire.fails l.wire) (g.W.Wire.quiet l.fn.wire l.wire) (l.shelf ≡ l.fn.shelf);
-  stays : Stays (g.W.Wire.seen l.fn.wire) (g.W.Wire.seen l.wire);
-  keeps : g.W.Wire.keeps l.fn.wire l.wire;
+      (g.W.Wire.outside.fails l.fn.wire) (g.W.Wire.outside.fails l.wire) (g.W.Wire.outside.quiet l.fn.wire l.wire) (l.shelf ≡ l.fn.shelf);
+  stays : Stays (g.W.Wire.outside.seen l.fn.wire) (g.W.Wire.outside.seen l.wire);
+  keeps : g.W.Wire.outside.keeps l.fn.wire l.wire;
 }

@@ -1,22 +1,9 @@
 use Rattle.std.proofs.Common.{◌∙◌, refl, sym}
 use Rattle.std.proofs.lemmas.Result.{err_from_is_err_and}
-use Rattle.aio_exchange.specs.Outside.{IsOutside, Outside, outside_of}
 use Rattle.law_doing.specs.Follows.{Reach, reach}
 use Rattle.aio_task.specs.View.{View}
 use Rattle.aio_listener.proofs.Listens.{listen_met, listen_opens, listen_refused, listen_starved}
-use Rattle.aio_listener.proofs.listening.listen.Given.{Over}
 use Rattle.aio_listener.proofs.listening.listen.Goals as goal
-
-abbrev outside : (g : Over) → Outside g.row.W.Denot
-outside g = outside_of g.W.Wire.seen g.W.Wire.fails g.W.Wire.keeps g.W.Wire.quiet
-
-laws : (g : Over) → IsOutside (outside g)
-laws g = record {
-  keeps_same = g.met.W.Wire.keeps_same;
-  keeps_on = g.met.W.Wire.keeps_on;
-  quiet_same = g.met.W.Wire.quiet_same;
-  quiet_on = g.met.W.Wire.quiet_on;
-}
 
 pub returns-in_err-came-clause-comes : goal.returns-in_err-came-clause-comes
 returns-in_err-came-clause-comes g c v =
@@ -24,14 +11,14 @@ returns-in_err-came-clause-comes g c v =
     let old : Reach View g.row.W.Denot = reach v c.args.port.now.wire.now c.args.port.now.events.now in
     let new : Reach View g.row.W.Denot = reach v c.ask.new.port.wire.now c.ask.new.port.events.now in
     rw (p.1, p.2)
-    (listen_met (outside g) (laws g) c.args.number c.args.handler c.args.streams.now old new c.args.streams.now c.in_err-came.field-0.0
+    (listen_met g.W.Wire.outside c.args.number c.args.handler c.args.streams.now old new c.args.streams.now c.in_err-came.field-0.0
     c.in_err-came.ensures.asks refl)
 
 pub returns-then-not-opens-clause-comes : goal.returns-then-not-opens-clause-comes
 returns-then-not-opens-clause-comes g c v =
     let old : Reach View g.row.W.Denot = reach v c.args.port.now.wire.now c.args.port.now.events.now in
     let new : Reach View g.row.W.Denot = reach v c.ask.new.port.wire.now c.ask.new.port.events.now in
-    listen_refused (outside g) (laws g) c.args.number c.args.handler c.args.streams.now old new c.in_ok-came.came c.in_ok-came.ensures.asks refl
+    listen_refused g.W.Wire.outside c.args.number c.args.handler c.args.streams.now old new c.in_ok-came.came c.in_ok-came.ensures.asks refl
     (sym c.is_done-opens.ensures ∙ c.if-not-opens.true)
 
 pub returns-in_err-id-clause-comes : goal.returns-in_err-id-clause-comes
@@ -40,12 +27,12 @@ returns-in_err-id-clause-comes g c v =
     let old : Reach View g.row.W.Denot = reach v c.args.port.now.wire.now c.args.port.now.events.now in
     let new : Reach View g.row.W.Denot = reach v c.ask.new.port.wire.now c.ask.new.port.events.now in
     rw (p.1, p.2)
-    (listen_starved (outside g) (laws g) c.args.number c.args.handler c.args.streams.now old new c.in_ok-came.came c.in_ok-came.ensures.asks refl
+    (listen_starved g.W.Wire.outside c.args.number c.args.handler c.args.streams.now old new c.in_ok-came.came c.in_ok-came.ensures.asks refl
     c.add_server.new.self)
 
 pub returns-clause-comes : goal.returns-clause-comes
 returns-clause-comes g c v =
     let old : Reach View g.row.W.Denot = reach v c.args.port.now.wire.now c.args.port.now.events.now in
     let new : Reach View g.row.W.Denot = reach v c.ask.new.port.wire.now c.ask.new.port.events.now in
-    listen_opens (outside g) (laws g) c.args.number c.args.handler c.args.streams.now old new c.in_ok-came.came c.in_ok-came.ensures.asks refl
+    listen_opens g.W.Wire.outside c.args.number c.args.handler c.args.streams.now old new c.in_ok-came.came c.in_ok-came.ensures.asks refl
     c.add_server.new.self c.in_ok-id.id (sym c.is_done-opens.ensures ∙ c.if-not-opens.false) c.in_ok-id.ensures.after c.in_ok-id.ensures.number

@@ -16,16 +16,16 @@ use Rattle.aio_run.proofs.program.serve.Goals as goal
 pub returns-in-None-clause-ok : goal.returns-in-None-clause-ok
 returns-in-None-clause-ok g c =
     let shelf = g.F.Shelf.seen c.args.shelf.now in
-    let wire = g.W.Wire.seen c.args.wire.now in
-    let it = told_all (between shelf shelf wire wire) (g.W.Wire.fails c.args.wire.now) in
+    let wire = g.W.Wire.outside.seen c.args.wire.now in
+    let it = told_all (between shelf shelf wire wire) (g.W.Wire.outside.fails c.args.wire.now) in
     let may = subst (λ (o : Option Command). MayWrite it o words_refused) c.in-None.ensures.command (refl, refl) in
     IfOk-weaker c.say.result _ _ (λ status d. (words_refused, may, d.1, d.0)) c.say.ensures.ok
 
 pub returns-in-None-clause-err : goal.returns-in-None-clause-err
 returns-in-None-clause-err g c =
     let shelf = g.F.Shelf.seen c.args.shelf.now in
-    let wire = g.W.Wire.seen c.args.wire.now in
-    let fails = g.W.Wire.fails c.args.wire.now in
+    let wire = g.W.Wire.outside.seen c.args.wire.now in
+    let fails = g.W.Wire.outside.fails c.args.wire.now in
     let asked = command_of (map string_bytes c.args.words.now) in
     IfErr-weaker c.say.result _ _ (λ halt d.
     line_early halt (MayWrite (told_until halt (between shelf shelf wire wire) fails) asked)
@@ -47,8 +47,8 @@ returns-in-None-clause-wire g c =
 pub returns-in-Some-Work-clause-ok : goal.returns-in-Some-Work-clause-ok
 returns-in-Some-Work-clause-ok g c =
     let shelf = g.F.Shelf.seen c.args.shelf.now in
-    let wire = g.W.Wire.seen c.args.wire.now in
-    let it = told_all (between shelf shelf wire wire) (g.W.Wire.fails c.args.wire.now) in
+    let wire = g.W.Wire.outside.seen c.args.wire.now in
+    let it = told_all (between shelf shelf wire wire) (g.W.Wire.outside.fails c.args.wire.now) in
     let found = rw c.in-Some-Work.field-0-is at c.in-Some-Work.ensures.command in
     let seed = c.in-Some-Work.seed in
     subst (λ (o : Option Command). IfOk c.work.result (WritesWhole (MayWrite it o) (g.K.Sink.seen c.args.out.now) (g.K.Sink.seen c.work.new.out)))
@@ -60,8 +60,8 @@ returns-in-Some-Work-clause-ok g c =
 pub returns-in-Some-Work-clause-err : goal.returns-in-Some-Work-clause-err
 returns-in-Some-Work-clause-err g c =
     let shelf = g.F.Shelf.seen c.args.shelf.now in
-    let wire = g.W.Wire.seen c.args.wire.now in
-    let fails = g.W.Wire.fails c.args.wire.now in
+    let wire = g.W.Wire.outside.seen c.args.wire.now in
+    let fails = g.W.Wire.outside.fails c.args.wire.now in
     let found = rw c.in-Some-Work.field-0-is at c.in-Some-Work.ensures.command in
     let seed = c.in-Some-Work.seed in
     subst (λ (o : Option Command). IfErr c.work.result (λ halt. EndsEarly (MayWrite (told_until halt (between shelf shelf wire wire) fails) o)
@@ -84,8 +84,8 @@ returns-in-Some-Work-clause-wire g c =
 -- ---- checks
 pub returns-in-Some-Check-clause-ok : goal.returns-in-Some-Check-clause-ok
 returns-in-Some-Check-clause-ok g c =
-    let wire = g.W.Wire.seen c.args.wire.now in
-    let it = told_all (between (g.F.Shelf.seen c.args.shelf.now) (g.F.Shelf.seen c.check.new.shelf) wire wire) (g.W.Wire.fails c.args.wire.now) in
+    let wire = g.W.Wire.outside.seen c.args.wire.now in
+    let it = told_all (between (g.F.Shelf.seen c.args.shelf.now) (g.F.Shelf.seen c.check.new.shelf) wire wire) (g.W.Wire.outside.fails c.args.wire.now) in
     let found = rw c.in-Some-Check.field-0-is at c.in-Some-Check.ensures.command in
     subst (λ (o : Option Command). IfOk c.check.result (WritesWhole (MayWrite it o) (g.K.Sink.seen c.args.out.now)
     (g.K.Sink.seen c.check.new.out))) found c.check.ensures.ok
@@ -94,8 +94,8 @@ pub returns-in-Some-Check-clause-err : goal.returns-in-Some-Check-clause-err
 returns-in-Some-Check-clause-err g c =
     let old = g.F.Shelf.seen c.args.shelf.now in
     let new = g.F.Shelf.seen c.check.new.shelf in
-    let wire = g.W.Wire.seen c.args.wire.now in
-    let fails = g.W.Wire.fails c.args.wire.now in
+    let wire = g.W.Wire.outside.seen c.args.wire.now in
+    let fails = g.W.Wire.outside.fails c.args.wire.now in
     let found = rw c.in-Some-Check.field-0-is at c.in-Some-Check.ensures.command in
     subst (λ (o : Option Command). IfErr c.check.result (λ halt. EndsEarly (MayWrite (told_until halt (between old new wire wire) fails) o)
     (IsUnbegun (told_until halt (between old new wire wire) fails) o) (g.K.Sink.seen c.args.out.now)
@@ -114,8 +114,8 @@ returns-in-Some-Check-clause-wire g c =
 -- ---- replays
 pub returns-in-Some-Replay-clause-ok : goal.returns-in-Some-Replay-clause-ok
 returns-in-Some-Replay-clause-ok g c =
-    let wire = g.W.Wire.seen c.args.wire.now in
-    let it = told_all (between (g.F.Shelf.seen c.args.shelf.now) (g.F.Shelf.seen c.replay.new.shelf) wire wire) (g.W.Wire.fails c.args.wire.now) in
+    let wire = g.W.Wire.outside.seen c.args.wire.now in
+    let it = told_all (between (g.F.Shelf.seen c.args.shelf.now) (g.F.Shelf.seen c.replay.new.shelf) wire wire) (g.W.Wire.outside.fails c.args.wire.now) in
     let found = rw c.in-Some-Replay.field-0-is at c.in-Some-Replay.ensures.command in
     subst (λ (o : Option Command). IfOk c.replay.result (WritesWhole (MayWrite it o) (g.K.Sink.seen c.args.out.now)
     (g.K.Sink.seen c.replay.new.out))) found c.replay.ensures.ok
@@ -124,8 +124,8 @@ pub returns-in-Some-Replay-clause-err : goal.returns-in-Some-Replay-clause-err
 returns-in-Some-Replay-clause-err g c =
     let old = g.F.Shelf.seen c.args.shelf.now in
     let new = g.F.Shelf.seen c.replay.new.shelf in
-    let wire = g.W.Wire.seen c.args.wire.now in
-    let fails = g.W.Wire.fails c.args.wire.now in
+    let wire = g.W.Wire.outside.seen c.args.wire.now in
+    let fails = g.W.Wire.outside.fails c.args.wire.now in
     let found = rw c.in-Some-Replay.field-0-is at c.in-Some-Replay.ensures.command in
     subst (λ (o : Option Command). IfErr c.replay.result (λ halt. EndsEarly (MayWrite (told_until halt (between old new wire wire) fails) o)
     (IsUnbegun (told_until halt (between old new wire wire) fails) o) (g.K.Sink.seen c.args.out.now)
@@ -144,9 +144,9 @@ returns-in-Some-Replay-clause-wire g c =
 -- ---- runs
 pub returns-in-Some-Run-clause-ok : goal.returns-in-Some-Run-clause-ok
 returns-in-Some-Run-clause-ok g c =
-    let before = g.W.Wire.seen c.args.wire.now in
-    let after = g.W.Wire.seen c.run.new.wire in
-    let it = told_all (between (g.F.Shelf.seen c.args.shelf.now) (g.F.Shelf.seen c.run.new.shelf) before after) (g.W.Wire.fails c.args.wire.now) in
+    let before = g.W.Wire.outside.seen c.args.wire.now in
+    let after = g.W.Wire.outside.seen c.run.new.wire in
+    let it = told_all (between (g.F.Shelf.seen c.args.shelf.now) (g.F.Shelf.seen c.run.new.shelf) before after) (g.W.Wire.outside.fails c.args.wire.now) in
     let found = rw c.in-Some-Run.field-0-is at c.in-Some-Run.ensures.command in
     subst (λ (o : Option Command). IfOk c.run.result (WritesWhole (MayWrite it o) (g.K.Sink.seen c.args.out.now)
     (g.K.Sink.seen c.run.new.out))) found c.run.ensures.ok
@@ -155,9 +155,9 @@ pub returns-in-Some-Run-clause-err : goal.returns-in-Some-Run-clause-err
 returns-in-Some-Run-clause-err g c =
     let old = g.F.Shelf.seen c.args.shelf.now in
     let new = g.F.Shelf.seen c.run.new.shelf in
-    let before = g.W.Wire.seen c.args.wire.now in
-    let after = g.W.Wire.seen c.run.new.wire in
-    let fails = g.W.Wire.fails c.args.wire.now in
+    let before = g.W.Wire.outside.seen c.args.wire.now in
+    let after = g.W.Wire.outside.seen c.run.new.wire in
+    let fails = g.W.Wire.outside.fails c.args.wire.now in
     let found = rw c.in-Some-Run.field-0-is at c.in-Some-Run.ensures.command in
     subst (λ (o : Option Command). IfErr c.run.result (λ halt.
     EndsEarly (MayWrite (told_until halt (between old new before after) fails) o)

@@ -17,9 +17,9 @@ returns-in-Ok-clause-ok g c =
     let old = g.F.Shelf.seen c.args.shelf.now in
     let mid = g.F.Shelf.seen c.read_script.new.shelf in
     let new = g.F.Shelf.seen c.run_program.new.shelf in
-    let before = g.W.Wire.seen c.args.wire.now in
-    let after = g.W.Wire.seen c.run_program.new.wire in
-    let fails = g.W.Wire.fails c.args.wire.now in
+    let before = g.W.Wire.outside.seen c.args.wire.now in
+    let after = g.W.Wire.outside.seen c.run_program.new.wire in
+    let fails = g.W.Wire.outside.fails c.args.wire.now in
     let pace = pace_of (option_copied c.args.journal) c.args.manner in
     let program = c.in-Ok.program in
     IfOk-weaker c.run_program.result _ _ (λ status d.
@@ -33,9 +33,9 @@ returns-in-Ok-clause-err g c =
     let old = g.F.Shelf.seen c.args.shelf.now in
     let mid = g.F.Shelf.seen c.read_script.new.shelf in
     let new = g.F.Shelf.seen c.run_program.new.shelf in
-    let before = g.W.Wire.seen c.args.wire.now in
-    let after = g.W.Wire.seen c.run_program.new.wire in
-    let fails = g.W.Wire.fails c.args.wire.now in
+    let before = g.W.Wire.outside.seen c.args.wire.now in
+    let after = g.W.Wire.outside.seen c.run_program.new.wire in
+    let fails = g.W.Wire.outside.fails c.args.wire.now in
     let pace = pace_of (option_copied c.args.journal) c.args.manner in
     let program = c.in-Ok.program in
     IfErr-weaker c.run_program.result _ _ (λ halt d.
@@ -56,8 +56,8 @@ pub returns-in-Err-clause-ok : goal.returns-in-Err-clause-ok
 returns-in-Err-clause-ok g c =
     let old = g.F.Shelf.seen c.args.shelf.now in
     let new = g.F.Shelf.seen c.read_script.new.shelf in
-    let seen = g.W.Wire.seen c.args.wire.now in
-    let fails = g.W.Wire.fails c.args.wire.now in
+    let seen = g.W.Wire.outside.seen c.args.wire.now in
+    let fails = g.W.Wire.outside.fails c.args.wire.now in
     let pace = pace_of (option_copied c.args.journal) c.args.manner in
     IfOk-weaker c.refuse.result _ _ (λ status d.
     whole_wider (Tells c.in-Err.none) (MayRunOver (told_all (between old new seen seen) fails) c.args.script.now pace) (Unit {0}) (Unit {0})
@@ -69,8 +69,8 @@ pub returns-in-Err-clause-err : goal.returns-in-Err-clause-err
 returns-in-Err-clause-err g c =
     let old = g.F.Shelf.seen c.args.shelf.now in
     let new = g.F.Shelf.seen c.read_script.new.shelf in
-    let seen = g.W.Wire.seen c.args.wire.now in
-    let fails = g.W.Wire.fails c.args.wire.now in
+    let seen = g.W.Wire.outside.seen c.args.wire.now in
+    let fails = g.W.Wire.outside.fails c.args.wire.now in
     let pace = pace_of (option_copied c.args.journal) c.args.manner in
     let none = c.in-Err.none in
     let missing = c.in-Err.ensures.none in

@@ -18,10 +18,10 @@ pub returns-in-Ok-clause-ok : goal.returns-in-Ok-clause-ok
 returns-in-Ok-clause-ok g c =
     let old = g.F.Shelf.seen c.args.shelf.now in
     let new = g.F.Shelf.seen c.drive_recorded.new.shelf in
-    let before = g.W.Wire.seen c.args.wire.now in
-    let after = g.W.Wire.seen c.drive_recorded.new.wire in
-    let fails = g.W.Wire.fails c.args.wire.now in
-    let quiet = g.W.Wire.quiet c.args.wire.now c.drive_recorded.new.wire in
+    let before = g.W.Wire.outside.seen c.args.wire.now in
+    let after = g.W.Wire.outside.seen c.drive_recorded.new.wire in
+    let fails = g.W.Wire.outside.fails c.args.wire.now in
+    let quiet = g.W.Wire.outside.quiet c.args.wire.now c.drive_recorded.new.wire in
     let file = option_copied c.args.journal in
     let it : Driven = driven_over before after fails quiet
     (record { name = file; old = old; new = new }) (c.drive_recorded.new.shelf ≡ c.args.shelf.now) in
@@ -35,9 +35,9 @@ pub returns-in-Ok-clause-files : goal.returns-in-Ok-clause-files
 returns-in-Ok-clause-files g c =
     let old = g.F.Shelf.seen c.args.shelf.now in
     let new = g.F.Shelf.seen c.drive_recorded.new.shelf in
-    let fails = g.W.Wire.fails c.args.wire.now in
-    let quiet = g.W.Wire.quiet c.args.wire.now c.drive_recorded.new.wire in
-    let it : Driven = driven_over (g.W.Wire.seen c.args.wire.now) (g.W.Wire.seen c.drive_recorded.new.wire) fails quiet
+    let fails = g.W.Wire.outside.fails c.args.wire.now in
+    let quiet = g.W.Wire.outside.quiet c.args.wire.now c.drive_recorded.new.wire in
+    let it : Driven = driven_over (g.W.Wire.outside.seen c.args.wire.now) (g.W.Wire.outside.seen c.drive_recorded.new.wire) fails quiet
     (record { name = option_copied c.args.journal; old = old; new = new }) (c.drive_recorded.new.shelf ≡ c.args.shelf.now) in
     let done = c.in-Ok.ensures.ok in
     others_told c.args.program.now c.args.manner it fails refl done.0 done.1
@@ -46,10 +46,10 @@ pub returns-in-Err-Halted-clause-err : goal.returns-in-Err-Halted-clause-err
 returns-in-Err-Halted-clause-err g c =
     let old = g.F.Shelf.seen c.args.shelf.now in
     let new = g.F.Shelf.seen c.drive_recorded.new.shelf in
-    let before = g.W.Wire.seen c.args.wire.now in
-    let after = g.W.Wire.seen c.drive_recorded.new.wire in
-    let fails = g.W.Wire.fails c.args.wire.now in
-    let quiet = g.W.Wire.quiet c.args.wire.now c.drive_recorded.new.wire in
+    let before = g.W.Wire.outside.seen c.args.wire.now in
+    let after = g.W.Wire.outside.seen c.drive_recorded.new.wire in
+    let fails = g.W.Wire.outside.fails c.args.wire.now in
+    let quiet = g.W.Wire.outside.quiet c.args.wire.now c.drive_recorded.new.wire in
     let file = option_copied c.args.journal in
     let it : Driven = driven_over before after fails quiet
     (record { name = file; old = old; new = new }) (c.drive_recorded.new.shelf ≡ c.args.shelf.now) in
@@ -67,9 +67,9 @@ pub returns-in-Err-Halted-clause-files : goal.returns-in-Err-Halted-clause-files
 returns-in-Err-Halted-clause-files g c =
     let old = g.F.Shelf.seen c.args.shelf.now in
     let new = g.F.Shelf.seen c.drive_recorded.new.shelf in
-    let fails = g.W.Wire.fails c.args.wire.now in
-    let quiet = g.W.Wire.quiet c.args.wire.now c.drive_recorded.new.wire in
-    let it : Driven = driven_over (g.W.Wire.seen c.args.wire.now) (g.W.Wire.seen c.drive_recorded.new.wire) fails quiet
+    let fails = g.W.Wire.outside.fails c.args.wire.now in
+    let quiet = g.W.Wire.outside.quiet c.args.wire.now c.drive_recorded.new.wire in
+    let it : Driven = driven_over (g.W.Wire.outside.seen c.args.wire.now) (g.W.Wire.outside.seen c.drive_recorded.new.wire) fails quiet
     (record { name = option_copied c.args.journal; old = old; new = new }) (c.drive_recorded.new.shelf ≡ c.args.shelf.now) in
     let stops = rw c.in-Err-Halted.field-0-is at c.in-Err-Halted.ensures.err in
     others_early c.args.program.now c.args.manner it fails refl
@@ -80,10 +80,10 @@ pub returns-in-Err-Unrecorded-clause-ok : goal.returns-in-Err-Unrecorded-clause-
 returns-in-Err-Unrecorded-clause-ok g c =
     let old = g.F.Shelf.seen c.args.shelf.now in
     let new = g.F.Shelf.seen c.drive_recorded.new.shelf in
-    let before = g.W.Wire.seen c.args.wire.now in
-    let after = g.W.Wire.seen c.drive_recorded.new.wire in
-    let fails = g.W.Wire.fails c.args.wire.now in
-    let quiet = g.W.Wire.quiet c.args.wire.now c.drive_recorded.new.wire in
+    let before = g.W.Wire.outside.seen c.args.wire.now in
+    let after = g.W.Wire.outside.seen c.drive_recorded.new.wire in
+    let fails = g.W.Wire.outside.fails c.args.wire.now in
+    let quiet = g.W.Wire.outside.quiet c.args.wire.now c.drive_recorded.new.wire in
     let it : Driven = driven_over before after fails quiet
     (record { name = option_copied c.args.journal; old = old; new = new }) (c.drive_recorded.new.shelf ≡ c.args.shelf.now) in
     let stops = rw c.in-Err-Unrecorded.field-0-is at c.in-Err-Unrecorded.ensures.err in
@@ -95,10 +95,10 @@ pub returns-in-Err-Unrecorded-clause-err : goal.returns-in-Err-Unrecorded-clause
 returns-in-Err-Unrecorded-clause-err g c =
     let old = g.F.Shelf.seen c.args.shelf.now in
     let new = g.F.Shelf.seen c.drive_recorded.new.shelf in
-    let before = g.W.Wire.seen c.args.wire.now in
-    let after = g.W.Wire.seen c.drive_recorded.new.wire in
-    let fails = g.W.Wire.fails c.args.wire.now in
-    let quiet = g.W.Wire.quiet c.args.wire.now c.drive_recorded.new.wire in
+    let before = g.W.Wire.outside.seen c.args.wire.now in
+    let after = g.W.Wire.outside.seen c.drive_recorded.new.wire in
+    let fails = g.W.Wire.outside.fails c.args.wire.now in
+    let quiet = g.W.Wire.outside.quiet c.args.wire.now c.drive_recorded.new.wire in
     let it : Driven = driven_over before after fails quiet
     (record { name = option_copied c.args.journal; old = old; new = new }) (c.drive_recorded.new.shelf ≡ c.args.shelf.now) in
     let stops = rw c.in-Err-Unrecorded.field-0-is at c.in-Err-Unrecorded.ensures.err in

@@ -4,11 +4,10 @@ use Rattle.std.proofs.lemmas.Result.{IfOk-weaker}
 use Rattle.model_says.specs.Requests.{bad_argument}
 use Rattle.model_machine.specs.Arguments.{as_list}
 use Rattle.model_value.specs.declared.request.Request.TheVariants as request
-use Rattle.aio_exchange.specs.Outside.{IsOutside, outside_of, ported}
+use Rattle.aio_wire.specs.Port.{ported}
 use Rattle.aio_body.specs.Asking.{Comes, serving}
 use Rattle.law_body.proofs.Alone.{serves_alone, serves_without}
 use Rattle.aio_serve.proofs.Adding.{Asks, asks_answer, asks_go, asks_served}
-use Rattle.aio_serve.proofs.added.extra.Given.{Over}
 use Rattle.aio_serve.proofs.Meaning.{arguments_refused, code_refused}
 use Rattle.aio_serve.proofs.Saying.{raises_so}
 use Rattle.aio_serve.proofs.added.extra.Goals as goal
@@ -21,21 +20,13 @@ some_of : {A : Type 0} (o : Option A) → is_some o ≡ true → (x : A) × (o �
 some_of None e = absurd (cc)
 some_of (Some x) e = (x, refl)
 
-laws : (g : Over) → IsOutside (outside_of g.W.Wire.seen g.W.Wire.fails g.W.Wire.keeps g.W.Wire.quiet)
-laws g = record {
-  keeps_same = g.met.W.Wire.keeps_same;
-  keeps_on = g.met.W.Wire.keeps_on;
-  quiet_same = g.met.W.Wire.quiet_same;
-  quiet_on = g.met.W.Wire.quiet_on;
-}
-
 pub returns-in_default : goal.returns-in_default
 returns-in_default g c =
     let task = c.args.task in
     let asked = request.Extra c.args.code.now c.args.arguments.now in
     subst (Comes _ (serving g.X.Extra.added task asked c.args.body.now c.args.body.now) (ported c.args.wire.now c.args.body.now.events)
     (ported c.args.wire.now c.args.body.now.events)) (sym c.or_stop.ensures)
-    (serves_alone g.X.Extra.added _ (laws g) task asked c.args.body.now c.args.wire.now c.args.body.now c.bad_argument.result
+    (serves_alone g.X.Extra.added g.W.Wire.outside task asked c.args.body.now c.args.wire.now c.args.body.now c.bad_argument.result
     (IfOk-weaker c.bad_argument.result _ _ (λ said e at s h.
     raises_so task at c.args.body.now s said _ bad_argument e
     (code_refused g.X.Extra.added.meaning task s c.args.code.now c.args.arguments.now (sym c.as_int.ensures ∙ c.in_default.is)) h.going.in_step)
@@ -47,7 +38,7 @@ returns-then-not-is_list g c =
     let asked = request.Extra c.args.code.now c.args.arguments.now in
     subst (Comes _ (serving g.X.Extra.added task asked c.args.body.now c.args.body.now) (ported c.args.wire.now c.args.body.now.events)
     (ported c.args.wire.now c.args.body.now.events)) (sym c.or_stop-then-not-is_list.ensures)
-    (serves_alone g.X.Extra.added _ (laws g) task asked c.args.body.now c.args.wire.now c.args.body.now c.bad_argument-then-not-is_list.result
+    (serves_alone g.X.Extra.added g.W.Wire.outside task asked c.args.body.now c.args.wire.now c.args.body.now c.bad_argument-then-not-is_list.result
     (IfOk-weaker c.bad_argument-then-not-is_list.result _ _ (λ said e at s h.
     raises_so task at c.args.body.now s said _ bad_argument e
     (arguments_refused g.X.Extra.added.meaning task s c.args.code.now c.args.arguments.now c.in-Some.code (sym c.as_int.ensures ∙ c.in-Some.is)
@@ -73,9 +64,9 @@ returns-in-Ok g c =
     asks_go g.X.Extra.added c.args.task c.args.body.now c.args.code.now c.args.arguments.now c.in-Some.code items.0
     (sym c.as_int.ensures ∙ c.in-Some.is) items.1 c.ask.new.parts c.ask.new.self c.in-Ok.asked
     (subst (Asks g.X.Extra.added c.args.task c.args.body.now c.args.arguments.now c.ask.new.parts c.ask.new.self c.in-Ok.asked)
-    (to_z-of_z w64 c.in-Some.code fits) c.in-Ok.ensures) _ (laws g) c.answer.new.body c.args.wire.now c.answer.new.wire c.answer.result
+    (to_z-of_z w64 c.in-Some.code fits) c.in-Ok.ensures) g.W.Wire.outside c.answer.new.body c.args.wire.now c.answer.new.wire c.answer.result
     c.answer.ensures
 
 pub returns-in-Err : goal.returns-in-Err
 returns-in-Err g c =
-    serves_without g.X.Extra.added _ (laws g) c.args.task (request.Extra c.args.code.now c.args.arguments.now) c.args.body.now c.args.wire.now _
+    serves_without g.X.Extra.added g.W.Wire.outside c.args.task (request.Extra c.args.code.now c.args.arguments.now) c.args.body.now c.args.wire.now _

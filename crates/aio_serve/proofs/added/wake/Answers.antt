@@ -1,17 +1,7 @@
 use Rattle.std.proofs.Common.{ap}
 use Rattle.std.specs.Prelude.{is_some}
-use Rattle.aio_exchange.specs.Outside.{IsOutside, outside_of}
 use Rattle.aio_serve.proofs.Adding.{decides_run, decides_served, wakes_answer, wakes_go, wakes_without}
-use Rattle.aio_serve.proofs.added.wake.Given.{Over}
 use Rattle.aio_serve.proofs.added.wake.Goals as goal
-
-laws : (g : Over) → IsOutside (outside_of g.W.Wire.seen g.W.Wire.fails g.W.Wire.keeps g.W.Wire.quiet)
-laws g = record {
-  keeps_same = g.met.W.Wire.keeps_same;
-  keeps_on = g.met.W.Wire.keeps_on;
-  quiet_same = g.met.W.Wire.quiet_same;
-  quiet_on = g.met.W.Wire.quiet_on;
-}
 
 pub wake-requires-clause-runs : goal.wake-requires-clause-runs
 wake-requires-clause-runs g c = ap is_some (decides_run c.args.task c.args.key c.args.body.now c.requires)
@@ -26,8 +16,8 @@ answer-requires g c =
 pub returns-in-Ok : goal.returns-in-Ok
 returns-in-Ok g c =
     wakes_go c.args.task c.args.key c.args.body.now c.args.input c.wake.new.parts c.wake.new.self c.in-Ok.asked c.in-Ok.ensures
-    _ (laws g) c.answer.new.body c.args.wire.now c.answer.new.wire c.answer.result c.answer.ensures
+    g.W.Wire.outside c.answer.new.body c.args.wire.now c.answer.new.wire c.answer.result c.answer.ensures
 
 pub returns-in-Err : goal.returns-in-Err
 returns-in-Err g c =
-    wakes_without g.X.Extra.added _ (laws g) c.args.task c.args.key c.args.input c.args.body.now c.args.wire.now _
+    wakes_without g.X.Extra.added g.W.Wire.outside c.args.task c.args.key c.args.input c.args.body.now c.args.wire.now _

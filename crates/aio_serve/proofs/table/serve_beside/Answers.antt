@@ -2,8 +2,9 @@ use Rattle.std.proofs.Common.{◌≡◌, ℕ, Result, ◌∙◌, sym, subst}
 use Rattle.std.proofs.lemmas.Bool.{true≢false}
 use Rattle.model_value.specs.Request.{Request}
 use Rattle.aio_base.specs.declared.memory.Memory.{Memory}
+use Rattle.aio_wire.specs.Outside.{Outside}
+use Rattle.aio_wire.specs.Port.{ported}
 use Rattle.aio_wire.specs.declared.stop.Stop.{Stop}
-use Rattle.aio_exchange.specs.Outside.{IsOutside, Outside, outside_of, ported}
 use Rattle.aio_extra.specs.Added.{Added}
 use Rattle.aio_body.specs.Asked.{IsAskingFor, Serves}
 use Rattle.aio_body.specs.Asking.{Comes, or_stop, serving}
@@ -12,16 +13,7 @@ use Rattle.aio_body.specs.declared.body.Body.{Body}
 use Rattle.aio_body.specs.declared.reply.RequestReply.{RequestReply}
 use Rattle.law_body.proofs.Alone.{serves_alone}
 use Rattle.aio_serve.proofs.Owning.{is_of_loop}
-use Rattle.aio_serve.proofs.table.serve_beside.Given.{Over}
 use Rattle.aio_serve.proofs.table.serve_beside.Goals as goal
-
-laws : (g : Over) → IsOutside (outside_of g.W.Wire.seen g.W.Wire.fails g.W.Wire.keeps g.W.Wire.quiet)
-laws g = record {
-  keeps_same = g.met.W.Wire.keeps_same;
-  keeps_on = g.met.W.Wire.keeps_on;
-  quiet_same = g.met.W.Wire.quiet_same;
-  quiet_on = g.met.W.Wire.quiet_on;
-}
 
 pub extra-requires : goal.extra-requires
 extra-requires g c = subst (λ r. Possible g.X.Extra.added (IsAskingFor c.args.task r) c.args.body.now) c.in-Extra.is c.requires.asked
@@ -72,19 +64,19 @@ pub returns-in-Kill : goal.returns-in-Kill
 returns-in-Kill g c = rw c.in-Kill.is c.kill.ensures.comes
 
 -- ---- those that ask nothing
-alone : {X W : Type 0} (a : Added X) (o : Outside W) (laws : IsOutside o) (task : ℕ) (asked it : Request) → asked ≡ it
+alone : {X W : Type 0} (a : Added X) (o : Outside W) (task : ℕ) (asked it : Request) → asked ≡ it
     → (old : Body X) (wire : W) (new : Body X) (result : Result RequestReply Memory) → Serves a task it old new result
     → (told : Result RequestReply Stop) → told ≡ or_stop result
     → Comes o (serving a task asked old new) (ported wire old.events) (ported wire new.events) told
-alone a o laws task asked it same old wire new result serves told e =
-    rw (same, e) (serves_alone a o laws task it old wire new result serves)
+alone a o task asked it same old wire new result serves told e =
+    rw (same, e) (serves_alone a o task it old wire new result serves)
 
 pub wait_closed-requires : goal.wait_closed-requires
 wait_closed-requires g c = subst (λ r. Possible g.X.Extra.added (IsAskingFor c.args.task r) c.args.body.now) c.in-WaitClosed.is c.requires.asked
 
 pub returns-in-WaitClosed : goal.returns-in-WaitClosed
 returns-in-WaitClosed g c =
-    alone g.X.Extra.added _ (laws g) c.args.task c.args.request.now _ c.in-WaitClosed.is c.args.body.now c.args.wire.now c.wait_closed.new.body
+    alone g.X.Extra.added g.W.Wire.outside c.args.task c.args.request.now _ c.in-WaitClosed.is c.args.body.now c.args.wire.now c.wait_closed.new.body
     c.wait_closed.result c.wait_closed.ensures c.or_stop.result c.or_stop.ensures
 
 pub drain-requires : goal.drain-requires
@@ -92,7 +84,7 @@ drain-requires g c = subst (λ r. Possible g.X.Extra.added (IsAskingFor c.args.t
 
 pub returns-in-Drain : goal.returns-in-Drain
 returns-in-Drain g c =
-    alone g.X.Extra.added _ (laws g) c.args.task c.args.request.now _ c.in-Drain.is c.args.body.now c.args.wire.now c.drain.new.body
+    alone g.X.Extra.added g.W.Wire.outside c.args.task c.args.request.now _ c.in-Drain.is c.args.body.now c.args.wire.now c.drain.new.body
     c.drain.result c.drain.ensures c.or_stop-in-Drain.result c.or_stop-in-Drain.ensures
 
 pub limits-requires : goal.limits-requires
@@ -100,7 +92,7 @@ limits-requires g c = subst (λ r. Possible g.X.Extra.added (IsAskingFor c.args.
 
 pub returns-in-Limits : goal.returns-in-Limits
 returns-in-Limits g c =
-    alone g.X.Extra.added _ (laws g) c.args.task c.args.request.now _ c.in-Limits.is c.args.body.now c.args.wire.now c.limits.new.body
+    alone g.X.Extra.added g.W.Wire.outside c.args.task c.args.request.now _ c.in-Limits.is c.args.body.now c.args.wire.now c.limits.new.body
     c.limits.result c.limits.ensures c.or_stop-in-Limits.result c.or_stop-in-Limits.ensures
 
 pub read-requires : goal.read-requires
@@ -108,7 +100,7 @@ read-requires g c = subst (λ r. Possible g.X.Extra.added (IsAskingFor c.args.ta
 
 pub returns-in-Read : goal.returns-in-Read
 returns-in-Read g c =
-    alone g.X.Extra.added _ (laws g) c.args.task c.args.request.now _ c.in-Read.is c.args.body.now c.args.wire.now c.read.new.body
+    alone g.X.Extra.added g.W.Wire.outside c.args.task c.args.request.now _ c.in-Read.is c.args.body.now c.args.wire.now c.read.new.body
     c.read.result c.read.ensures c.or_stop-in-Read.result c.or_stop-in-Read.ensures
 
 pub read_exactly-requires : goal.read_exactly-requires
@@ -116,7 +108,7 @@ read_exactly-requires g c = subst (λ r. Possible g.X.Extra.added (IsAskingFor c
 
 pub returns-in-ReadExactly : goal.returns-in-ReadExactly
 returns-in-ReadExactly g c =
-    alone g.X.Extra.added _ (laws g) c.args.task c.args.request.now _ c.in-ReadExactly.is c.args.body.now c.args.wire.now c.read_exactly.new.body
+    alone g.X.Extra.added g.W.Wire.outside c.args.task c.args.request.now _ c.in-ReadExactly.is c.args.body.now c.args.wire.now c.read_exactly.new.body
     c.read_exactly.result c.read_exactly.ensures c.or_stop-in-ReadExactly.result c.or_stop-in-ReadExactly.ensures
 
 pub read_until-requires : goal.read_until-requires
@@ -124,7 +116,7 @@ read_until-requires g c = subst (λ r. Possible g.X.Extra.added (IsAskingFor c.a
 
 pub returns-in-ReadUntil : goal.returns-in-ReadUntil
 returns-in-ReadUntil g c =
-    alone g.X.Extra.added _ (laws g) c.args.task c.args.request.now _ c.in-ReadUntil.is c.args.body.now c.args.wire.now c.read_until.new.body
+    alone g.X.Extra.added g.W.Wire.outside c.args.task c.args.request.now _ c.in-ReadUntil.is c.args.body.now c.args.wire.now c.read_until.new.body
     c.read_until.result c.read_until.ensures c.or_stop-in-ReadUntil.result c.or_stop-in-ReadUntil.ensures
 
 pub read_line-requires : goal.read_line-requires
@@ -132,7 +124,7 @@ read_line-requires g c = subst (λ r. Possible g.X.Extra.added (IsAskingFor c.ar
 
 pub returns-in-ReadLine : goal.returns-in-ReadLine
 returns-in-ReadLine g c =
-    alone g.X.Extra.added _ (laws g) c.args.task c.args.request.now _ c.in-ReadLine.is c.args.body.now c.args.wire.now c.read_line.new.body
+    alone g.X.Extra.added g.W.Wire.outside c.args.task c.args.request.now _ c.in-ReadLine.is c.args.body.now c.args.wire.now c.read_line.new.body
     c.read_line.result c.read_line.ensures c.or_stop-in-ReadLine.result c.or_stop-in-ReadLine.ensures
 
 pub standard_error-requires : goal.standard_error-requires
@@ -140,7 +132,7 @@ standard_error-requires g c = subst (λ r. Possible g.X.Extra.added (IsAskingFor
 
 pub returns-in-StandardError : goal.returns-in-StandardError
 returns-in-StandardError g c =
-    alone g.X.Extra.added _ (laws g) c.args.task c.args.request.now _ c.in-StandardError.is c.args.body.now c.args.wire.now c.args.body.now
+    alone g.X.Extra.added g.W.Wire.outside c.args.task c.args.request.now _ c.in-StandardError.is c.args.body.now c.args.wire.now c.args.body.now
     c.standard_error.result c.standard_error.ensures c.or_stop-in-StandardError.result c.or_stop-in-StandardError.ensures
 
 pub wait_child-requires : goal.wait_child-requires
@@ -148,7 +140,7 @@ wait_child-requires g c = subst (λ r. Possible g.X.Extra.added (IsAskingFor c.a
 
 pub returns-in-WaitChild : goal.returns-in-WaitChild
 returns-in-WaitChild g c =
-    alone g.X.Extra.added _ (laws g) c.args.task c.args.request.now _ c.in-WaitChild.is c.args.body.now c.args.wire.now c.wait_child.new.body
+    alone g.X.Extra.added g.W.Wire.outside c.args.task c.args.request.now _ c.in-WaitChild.is c.args.body.now c.args.wire.now c.wait_child.new.body
     c.wait_child.result c.wait_child.ensures c.or_stop-in-WaitChild.result c.or_stop-in-WaitChild.ensures
 
 pub returncode-requires : goal.returncode-requires
@@ -156,7 +148,7 @@ returncode-requires g c = subst (λ r. Possible g.X.Extra.added (IsAskingFor c.a
 
 pub returns-in-ReturnCode : goal.returns-in-ReturnCode
 returns-in-ReturnCode g c =
-    alone g.X.Extra.added _ (laws g) c.args.task c.args.request.now _ c.in-ReturnCode.is c.args.body.now c.args.wire.now c.args.body.now
+    alone g.X.Extra.added g.W.Wire.outside c.args.task c.args.request.now _ c.in-ReturnCode.is c.args.body.now c.args.wire.now c.args.body.now
     c.returncode.result c.returncode.ensures c.or_stop-in-ReturnCode.result c.or_stop-in-ReturnCode.ensures
 
 -- ---- the loop's own never come here

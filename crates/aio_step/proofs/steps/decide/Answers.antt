@@ -1,6 +1,5 @@
 use Rattle.std.proofs.Common.{subst}
 use Rattle.model_machine.specs.State as plain
-use Rattle.aio_exchange.specs.Outside.{IsOutside, outside_of}
 use Rattle.aio_transports.specs.Readers.{reader_as}
 use Rattle.aio_body.specs.Stands.{Possible}
 use Rattle.aio_body.specs.declared.standing.Standing.TheVariants.{Leaving, Serving, Connecting, Yielding, Reading, ReadingAll}
@@ -8,24 +7,15 @@ use Rattle.aio_step.specs.Stepping.{IsDecidingAs}
 use Rattle.aio_step.proofs.Deciding.{heard_alone, heard_asked, heard_on, heard_sleeping}
 use Rattle.aio_step.proofs.First.{stood_is}
 use Rattle.aio_step.proofs.Ready.{stood_of}
-use Rattle.aio_step.proofs.steps.decide.Given.{Over}
 use Rattle.aio_step.proofs.steps.decide.Goals as goal
-
-laws : (g : Over) → IsOutside (outside_of g.W.Wire.seen g.W.Wire.fails g.W.Wire.keeps g.W.Wire.quiet)
-laws g = record {
-  keeps_same = g.met.W.Wire.keeps_same;
-  keeps_on = g.met.W.Wire.keeps_on;
-  quiet_same = g.met.W.Wire.quiet_same;
-  quiet_on = g.met.W.Wire.quiet_on;
-}
 
 pub returns-in-Asked : goal.returns-in-Asked
 returns-in-Asked g c =
-    rw (c.reply_of.ensures, c.in-Asked.is) (heard_asked g.X.Extra.added _ (laws g) c.args.task c.args.input c.args.body.now c.args.wire.now)
+    rw (c.reply_of.ensures, c.in-Asked.is) (heard_asked g.X.Extra.added g.W.Wire.outside c.args.task c.args.input c.args.body.now c.args.wire.now)
 
 pub returns-in-Sleeping : goal.returns-in-Sleeping
 returns-in-Sleeping g c =
-    rw (c.reply_of-in-Sleeping.ensures, c.in-Sleeping.is) (heard_sleeping g.X.Extra.added _ (laws g) c.args.task c.args.input c.args.body.now
+    rw (c.reply_of-in-Sleeping.ensures, c.in-Sleeping.is) (heard_sleeping g.X.Extra.added g.W.Wire.outside c.args.task c.args.input c.args.body.now
     c.args.wire.now c.in-Sleeping.timer c.in-Sleeping.future)
 
 pub leave_group-requires : goal.leave_group-requires
@@ -37,7 +27,7 @@ leave_group-requires g c =
 pub returns-in-Leaving : goal.returns-in-Leaving
 returns-in-Leaving g c =
     let code = Leaving c.in-Leaving.group in
-    rw c.in-Leaving.is (heard_alone g.X.Extra.added _ (laws g) c.args.task c.args.input c.args.body.now c.args.wire.now code
+    rw c.in-Leaving.is (heard_alone g.X.Extra.added g.W.Wire.outside c.args.task c.args.input c.args.body.now c.args.wire.now code
     (plain.Leaving c.in-Leaving.group) (stood_is code)
     c.leave_group.new.body c.leave_group.result c.leave_group.ensures c.or_stop.result c.or_stop.ensures)
 
@@ -50,7 +40,7 @@ wake-requires g c =
 pub returns-in-Serving : goal.returns-in-Serving
 returns-in-Serving g c =
     let code = Serving c.in-Serving.key in
-    rw c.in-Serving.is (heard_on g.X.Extra.added _ (laws g) c.args.task c.args.input c.args.body.now c.args.wire.now code
+    rw c.in-Serving.is (heard_on g.X.Extra.added g.W.Wire.outside c.args.task c.args.input c.args.body.now c.args.wire.now code
     (plain.Serving c.in-Serving.key) (stood_is code)
     c.wake.new.body c.wake.new.wire c.wake.result c.wake.ensures)
 
@@ -63,7 +53,7 @@ connected-requires g c =
 pub returns-in-Connecting : goal.returns-in-Connecting
 returns-in-Connecting g c =
     let code = Connecting c.in-Connecting.conn in
-    rw c.in-Connecting.is (heard_on g.X.Extra.added _ (laws g) c.args.task c.args.input c.args.body.now c.args.wire.now code
+    rw c.in-Connecting.is (heard_on g.X.Extra.added g.W.Wire.outside c.args.task c.args.input c.args.body.now c.args.wire.now code
     (plain.Connecting c.in-Connecting.conn) (stood_is code)
     c.connected.new.body c.connected.new.wire c.connected.result c.connected.ensures.comes)
 
@@ -76,7 +66,7 @@ yielded-requires g c =
 pub returns-in-Yielding : goal.returns-in-Yielding
 returns-in-Yielding g c =
     let code = Yielding c.in-Yielding.whom in
-    rw c.in-Yielding.is (heard_alone g.X.Extra.added _ (laws g) c.args.task c.args.input c.args.body.now c.args.wire.now code
+    rw c.in-Yielding.is (heard_alone g.X.Extra.added g.W.Wire.outside c.args.task c.args.input c.args.body.now c.args.wire.now code
     (plain.Yielding c.in-Yielding.whom) (stood_is code)
     c.yielded.new.body c.yielded.result c.yielded.ensures c.or_stop-in-Yielding.result c.or_stop-in-Yielding.ensures)
 
@@ -89,7 +79,7 @@ read_on-requires g c =
 pub returns-in-Reading : goal.returns-in-Reading
 returns-in-Reading g c =
     let code = Reading c.in-Reading.from c.in-Reading.op c.in-Reading.on in
-    rw c.in-Reading.is (heard_alone g.X.Extra.added _ (laws g) c.args.task c.args.input c.args.body.now c.args.wire.now code
+    rw c.in-Reading.is (heard_alone g.X.Extra.added g.W.Wire.outside c.args.task c.args.input c.args.body.now c.args.wire.now code
     (plain.Reading (reader_as c.in-Reading.from) c.in-Reading.op c.in-Reading.on) (stood_is code)
     c.read_on.new.body c.read_on.result c.read_on.ensures c.or_stop-in-Reading.result c.or_stop-in-Reading.ensures)
 
@@ -102,6 +92,6 @@ read_all_on-requires g c =
 pub returns-in-ReadingAll : goal.returns-in-ReadingAll
 returns-in-ReadingAll g c =
     let code = ReadingAll c.in-ReadingAll.from c.in-ReadingAll.taken c.in-ReadingAll.on in
-    rw c.in-ReadingAll.is (heard_alone g.X.Extra.added _ (laws g) c.args.task c.args.input c.args.body.now c.args.wire.now code
+    rw c.in-ReadingAll.is (heard_alone g.X.Extra.added g.W.Wire.outside c.args.task c.args.input c.args.body.now c.args.wire.now code
     (plain.ReadingAll (reader_as c.in-ReadingAll.from) c.in-ReadingAll.taken c.in-ReadingAll.on) (stood_is code)
     c.read_all_on.new.body c.read_all_on.result c.read_all_on.ensures c.or_stop-in-ReadingAll.result c.or_stop-in-ReadingAll.ensures)

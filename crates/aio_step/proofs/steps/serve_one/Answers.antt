@@ -1,18 +1,8 @@
 use Rattle.std.proofs.Common.{refl}
-use Rattle.aio_exchange.specs.Outside.{IsOutside, outside_of}
 use Rattle.aio_step.specs.declared.steps.Served.TheVariants.{Ended}
 use Rattle.aio_step.specs.declared.steps.Stepped.TheVariants.{Goes, Runaway}
 use Rattle.aio_step.proofs.Resumed.{ask_of, asks_so, asks_stop, ends_so, raises_so, resumes_without, returns_so, runs_so, serve_idle, serve_runs}
-use Rattle.aio_step.proofs.steps.serve_one.Given.{Over}
 use Rattle.aio_step.proofs.steps.serve_one.Goals as goal
-
-laws : (g : Over) → IsOutside (outside_of g.W.Wire.seen g.W.Wire.fails g.W.Wire.keeps g.W.Wire.quiet)
-laws g = record {
-  keeps_same = g.met.W.Wire.keeps_same;
-  keeps_on = g.met.W.Wire.keeps_on;
-  quiet_same = g.met.W.Wire.quiet_same;
-  quiet_on = g.met.W.Wire.quiet_on;
-}
 
 -- ---- it asks
 pub reply-requires : goal.reply-requires
@@ -23,13 +13,13 @@ reply-requires g c =
 pub returns-in-Ok : goal.returns-in-Ok
 returns-in-Ok g c =
     rw c.onward.ensures (asks_so c.args.task c.args.fresh c.args.input c.args.body.now c.args.coroutine.now c.resume.new.self c.in-Ok-Asks.field-0
-    c.in-Ok-Asks.ensures.said c.in-Ok-Asks.ensures.stands _ (laws g) c.args.wire.now
+    c.in-Ok-Asks.ensures.said c.in-Ok-Asks.ensures.stands g.W.Wire.outside c.args.wire.now
     c.in-Ok-Asks.request c.in-Ok-Asks.field-0-is c.reply.new.body c.reply.new.wire c.in-Ok.said c.in-Ok.ensures)
 
 pub returns-in-Err-reply : goal.returns-in-Err-reply
 returns-in-Err-reply g c =
     asks_stop c.args.task c.args.fresh c.args.input c.args.body.now c.args.coroutine.now c.resume.new.self c.in-Ok-Asks.field-0
-    c.in-Ok-Asks.ensures.said c.in-Ok-Asks.ensures.stands _ (laws g) c.args.wire.now
+    c.in-Ok-Asks.ensures.said c.in-Ok-Asks.ensures.stands g.W.Wire.outside c.args.wire.now
     c.in-Ok-Asks.request c.in-Ok-Asks.field-0-is c.reply.new.body c.reply.new.wire c.in-Err-reply.stop c.in-Err-reply.ensures
 
 -- ---- it ends
@@ -48,7 +38,7 @@ finish-requires-in-Ok-Raises-clause-running g c = serve_runs c.args.task c.args.
 pub returns-in-Ok-Returns : goal.returns-in-Ok-Returns
 returns-in-Ok-Returns g c =
     ends_so c.args.task c.args.fresh c.args.input c.args.body.now c.args.coroutine.now c.resume.new.self c.in-Ok-Returns.field-0
-    c.in-Ok-Returns.ensures.said c.in-Ok-Returns.ensures.stands _ (laws g) c.args.wire.now
+    c.in-Ok-Returns.ensures.said c.in-Ok-Returns.ensures.stands g.W.Wire.outside c.args.wire.now
     (record c.args.body.now { parts = c.finish.new.self }) (Ended Goes) refl (λ d s h.
     returns_so c.args.task c.args.fresh c.args.input c.args.body.now c.args.coroutine.now c.resume.new.self c.in-Ok-Returns.field-0
     c.in-Ok-Returns.ensures.said c.in-Ok-Returns.ensures.stands d s h c.in-Ok-Returns.value c.in-Ok-Returns.field-0-is c.finish.new.self c.finish.ensures.after
@@ -57,7 +47,7 @@ returns-in-Ok-Returns g c =
 pub returns-in-Ok-Raises : goal.returns-in-Ok-Raises
 returns-in-Ok-Raises g c =
     ends_so c.args.task c.args.fresh c.args.input c.args.body.now c.args.coroutine.now c.resume.new.self c.in-Ok-Raises.field-0
-    c.in-Ok-Raises.ensures.said c.in-Ok-Raises.ensures.stands _ (laws g) c.args.wire.now
+    c.in-Ok-Raises.ensures.said c.in-Ok-Raises.ensures.stands g.W.Wire.outside c.args.wire.now
     (record c.args.body.now { parts = c.finish-in-Ok-Raises.new.self }) (Ended Goes) refl (λ d s h.
     raises_so c.args.task c.args.fresh c.args.input c.args.body.now c.args.coroutine.now c.resume.new.self c.in-Ok-Raises.field-0
     c.in-Ok-Raises.ensures.said c.in-Ok-Raises.ensures.stands d s h c.in-Ok-Raises.fault c.in-Ok-Raises.field-0-is c.finish-in-Ok-Raises.new.self
@@ -66,7 +56,7 @@ returns-in-Ok-Raises g c =
 pub returns-in-Ok-Runaway : goal.returns-in-Ok-Runaway
 returns-in-Ok-Runaway g c =
     ends_so c.args.task c.args.fresh c.args.input c.args.body.now c.args.coroutine.now c.resume.new.self c.in-Ok-Runaway.field-0
-    c.in-Ok-Runaway.ensures.said c.in-Ok-Runaway.ensures.stands _ (laws g) c.args.wire.now
+    c.in-Ok-Runaway.ensures.said c.in-Ok-Runaway.ensures.stands g.W.Wire.outside c.args.wire.now
     c.args.body.now (Ended (Runaway c.args.task)) refl (λ d s h. (
       refl,
       runs_so c.args.task c.args.fresh c.args.input c.args.body.now c.args.coroutine.now c.resume.new.self c.in-Ok-Runaway.field-0
@@ -75,4 +65,5 @@ returns-in-Ok-Runaway g c =
 
 pub returns-in-Err : goal.returns-in-Err
 returns-in-Err g c =
-    resumes_without g.X.Extra.added _ (laws g) c.args.task c.args.fresh c.args.input c.args.body.now c.args.coroutine.now c.resume.new.self c.args.wire.now
+    resumes_without g.X.Extra.added g.W.Wire.outside c.args.task c.args.fresh c.args.input c.args.body.now c.args.coroutine.now c.resume.new.self
+    c.args.wire.now

@@ -8,7 +8,7 @@ use Rattle.model_loop.specs.Owning.{is_plain}
 use Rattle.model_stream.specs.Streams.{launch}
 use Rattle.model_machine.specs.Replies.{launches_as}
 use Rattle.model_machine.specs.State.{State}
-use Rattle.aio_exchange.specs.Outside.{IsOutside, outside_of, ported}
+use Rattle.aio_wire.specs.Port.{ported}
 use Rattle.law_trees.specs.Trees.{WaitsNever}
 use Rattle.law_trees.proofs.Opening.{launches}
 use Rattle.aio_body.specs.Asking.{Comes, serving}
@@ -19,16 +19,7 @@ use Rattle.law_does.proofs.Nexts.{launches_add}
 use Rattle.law_does.proofs.Served.{asking_idle, asking_owned}
 use Rattle.aio_streaming.specs.Answered.{answered_by, launched_as}
 use Rattle.aio_streaming.proofs.Answered.{answered_so}
-use Rattle.aio_streaming.proofs.children.launch.Given.{Over}
 use Rattle.aio_streaming.proofs.children.launch.Goals as goal
-
-laws : (g : Over) → IsOutside (outside_of g.W.Wire.seen g.W.Wire.fails g.W.Wire.keeps g.W.Wire.quiet)
-laws g = record {
-  keeps_same = g.met.W.Wire.keeps_same;
-  keeps_on = g.met.W.Wire.keeps_on;
-  quiet_same = g.met.W.Wire.quiet_same;
-  quiet_on = g.met.W.Wire.quiet_on;
-}
 
 pub launch_child-requires-clause-idle : goal.launch_child-requires-clause-idle
 launch_child-requires-clause-idle g c = asking_idle c.args.task (request.Launch c.args.words.now) c.args.body.now c.requires
@@ -44,7 +35,7 @@ pub returns-in_err-words : goal.returns-in_err-words
 returns-in_err-words g c =
     let p = err_from_is_err_and c.from_residual.result c.from_residual.ensures.1 in
     rw (p.1, p.2) (record {
-      comes = serves_without g.X.Extra.added _ (laws g) c.args.task (request.Launch c.args.words.now) c.args.body.now c.args.wire.now c.args.body.now;
+      comes = serves_without g.X.Extra.added g.W.Wire.outside c.args.task (request.Launch c.args.words.now) c.args.body.now c.args.wire.now c.args.body.now;
     })
 
 pub returns-in_default : goal.returns-in_default
@@ -54,7 +45,7 @@ returns-in_default g c =
       comes =
           subst (Comes _ (serving g.X.Extra.added c.args.task asked c.args.body.now c.args.body.now) (ported c.args.wire.now c.args.body.now.events)
           (ported c.args.wire.now c.args.body.now.events)) (sym c.or_stop.ensures)
-          (refused_alone g.X.Extra.added _ (laws g) c.args.task asked c.args.body.now c.args.wire.now bad_argument
+          (refused_alone g.X.Extra.added g.W.Wire.outside c.args.task asked c.args.body.now c.args.wire.now bad_argument
           (λ at s h. launch_refused g.X.Extra.added.meaning c.args.task s c.args.words.now (sym c.in_ok-words.ensures ∙ c.in_default.is))
           c.bad_argument.result c.bad_argument.ensures);
     }
@@ -66,7 +57,7 @@ returns-then-not-may_launch g c =
       comes =
           subst (Comes _ (serving g.X.Extra.added c.args.task asked c.args.body.now c.args.body.now) (ported c.args.wire.now c.args.body.now.events)
           (ported c.args.wire.now c.args.body.now.events)) (sym c.or_stop-then-not-may_launch.ensures)
-          (refused_alone g.X.Extra.added _ (laws g) c.args.task asked c.args.body.now c.args.wire.now out_of_range
+          (refused_alone g.X.Extra.added g.W.Wire.outside c.args.task asked c.args.body.now c.args.wire.now out_of_range
           (λ at s h.
           launch_past g.X.Extra.added.meaning c.args.task s c.args.words.now c.in-Some.words (sym c.in_ok-words.ensures ∙ c.in-Some.is)
           (sym (c.may_launch.ensures.is s.streams h.going.in_step.stands.transports) ∙ c.if-not-may_launch.true))
@@ -78,7 +69,7 @@ returns g c =
     let asked = request.Launch c.args.words.now in
     record {
       comes =
-          answered_so c.args.task asked c.args.body.now _ (laws g) c.requires c.launch_child.new.body c.args.wire.now c.launch_child.new.wire
+          answered_so c.args.task asked c.args.body.now g.W.Wire.outside c.requires c.launch_child.new.body c.args.wire.now c.launch_child.new.wire
           (λ n. launch c.in-Some.words n) launched_as launches_as said_so launches_add
           (λ at s h.
           launch_means g.X.Extra.added.meaning c.args.task s c.args.words.now c.in-Some.words (sym c.in_ok-words.ensures ∙ c.in-Some.is)

@@ -4,7 +4,7 @@ use Rattle.model_value.specs.declared.request.Request.TheVariants as request
 use Rattle.model_says.specs.Operations.{out_of_range}
 use Rattle.model_says.specs.Requests.{bad_argument}
 use Rattle.model_machine.specs.Replies.{bad_port}
-use Rattle.aio_exchange.specs.Outside.{IsOutside, outside_of, ported}
+use Rattle.aio_wire.specs.Port.{ported}
 use Rattle.aio_body.specs.Asking.{Comes, serving}
 use Rattle.law_body.proofs.Alone.{refused_alone}
 use Rattle.law_does.proofs.Meaning.{connect_no_port, connect_past}
@@ -12,16 +12,7 @@ use Rattle.law_does.proofs.Served.{asking_idle, asking_owned}
 use Rattle.aio_streaming.specs.Ports.{port_in}
 use Rattle.aio_streaming.proofs.Connects.{connect_fails, connect_idle, connect_pending, connect_raises, connect_running, connect_stands, connect_there}
 use Rattle.aio_streaming.proofs.Opens.{connects_nowhere, connects_to}
-use Rattle.aio_streaming.proofs.opening.connect.Given.{Over}
 use Rattle.aio_streaming.proofs.opening.connect.Goals as goal
-
-laws : (g : Over) → IsOutside (outside_of g.W.Wire.seen g.W.Wire.fails g.W.Wire.keeps g.W.Wire.quiet)
-laws g = record {
-  keeps_same = g.met.W.Wire.keeps_same;
-  keeps_on = g.met.W.Wire.keeps_on;
-  quiet_same = g.met.W.Wire.quiet_same;
-  quiet_on = g.met.W.Wire.quiet_on;
-}
 
 pub returns-in_default : goal.returns-in_default
 returns-in_default g c =
@@ -30,7 +21,7 @@ returns-in_default g c =
       comes =
           subst (Comes _ (serving g.X.Extra.added c.args.task asked c.args.body.now c.args.body.now) (ported c.args.wire.now c.args.body.now.events)
           (ported c.args.wire.now c.args.body.now.events)) (sym c.or_stop.ensures)
-          (refused_alone g.X.Extra.added _ (laws g) c.args.task asked c.args.body.now c.args.wire.now bad_argument
+          (refused_alone g.X.Extra.added g.W.Wire.outside c.args.task asked c.args.body.now c.args.wire.now bad_argument
           (λ at s h.
           connect_no_port g.X.Extra.added.meaning c.args.task s c.args.port.now (sym c.as_int.ensures ∙ c.in_default.is))
           c.bad_argument.result c.bad_argument.ensures);
@@ -43,7 +34,7 @@ returns-then-not-may_connect g c =
       comes =
           subst (Comes _ (serving g.X.Extra.added c.args.task asked c.args.body.now c.args.body.now) (ported c.args.wire.now c.args.body.now.events)
           (ported c.args.wire.now c.args.body.now.events)) (sym c.or_stop-then-not-may_connect.ensures)
-          (refused_alone g.X.Extra.added _ (laws g) c.args.task asked c.args.body.now c.args.wire.now out_of_range
+          (refused_alone g.X.Extra.added g.W.Wire.outside c.args.task asked c.args.body.now c.args.wire.now out_of_range
           (λ at s h.
           connect_past g.X.Extra.added.meaning c.args.task s c.args.port.now c.in-Some.number (sym c.as_int.ensures ∙ c.in-Some.is)
           (sym (c.may_connect.ensures.is s.streams h.going.in_step.stands.transports) ∙ c.if-not-may_connect.true))
@@ -58,7 +49,7 @@ returns-in_default-as_port g c =
       comes =
           subst (Comes _ (serving g.X.Extra.added c.args.task asked c.args.body.now c.args.body.now) (ported c.args.wire.now c.args.body.now.events)
           (ported c.args.wire.now c.args.body.now.events)) (sym c.or_stop-in_default-as_port.ensures)
-          (refused_alone g.X.Extra.added _ (laws g) c.args.task asked c.args.body.now c.args.wire.now bad_port
+          (refused_alone g.X.Extra.added g.W.Wire.outside c.args.task asked c.args.body.now c.args.wire.now bad_port
           (λ at s h.
           connects_nowhere g.X.Extra.added.meaning c.args.task s c.args.port.now c.in-Some.number (sym c.as_int.ensures ∙ c.in-Some.is)
           (sym (c.may_connect.ensures.is s.streams h.going.in_step.stands.transports) ∙ c.if-not-may_connect.false)
@@ -76,7 +67,7 @@ pub waits-requires-clause-idle : goal.waits-requires-clause-idle
 waits-requires-clause-idle g c =
     let fits : SFits w64 c.in-Some.number = search rules in
     connect_idle c.args.task c.in-Some-as_port.number (request.Connect c.args.port.now) c.args.body.now
-    (outside_of g.W.Wire.seen g.W.Wire.fails g.W.Wire.keeps g.W.Wire.quiet) (laws g) c.requires c.begun.new.body c.args.wire.now c.begun.new.wire
+    g.W.Wire.outside c.requires c.begun.new.body c.args.wire.now c.begun.new.wire
     (λ at s h.
     connects_to g.X.Extra.added.meaning c.args.task s c.args.port.now c.in-Some.number (sym c.as_int.ensures ∙ c.in-Some.is) c.in-Some-as_port.number
     (sym (c.may_connect.ensures.is s.streams h.going.in_step.stands.transports) ∙ c.if-not-may_connect.false)
@@ -87,7 +78,7 @@ pub waits-requires-clause-running : goal.waits-requires-clause-running
 waits-requires-clause-running g c =
     let fits : SFits w64 c.in-Some.number = search rules in
     connect_running c.args.task c.in-Some-as_port.number (request.Connect c.args.port.now) c.args.body.now
-    (outside_of g.W.Wire.seen g.W.Wire.fails g.W.Wire.keeps g.W.Wire.quiet) (laws g) c.requires c.begun.new.body c.args.wire.now c.begun.new.wire
+    g.W.Wire.outside c.requires c.begun.new.body c.args.wire.now c.begun.new.wire
     (λ at s h.
     connects_to g.X.Extra.added.meaning c.args.task s c.args.port.now c.in-Some.number (sym c.as_int.ensures ∙ c.in-Some.is) c.in-Some-as_port.number
     (sym (c.may_connect.ensures.is s.streams h.going.in_step.stands.transports) ∙ c.if-not-may_connect.false)
@@ -98,7 +89,7 @@ pub waits-requires-clause-pending : goal.waits-requires-clause-pending
 waits-requires-clause-pending g c =
     let fits : SFits w64 c.in-Some.number = search rules in
     connect_pending c.args.task c.in-Some-as_port.number (request.Connect c.args.port.now) c.args.body.now
-    (outside_of g.W.Wire.seen g.W.Wire.fails g.W.Wire.keeps g.W.Wire.quiet) (laws g) c.requires c.begun.new.body c.args.wire.now c.begun.new.wire
+    g.W.Wire.outside c.requires c.begun.new.body c.args.wire.now c.begun.new.wire
     (λ at s h.
     connects_to g.X.Extra.added.meaning c.args.task s c.args.port.now c.in-Some.number (sym c.as_int.ensures ∙ c.in-Some.is) c.in-Some-as_port.number
     (sym (c.may_connect.ensures.is s.streams h.going.in_step.stands.transports) ∙ c.if-not-may_connect.false)
@@ -109,7 +100,7 @@ pub waits-requires-clause-there : goal.waits-requires-clause-there
 waits-requires-clause-there g c =
     let fits : SFits w64 c.in-Some.number = search rules in
     connect_there c.args.task c.in-Some-as_port.number (request.Connect c.args.port.now) c.args.body.now
-    (outside_of g.W.Wire.seen g.W.Wire.fails g.W.Wire.keeps g.W.Wire.quiet) (laws g) c.requires c.begun.new.body c.args.wire.now c.begun.new.wire
+    g.W.Wire.outside c.requires c.begun.new.body c.args.wire.now c.begun.new.wire
     (λ at s h.
     connects_to g.X.Extra.added.meaning c.args.task s c.args.port.now c.in-Some.number (sym c.as_int.ensures ∙ c.in-Some.is) c.in-Some-as_port.number
     (sym (c.may_connect.ensures.is s.streams h.going.in_step.stands.transports) ∙ c.if-not-may_connect.false)
@@ -122,11 +113,11 @@ returns-in-Ok-Some g c =
     record {
       comes =
           subst (λ r.
-          Comes (outside_of g.W.Wire.seen g.W.Wire.fails g.W.Wire.keeps g.W.Wire.quiet)
+          Comes g.W.Wire.outside
           (serving g.X.Extra.added c.args.task (request.Connect c.args.port.now) c.args.body.now c.waits.new.body)
           (ported c.args.wire.now c.args.body.now.events) (ported c.begun.new.wire c.waits.new.body.events) (Ok r)) (sym c.waits.ensures.is)
           (connect_stands c.args.task c.in-Some-as_port.number (request.Connect c.args.port.now) c.args.body.now
-          (outside_of g.W.Wire.seen g.W.Wire.fails g.W.Wire.keeps g.W.Wire.quiet) (laws g) c.requires c.begun.new.body c.args.wire.now c.begun.new.wire
+          g.W.Wire.outside c.requires c.begun.new.body c.args.wire.now c.begun.new.wire
           (λ at s h.
           connects_to g.X.Extra.added.meaning c.args.task s c.args.port.now c.in-Some.number (sym c.as_int.ensures ∙ c.in-Some.is) c.in-Some-as_port.number
           (sym (c.may_connect.ensures.is s.streams h.going.in_step.stands.transports) ∙ c.if-not-may_connect.false)
@@ -144,7 +135,7 @@ returns-in-Ok-None g c =
           subst (Comes _ (serving g.X.Extra.added c.args.task (request.Connect c.args.port.now) c.args.body.now c.begun.new.body)
           (ported c.args.wire.now c.args.body.now.events) (ported c.begun.new.wire c.begun.new.body.events)) (sym c.or_stop-in-Ok-None.ensures)
           (connect_raises c.args.task c.in-Some-as_port.number (request.Connect c.args.port.now) c.args.body.now
-          (outside_of g.W.Wire.seen g.W.Wire.fails g.W.Wire.keeps g.W.Wire.quiet) (laws g) c.requires c.begun.new.body c.args.wire.now c.begun.new.wire
+          g.W.Wire.outside c.requires c.begun.new.body c.args.wire.now c.begun.new.wire
           (λ at s h.
           connects_to g.X.Extra.added.meaning c.args.task s c.args.port.now c.in-Some.number (sym c.as_int.ensures ∙ c.in-Some.is) c.in-Some-as_port.number
           (sym (c.may_connect.ensures.is s.streams h.going.in_step.stands.transports) ∙ c.if-not-may_connect.false)
@@ -158,7 +149,7 @@ returns-in-Err g c =
     record {
       comes =
           connect_fails c.args.task c.in-Some-as_port.number (request.Connect c.args.port.now) c.args.body.now
-          (outside_of g.W.Wire.seen g.W.Wire.fails g.W.Wire.keeps g.W.Wire.quiet) (laws g) c.requires c.begun.new.body c.args.wire.now c.begun.new.wire
+          g.W.Wire.outside c.requires c.begun.new.body c.args.wire.now c.begun.new.wire
           (λ at s h.
           connects_to g.X.Extra.added.meaning c.args.task s c.args.port.now c.in-Some.number (sym c.as_int.ensures ∙ c.in-Some.is) c.in-Some-as_port.number
           (sym (c.may_connect.ensures.is s.streams h.going.in_step.stands.transports) ∙ c.if-not-may_connect.false)

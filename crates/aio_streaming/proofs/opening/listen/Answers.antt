@@ -8,7 +8,7 @@ use Rattle.model_loop.specs.Owning.{is_plain}
 use Rattle.model_stream.specs.Streams.{listen}
 use Rattle.model_machine.specs.Replies.{bad_port, listens_as}
 use Rattle.model_machine.specs.State.{State}
-use Rattle.aio_exchange.specs.Outside.{IsOutside, outside_of, ported}
+use Rattle.aio_wire.specs.Port.{ported}
 use Rattle.law_trees.specs.Trees.{WaitsNever}
 use Rattle.law_trees.proofs.Opening.{listens}
 use Rattle.aio_body.specs.Asking.{Comes, serving}
@@ -21,16 +21,7 @@ use Rattle.aio_streaming.specs.Ports.{port_in}
 use Rattle.aio_streaming.proofs.Answered.{answered_so}
 use Rattle.aio_streaming.proofs.Ending.{told_beside}
 use Rattle.aio_streaming.proofs.Opens.{listens_at, listens_nowhere}
-use Rattle.aio_streaming.proofs.opening.listen.Given.{Over}
 use Rattle.aio_streaming.proofs.opening.listen.Goals as goal
-
-laws : (g : Over) → IsOutside (outside_of g.W.Wire.seen g.W.Wire.fails g.W.Wire.keeps g.W.Wire.quiet)
-laws g = record {
-  keeps_same = g.met.W.Wire.keeps_same;
-  keeps_on = g.met.W.Wire.keeps_on;
-  quiet_same = g.met.W.Wire.quiet_same;
-  quiet_on = g.met.W.Wire.quiet_on;
-}
 
 pub returns-in_default : goal.returns-in_default
 returns-in_default g c =
@@ -39,7 +30,7 @@ returns-in_default g c =
       comes =
           subst (Comes _ (serving g.X.Extra.added c.args.task asked c.args.body.now c.args.body.now) (ported c.args.wire.now c.args.body.now.events)
           (ported c.args.wire.now c.args.body.now.events)) (sym c.or_stop.ensures)
-          (refused_alone g.X.Extra.added _ (laws g) c.args.task asked c.args.body.now c.args.wire.now bad_argument
+          (refused_alone g.X.Extra.added g.W.Wire.outside c.args.task asked c.args.body.now c.args.wire.now bad_argument
           (λ at s h.
           listen_refused g.X.Extra.added.meaning c.args.task s c.args.port.now c.args.handler (sym c.as_int.ensures ∙ c.in_default.is))
           c.bad_argument.result c.bad_argument.ensures);
@@ -52,7 +43,7 @@ returns-then-not-may_listen g c =
       comes =
           subst (Comes _ (serving g.X.Extra.added c.args.task asked c.args.body.now c.args.body.now) (ported c.args.wire.now c.args.body.now.events)
           (ported c.args.wire.now c.args.body.now.events)) (sym c.or_stop-then-not-may_listen.ensures)
-          (refused_alone g.X.Extra.added _ (laws g) c.args.task asked c.args.body.now c.args.wire.now out_of_range
+          (refused_alone g.X.Extra.added g.W.Wire.outside c.args.task asked c.args.body.now c.args.wire.now out_of_range
           (λ at s h.
           listen_past g.X.Extra.added.meaning c.args.task s c.args.port.now c.args.handler c.in-Some.number (sym c.as_int.ensures ∙ c.in-Some.is)
           (sym (c.may_listen.ensures.is s.streams h.going.in_step.stands.transports) ∙ c.if-not-may_listen.true))
@@ -67,7 +58,7 @@ returns-in_default-as_port g c =
       comes =
           subst (Comes _ (serving g.X.Extra.added c.args.task asked c.args.body.now c.args.body.now) (ported c.args.wire.now c.args.body.now.events)
           (ported c.args.wire.now c.args.body.now.events)) (sym c.or_stop-in_default-as_port.ensures)
-          (refused_alone g.X.Extra.added _ (laws g) c.args.task asked c.args.body.now c.args.wire.now bad_port
+          (refused_alone g.X.Extra.added g.W.Wire.outside c.args.task asked c.args.body.now c.args.wire.now bad_port
           (λ at s h.
           listens_nowhere g.X.Extra.added.meaning c.args.task s c.args.port.now c.in-Some.number (sym c.as_int.ensures ∙ c.in-Some.is) c.args.handler
           (sym (c.may_listen.ensures.is s.streams h.going.in_step.stands.transports) ∙ c.if-not-may_listen.false)
@@ -85,7 +76,7 @@ returns g c =
     let fits : SFits w64 c.in-Some.number = search rules in
     record {
       comes =
-          answered_so c.args.task asked c.args.body.now _ (laws g) c.requires c.listen_at.new.body c.args.wire.now c.listen_at.new.wire
+          answered_so c.args.task asked c.args.body.now g.W.Wire.outside c.requires c.listen_at.new.body c.args.wire.now c.listen_at.new.wire
           (λ n. listen c.in-Some-as_port.number c.args.handler) listened_as listens_as said_so listens_add
           (λ at s h.
           listens_at g.X.Extra.added.meaning c.args.task s c.args.port.now c.in-Some.number (sym c.as_int.ensures ∙ c.in-Some.is) c.args.handler

@@ -7,7 +7,7 @@ use Rattle.model_loop.specs.Owning.{is_plain}
 use Rattle.model_stream.specs.Requests.{close}
 use Rattle.model_stream.specs.Streams.{close_server}
 use Rattle.model_machine.specs.Arguments.{AServer, AWriter}
-use Rattle.aio_exchange.specs.Outside.{IsOutside, outside_of, ported}
+use Rattle.aio_wire.specs.Port.{ported}
 use Rattle.law_trees.proofs.Asking.{closes}
 use Rattle.law_trees.proofs.Opening.{closes_server}
 use Rattle.aio_opened.specs.Closing.{closable_as}
@@ -19,16 +19,7 @@ use Rattle.law_does.proofs.Served.{asking_idle, asking_owned}
 use Rattle.aio_streaming.specs.Done.{done_as}
 use Rattle.aio_streaming.proofs.Ending.{done_so, told_beside}
 use Rattle.aio_streaming.proofs.Writes.{told_so}
-use Rattle.aio_streaming.proofs.writing.close.Given.{Over}
 use Rattle.aio_streaming.proofs.writing.close.Goals as goal
-
-laws : (g : Over) → IsOutside (outside_of g.W.Wire.seen g.W.Wire.fails g.W.Wire.keeps g.W.Wire.quiet)
-laws g = record {
-  keeps_same = g.met.W.Wire.keeps_same;
-  keeps_on = g.met.W.Wire.keeps_on;
-  quiet_same = g.met.W.Wire.quiet_same;
-  quiet_on = g.met.W.Wire.quiet_on;
-}
 
 pub returns-in-None : goal.returns-in-None
 returns-in-None g c =
@@ -38,7 +29,7 @@ returns-in-None g c =
           subst (Comes _ (serving g.X.Extra.added c.args.task asked c.args.body.now c.args.body.now)
           (ported c.args.wire.now c.args.body.now.events)
           (ported c.args.wire.now c.args.body.now.events)) (sym c.or_stop.ensures)
-          (refused_alone g.X.Extra.added _ (laws g) c.args.task asked c.args.body.now c.args.wire.now bad_argument
+          (refused_alone g.X.Extra.added g.W.Wire.outside c.args.task asked c.args.body.now c.args.wire.now bad_argument
           (λ at s h.
           close_refused g.X.Extra.added.meaning c.args.task s c.args.x.now
           (sym (c.as_closable.ensures s h.going.in_step.stands.transports) ∙ ap (option_map closable_as) c.in-None.is))
@@ -53,8 +44,7 @@ returns-in-Some-Server g c =
           subst (Comes _ (serving g.X.Extra.added c.args.task asked c.args.body.now c.close_listener.new.body)
           (ported c.args.wire.now c.args.body.now.events) (ported c.close_listener.new.wire c.close_listener.new.body.events))
           (sym c.done.ensures)
-          (done_so c.args.task asked c.args.body.now _
-          (laws g) c.requires c.close_listener.new.body c.args.wire.now c.close_listener.new.wire
+          (done_so c.args.task asked c.args.body.now g.W.Wire.outside c.requires c.close_listener.new.body c.args.wire.now c.close_listener.new.wire
           (λ n. close_server c.in-Some-Server.id)
           (λ at s h.
           close_means g.X.Extra.added.meaning c.args.task s c.args.x.now (AServer c.in-Some-Server.id)
@@ -82,7 +72,7 @@ returns-in-Some-Writer g c =
           (ported c.args.wire.now c.args.body.now.events)
           (ported c.args.wire.now c.args.body.now.events))
           (sym (c.done-in-Some-Writer.ensures ∙ ap done_as c.or_stop-in-Some-Writer.ensures))
-          (told_so c.args.task asked c.args.body.now _ (laws g) c.requires new c.args.wire.now (λ n. close c.in-Some-Writer.whom)
+          (told_so c.args.task asked c.args.body.now g.W.Wire.outside c.requires new c.args.wire.now (λ n. close c.in-Some-Writer.whom)
           (λ at s h.
           close_means g.X.Extra.added.meaning c.args.task s c.args.x.now (AWriter c.in-Some-Writer.whom)
           (sym (c.as_closable.ensures s h.going.in_step.stands.transports) ∙ ap (option_map closable_as) c.in-Some-Writer.is

@@ -9,7 +9,7 @@ use Rattle.model_stream.specs.declared.answers.Wrote.TheVariants as wrote
 use Rattle.model_stream.specs.Requests.{write}
 use Rattle.model_machine.specs.Replies.{writes_as}
 use Rattle.model_machine.specs.State.{State}
-use Rattle.aio_exchange.specs.Outside.{IsOutside, outside_of, ported}
+use Rattle.aio_wire.specs.Port.{ported}
 use Rattle.law_trees.specs.Trees.{WaitsNever}
 use Rattle.law_trees.proofs.Asking.{writes}
 use Rattle.aio_body.specs.Asking.{Comes, serving}
@@ -20,16 +20,7 @@ use Rattle.law_does.proofs.Nexts.{writes_add}
 use Rattle.law_does.proofs.Served.{asking_idle, asking_owned}
 use Rattle.aio_streaming.specs.Answered.{answered_by, wrote_as}
 use Rattle.aio_streaming.proofs.Answered.{answered_so}
-use Rattle.aio_streaming.proofs.writing.write.Given.{Over}
 use Rattle.aio_streaming.proofs.writing.write.Goals as goal
-
-laws : (g : Over) → IsOutside (outside_of g.W.Wire.seen g.W.Wire.fails g.W.Wire.keeps g.W.Wire.quiet)
-laws g = record {
-  keeps_same = g.met.W.Wire.keeps_same;
-  keeps_on = g.met.W.Wire.keeps_on;
-  quiet_same = g.met.W.Wire.quiet_same;
-  quiet_on = g.met.W.Wire.quiet_on;
-}
 
 said_so : {S : Type 0} (it : Wrote) (t : State S) → writes_as it t ≡ answered_by (wrote_as it) t
 said_so wrote.Done t = refl
@@ -43,7 +34,7 @@ returns-in_default g c =
           subst (Comes _ (serving g.X.Extra.added c.args.task asked c.args.body.now c.args.body.now)
           (ported c.args.wire.now c.args.body.now.events)
           (ported c.args.wire.now c.args.body.now.events)) (sym c.or_stop.ensures)
-          (refused_alone g.X.Extra.added _ (laws g) c.args.task asked c.args.body.now c.args.wire.now bad_argument
+          (refused_alone g.X.Extra.added g.W.Wire.outside c.args.task asked c.args.body.now c.args.wire.now bad_argument
           (λ at s h.
           write_to_none g.X.Extra.added.meaning c.args.task s c.args.stream.now c.args.bytes.now
           (sym (c.as_writer.ensures s h.going.in_step.stands.transports) ∙ c.in_default.is))
@@ -58,7 +49,7 @@ returns-in_default-as_bytes g c =
           subst (Comes _ (serving g.X.Extra.added c.args.task asked c.args.body.now c.args.body.now)
           (ported c.args.wire.now c.args.body.now.events)
           (ported c.args.wire.now c.args.body.now.events)) (sym c.or_stop-in_default-as_bytes.ensures)
-          (refused_alone g.X.Extra.added _ (laws g) c.args.task asked c.args.body.now c.args.wire.now bad_argument
+          (refused_alone g.X.Extra.added g.W.Wire.outside c.args.task asked c.args.body.now c.args.wire.now bad_argument
           (λ at s h.
           write_of_none g.X.Extra.added.meaning c.args.task s c.args.stream.now c.args.bytes.now c.in-Some.whom
           (sym (c.as_writer.ensures s h.going.in_step.stands.transports) ∙ c.in-Some.is)
@@ -80,8 +71,7 @@ returns g c =
     let piece = c.as_slice.result.now in
     record {
       comes =
-          answered_so c.args.task asked c.args.body.now _
-          (laws g) c.requires c.write_piece.new.body c.args.wire.now c.write_piece.new.wire
+          answered_so c.args.task asked c.args.body.now g.W.Wire.outside c.requires c.write_piece.new.body c.args.wire.now c.write_piece.new.wire
           (λ n. write c.in-Some.whom piece) wrote_as writes_as said_so writes_add
           (λ at s h.
           write_means g.X.Extra.added.meaning c.args.task s c.args.stream.now c.args.bytes.now c.in-Some.whom piece

@@ -4,7 +4,7 @@ use Rattle.model_says.specs.Requests.{bad_argument}
 use Rattle.model_loop.specs.Futures.{next_future}
 use Rattle.model_loop.specs.Owning.{is_plain}
 use Rattle.model_stream.specs.Requests.{write_eof}
-use Rattle.aio_exchange.specs.Outside.{IsOutside, outside_of, ported}
+use Rattle.aio_wire.specs.Port.{ported}
 use Rattle.law_trees.proofs.Asking.{ends}
 use Rattle.aio_body.specs.Asking.{Comes, serving}
 use Rattle.law_body.proofs.Alone.{refused_alone}
@@ -12,16 +12,7 @@ use Rattle.law_does.proofs.Forgetting.{write_eof_forgets}
 use Rattle.law_does.proofs.Meaning.{eof_means, eof_refused}
 use Rattle.law_does.proofs.Served.{asking_idle, asking_owned}
 use Rattle.aio_streaming.proofs.Ending.{done_so}
-use Rattle.aio_streaming.proofs.writing.write_eof.Given.{Over}
 use Rattle.aio_streaming.proofs.writing.write_eof.Goals as goal
-
-laws : (g : Over) → IsOutside (outside_of g.W.Wire.seen g.W.Wire.fails g.W.Wire.keeps g.W.Wire.quiet)
-laws g = record {
-  keeps_same = g.met.W.Wire.keeps_same;
-  keeps_on = g.met.W.Wire.keeps_on;
-  quiet_same = g.met.W.Wire.quiet_same;
-  quiet_on = g.met.W.Wire.quiet_on;
-}
 
 pub returns-in_default : goal.returns-in_default
 returns-in_default g c =
@@ -30,7 +21,7 @@ returns-in_default g c =
       comes =
           subst (Comes _ (serving g.X.Extra.added c.args.task asked c.args.body.now c.args.body.now) (ported c.args.wire.now c.args.body.now.events)
           (ported c.args.wire.now c.args.body.now.events)) (sym c.or_stop.ensures)
-          (refused_alone g.X.Extra.added _ (laws g) c.args.task asked c.args.body.now c.args.wire.now bad_argument
+          (refused_alone g.X.Extra.added g.W.Wire.outside c.args.task asked c.args.body.now c.args.wire.now bad_argument
           (λ at s h.
           eof_refused g.X.Extra.added.meaning c.args.task s c.args.stream.now
           (sym (c.as_conn.ensures s h.going.in_step.stands.transports) ∙ c.in_default.is))
@@ -50,7 +41,7 @@ returns g c =
       comes =
           subst (Comes _ (serving g.X.Extra.added c.args.task asked c.args.body.now c.write_end.new.body) (ported c.args.wire.now c.args.body.now.events)
           (ported c.write_end.new.wire c.write_end.new.body.events)) (sym c.done.ensures)
-          (done_so c.args.task asked c.args.body.now _ (laws g) c.requires c.write_end.new.body c.args.wire.now c.write_end.new.wire
+          (done_so c.args.task asked c.args.body.now g.W.Wire.outside c.requires c.write_end.new.body c.args.wire.now c.write_end.new.wire
           (λ n. write_eof c.in-Some.conn)
           (λ at s h.
           eof_means g.X.Extra.added.meaning c.args.task s c.args.stream.now c.in-Some.conn

@@ -4,7 +4,7 @@ use Rattle.aio_tally.proofs.tallying.tally_kernel.Goals as goal
 
 pub loop-made-init : goal.loop-made-init
 loop-made-init g c = λ program begins.
-    under_way_first program c.args.turns c.args.kernel.now (g.W.Wire.seen c.args.wire.now) (record { tasks = 0; calls = 0; said = 0 }) refl refl begins
+    under_way_first program c.args.turns c.args.kernel.now (g.W.Wire.outside.seen c.args.wire.now) (record { tasks = 0; calls = 0; said = 0 }) refl refl begins
 
 pub loop-made-preserved : goal.loop-made-preserved
 loop-made-preserved g c = λ program begins.

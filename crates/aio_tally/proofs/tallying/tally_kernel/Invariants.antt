@@ -8,4 +8,4 @@ use Rattle.aio_tally.proofs.tallying.tally_kernel.Given as goal
 abbrev pub invariant-loop-made : goal.invariant-loop-made
 invariant-loop-made g l =
     (program : Program) → Begins nothing_added tt program l.fn.kernel
-    → IsUnderWay program l.fn.turns l._made l.kernel (g.W.Wire.seen l.fn.wire) (g.W.Wire.seen l.wire) l.counts
+    → IsUnderWay program l.fn.turns l._made l.kernel (g.W.Wire.outside.seen l.fn.wire) (g.W.Wire.outside.seen l.wire) l.counts

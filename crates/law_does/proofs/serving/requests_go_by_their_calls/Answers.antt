@@ -1,5 +1,4 @@
 use Rattle.std.proofs.Common.{Some, refl}
-use Rattle.aio_exchange.specs.Outside.{IsOutside, outside_of}
 use Rattle.law_trees.specs.Trees.{WaitsNever}
 use Rattle.aio_body.specs.Asking.{before, serving}
 use Rattle.aio_body.specs.declared.reply.RequestReply.TheVariants as said
@@ -7,16 +6,7 @@ use Rattle.law_does.proofs.Answering.{answers_so, gone_ends}
 use Rattle.law_does.proofs.May.{may_asking}
 use Rattle.law_does.proofs.Nexts.{reply_leaves}
 use Rattle.law_does.proofs.Requests.{do_fails, do_goes}
-use Rattle.law_does.proofs.serving.requests_go_by_their_calls.Given.{Over}
 use Rattle.law_does.proofs.serving.requests_go_by_their_calls.Goals as goal
-
-laws : (g : Over) → IsOutside (outside_of g.W.Wire.seen g.W.Wire.fails g.W.Wire.keeps g.W.Wire.quiet)
-laws g = record {
-  keeps_same = g.met.W.Wire.keeps_same;
-  keeps_on = g.met.W.Wire.keeps_on;
-  quiet_same = g.met.W.Wire.quiet_same;
-  quiet_on = g.met.W.Wire.quiet_on;
-}
 
 pub returns-clause-stops : goal.returns-clause-stops
 returns-clause-stops g c = λ task request old new wire after tree next why means has adds forgets call.
@@ -28,5 +18,5 @@ returns-clause-answers g c = λ task request old new wire after tree next it val
     let p = serving g.X.Extra.added task request old new in
     let come =
     do_goes _ p (Some task) old new wire after (λ d s from. may_asking d old s task request from) has tree next means WaitsNever it call keeping beside in
-    gone_ends _ (laws g) p (Some task) old new wire after _ (next it) come new (said.Answers value) refl
+    gone_ends g.W.Wire.outside p (Some task) old new wire after _ (next it) come new (said.Answers value) refl
     (λ d s from gone. answers_so task (before come.0 d) old new s from.going.in_step _ _ (next it) d gone value is)

@@ -1,18 +1,8 @@
-use Rattle.aio_exchange.specs.Outside.{IsOutside, outside_of}
 use Rattle.law_doing.proofs.Following.{follows_stopped, follows_then}
-use Rattle.law_doing.proofs.asking.calls_go_on.Given.{Over}
 use Rattle.law_doing.proofs.asking.calls_go_on.Goals as goal
-
-laws : (g : Over) → IsOutside (outside_of g.W.Wire.seen g.W.Wire.fails g.W.Wire.keeps g.W.Wire.quiet)
-laws g = record {
-  keeps_same = g.met.W.Wire.keeps_same;
-  keeps_on = g.met.W.Wire.keeps_on;
-  quiet_same = g.met.W.Wire.quiet_same;
-  quiet_on = g.met.W.Wire.quiet_on;
-}
 
 pub returns : goal.returns
 returns g c = record {
-  goes = λ change. follows_then _ (laws g) change;
-  stops = λ change. follows_stopped _ (laws g) change;
+  goes = λ change. follows_then g.W.Wire.outside change;
+  stops = λ change. follows_stopped g.W.Wire.outside change;
 }

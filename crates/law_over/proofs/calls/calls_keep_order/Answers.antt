@@ -1,11 +1,10 @@
-use Rattle.aio_exchange.specs.Outside.{outside_of}
 use Rattle.law_over.proofs.Endings.{answers_grown, follows_grown, tells_answer_grown, tells_grown}
 use Rattle.law_over.proofs.calls.calls_keep_order.Goals as goal
 
 pub returns : goal.returns
 returns g c = record {
-  follows = λ change. follows_grown change (outside_of g.W.Wire.seen g.W.Wire.fails g.W.Wire.keeps g.W.Wire.quiet);
-  answers = λ change. answers_grown change (outside_of g.W.Wire.seen g.W.Wire.fails g.W.Wire.keeps g.W.Wire.quiet);
+  follows = λ change. follows_grown change g.W.Wire.outside;
+  answers = λ change. answers_grown change g.W.Wire.outside;
   tells = λ change. tells_grown change;
   tells_answer = λ change. tells_answer_grown change;
 }

@@ -3,26 +3,13 @@ use Rattle.model_stream.specs.declared.answers.Wrote.{Wrote}
 use Rattle.model_stream.specs.Children.{Child, its_stdin, inlet}
 use Rattle.model_stream.specs.Doing.{asked_on}
 use Rattle.model_stream.specs.Senders.{write}
-use Rattle.aio_exchange.specs.Outside.{IsOutside, Outside, outside_of}
 use Rattle.law_doing.specs.Follows.{Follows, Reach, with_after, reach}
 use Rattle.aio_task.specs.View.{View}
 use Rattle.aio_change.specs.Seen.{seen_changed}
 use Rattle.aio_change.proofs.ByPart.{went_asked_on}
 use Rattle.aio_child.specs.Owned.{OwnsChild}
 use Rattle.aio_child.proofs.Owning.{own_if_wrote}
-use Rattle.aio_child.proofs.child.Child.feed.Given.{Over}
 use Rattle.aio_child.proofs.child.Child.feed.Goals as goal
-
-abbrev outside : (g : Over) → Outside g.row.W.Denot
-outside g = outside_of g.W.Wire.seen g.W.Wire.fails g.W.Wire.keeps g.W.Wire.quiet
-
-laws : (g : Over) → IsOutside (outside g)
-laws g = record {
-  keeps_same = g.met.W.Wire.keeps_same;
-  keeps_on = g.met.W.Wire.keeps_on;
-  quiet_same = g.met.W.Wire.quiet_same;
-  quiet_on = g.met.W.Wire.quiet_on;
-}
 
 pub returns-clause-follows : goal.returns-clause-follows
 returns-clause-follows g c =
@@ -30,11 +17,11 @@ returns-clause-follows g c =
     let new : Reach View g.row.W.Denot = reach c.write.new.parts c.write.new.port.wire.now c.write.new.port.events.now in
     let i = c.self.inside in
     let before : Child = record { stdin = i.stdin; out = i.out; errs = i.errs; code = i.code; waits = i.waits.items } in
-    subst (λ (v : Child). Follows {A = Child × Wrote} (outside g) seen_changed
+    subst (λ (v : Child). Follows {A = Child × Wrote} g.W.Wire.outside seen_changed
     (asked_on its_stdin (write (inlet c.args.id) c.args.piece.now) v) old new
     (with_after (record before { stdin = c.write.new.self }) c.write.result))
     c.self.view_is
-    (went_asked_on its_stdin before c.write.new.self (outside g) (laws g) old new
+    (went_asked_on its_stdin before c.write.new.self g.W.Wire.outside old new
     (write (inlet c.args.id) c.args.piece.now) c.write.result c.write.ensures.follows)
 
 pub returns-clause-own : goal.returns-clause-own
@@ -45,5 +32,6 @@ returns-clause-own g c =
     let before : Child = record { stdin = i.stdin; out = i.out; errs = i.errs; code = i.code; waits = i.waits.items } in
     subst (λ (v : Child). OnOk c.write.result (OwnsChild old.parts v → OwnsChild new.parts (record before { stdin = c.write.new.self })))
     c.self.view_is
-    (own_if_wrote (outside g) before c.write.new.self old new (write (inlet c.args.id) c.args.piece.now before.stdin) c.write.result c.write.ensures.follows
+    (own_if_wrote g.W.Wire.outside before c.write.new.self old new (write (inlet c.args.id) c.args.piece.now before.stdin) c.write.result
+    c.write.ensures.follows
     c.write.ensures.own)

@@ -2,26 +2,13 @@ use Rattle.std.proofs.Common.{sym, subst}
 use Rattle.model_stream.specs.Children.{Child, its_stdin, inlet}
 use Rattle.model_stream.specs.Doing.{on}
 use Rattle.model_stream.specs.Senders.{lose_sender}
-use Rattle.aio_exchange.specs.Outside.{IsOutside, Outside, outside_of}
 use Rattle.law_doing.specs.Follows.{Follows, Reach, after_of, reach}
 use Rattle.aio_task.specs.View.{View}
 use Rattle.aio_change.specs.Seen.{seen_changed}
 use Rattle.aio_change.proofs.ByPart.{went_on}
 use Rattle.aio_child.specs.Owned.{OwnsChild}
 use Rattle.aio_child.proofs.Owning.{own_if_went}
-use Rattle.aio_child.proofs.child.Child.lose.Given.{Over}
 use Rattle.aio_child.proofs.child.Child.lose.Goals as goal
-
-abbrev outside : (g : Over) → Outside g.row.W.Denot
-outside g = outside_of g.W.Wire.seen g.W.Wire.fails g.W.Wire.keeps g.W.Wire.quiet
-
-laws : (g : Over) → IsOutside (outside g)
-laws g = record {
-  keeps_same = g.met.W.Wire.keeps_same;
-  keeps_on = g.met.W.Wire.keeps_on;
-  quiet_same = g.met.W.Wire.quiet_same;
-  quiet_on = g.met.W.Wire.quiet_on;
-}
 
 pub returns-clause-follows : goal.returns-clause-follows
 returns-clause-follows g c =
@@ -29,10 +16,10 @@ returns-clause-follows g c =
     let new : Reach View g.row.W.Denot = reach c.lose.new.parts c.lose.new.port.wire.now c.lose.new.port.events.now in
     let i = c.self.inside in
     let before : Child = record { stdin = i.stdin; out = i.out; errs = i.errs; code = i.code; waits = i.waits.items } in
-    subst (λ (v : Child). Follows (outside g) seen_changed (on its_stdin (lose_sender (inlet c.args.id) c.args.broken) v) old new
+    subst (λ (v : Child). Follows g.W.Wire.outside seen_changed (on its_stdin (lose_sender (inlet c.args.id) c.args.broken) v) old new
     (after_of (record before { stdin = c.lose.new.self }) c.lose.result))
     c.self.view_is
-    (went_on its_stdin before c.lose.new.self (outside g) (laws g) old new (lose_sender (inlet c.args.id) c.args.broken) c.lose.result c.lose.ensures.follows)
+    (went_on its_stdin before c.lose.new.self g.W.Wire.outside old new (lose_sender (inlet c.args.id) c.args.broken) c.lose.result c.lose.ensures.follows)
 
 pub returns-clause-own : goal.returns-clause-own
 returns-clause-own g c =
@@ -40,6 +27,6 @@ returns-clause-own g c =
     let new : Reach View g.row.W.Denot = reach c.lose.new.parts c.lose.new.port.wire.now c.lose.new.port.events.now in
     let i = c.self.inside in
     let before : Child = record { stdin = i.stdin; out = i.out; errs = i.errs; code = i.code; waits = i.waits.items } in
-    own_if_went (outside g) before c.lose.new.self old new
+    own_if_went g.W.Wire.outside before c.lose.new.self old new
     (lose_sender (inlet c.args.id) c.args.broken before.stdin) c.lose.result c.lose.ensures.follows c.lose.ensures.own
     (subst (OwnsChild old.parts) (sym c.self.view_is) c.requires.own)

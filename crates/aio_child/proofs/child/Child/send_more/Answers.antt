@@ -2,26 +2,13 @@ use Rattle.std.proofs.Common.{sym, subst}
 use Rattle.model_stream.specs.Children.{Child, its_stdin, inlet}
 use Rattle.model_stream.specs.Doing.{on}
 use Rattle.model_stream.specs.Senders.{send_more}
-use Rattle.aio_exchange.specs.Outside.{IsOutside, Outside, outside_of}
 use Rattle.law_doing.specs.Follows.{Follows, Reach, after_of, reach}
 use Rattle.aio_task.specs.View.{View}
 use Rattle.aio_change.specs.Seen.{seen_changed}
 use Rattle.aio_change.proofs.ByPart.{went_on}
 use Rattle.aio_child.specs.Owned.{OwnsChild}
 use Rattle.aio_child.proofs.Owning.{own_if_went}
-use Rattle.aio_child.proofs.child.Child.send_more.Given.{Over}
 use Rattle.aio_child.proofs.child.Child.send_more.Goals as goal
-
-abbrev outside : (g : Over) → Outside g.row.W.Denot
-outside g = outside_of g.W.Wire.seen g.W.Wire.fails g.W.Wire.keeps g.W.Wire.quiet
-
-laws : (g : Over) → IsOutside (outside g)
-laws g = record {
-  keeps_same = g.met.W.Wire.keeps_same;
-  keeps_on = g.met.W.Wire.keeps_on;
-  quiet_same = g.met.W.Wire.quiet_same;
-  quiet_on = g.met.W.Wire.quiet_on;
-}
 
 pub returns-clause-follows : goal.returns-clause-follows
 returns-clause-follows g c =
@@ -29,10 +16,10 @@ returns-clause-follows g c =
     let new : Reach View g.row.W.Denot = reach c.send_more.new.parts c.send_more.new.port.wire.now c.send_more.new.port.events.now in
     let i = c.self.inside in
     let before : Child = record { stdin = i.stdin; out = i.out; errs = i.errs; code = i.code; waits = i.waits.items } in
-    subst (λ (v : Child). Follows (outside g) seen_changed (on its_stdin (send_more (inlet c.args.id)) v) old new
+    subst (λ (v : Child). Follows g.W.Wire.outside seen_changed (on its_stdin (send_more (inlet c.args.id)) v) old new
     (after_of (record before { stdin = c.send_more.new.self }) c.send_more.result))
     c.self.view_is
-    (went_on its_stdin before c.send_more.new.self (outside g) (laws g) old new (send_more (inlet c.args.id)) c.send_more.result c.send_more.ensures.follows)
+    (went_on its_stdin before c.send_more.new.self g.W.Wire.outside old new (send_more (inlet c.args.id)) c.send_more.result c.send_more.ensures.follows)
 
 pub returns-clause-own : goal.returns-clause-own
 returns-clause-own g c =
@@ -40,6 +27,6 @@ returns-clause-own g c =
     let new : Reach View g.row.W.Denot = reach c.send_more.new.parts c.send_more.new.port.wire.now c.send_more.new.port.events.now in
     let i = c.self.inside in
     let before : Child = record { stdin = i.stdin; out = i.out; errs = i.errs; code = i.code; waits = i.waits.items } in
-    own_if_went (outside g) before c.send_more.new.self old new
+    own_if_went g.W.Wire.outside before c.send_more.new.self old new
     (send_more (inlet c.args.id) before.stdin) c.send_more.result c.send_more.ensures.follows c.send_more.ensures.own
     (subst (OwnsChild old.parts) (sym c.self.view_is) c.requires.own)

@@ -1,23 +1,11 @@
 use Rattle.std.proofs.Common.{◌≡◌, ◌∙◌, [], ◌∷◌, ◌++◌, refl, sym, ap, length}
 use Rattle.std.proofs.lemmas.Result.{err_from_is_err_and}
 use Rattle.model_stream.specs.Children.{Child, new_child}
-use Rattle.aio_exchange.specs.Outside.{IsOutside, Outside, outside_of}
 use Rattle.law_doing.specs.Follows.{Reach, reach}
 use Rattle.aio_task.specs.View.{View}
 use Rattle.aio_children.proofs.Launching.{launch_met, launch_refused, launch_starved, launch_started, own_launched}
 use Rattle.aio_children.proofs.children.Children.launch.Given.{Over}
 use Rattle.aio_children.proofs.children.Children.launch.Goals as goal
-
-abbrev outside : (g : Over) → Outside g.row.W.Denot
-outside g = outside_of g.W.Wire.seen g.W.Wire.fails g.W.Wire.keeps g.W.Wire.quiet
-
-laws : (g : Over) → IsOutside (outside g)
-laws g = record {
-  keeps_same = g.met.W.Wire.keeps_same;
-  keeps_on = g.met.W.Wire.keeps_on;
-  quiet_same = g.met.W.Wire.quiet_same;
-  quiet_on = g.met.W.Wire.quiet_on;
-}
 
 pub returns-in_err-answer-clause-comes : goal.returns-in_err-answer-clause-comes
 returns-in_err-answer-clause-comes g c =
@@ -25,14 +13,14 @@ returns-in_err-answer-clause-comes g c =
     let old : Reach View g.row.W.Denot = reach c.args.parts.now c.args.port.now.wire.now c.args.port.now.events.now in
     let new : Reach View g.row.W.Denot = reach c.args.parts.now c.ask.new.port.wire.now c.ask.new.port.events.now in
     rw (p.1, p.2)
-    (launch_met (outside g) (laws g) c.args.words (length c.args.parts.now.futures) c.args.self.now c.args.self.now c.in_err-answer.field-0.0 old new
+    (launch_met g.W.Wire.outside c.args.words (length c.args.parts.now.futures) c.args.self.now c.args.self.now c.in_err-answer.field-0.0 old new
     c.in_err-answer.ensures.asks refl)
 
 pub returns-then-not-started-clause-comes : goal.returns-then-not-started-clause-comes
 returns-then-not-started-clause-comes g c =
     let old : Reach View g.row.W.Denot = reach c.args.parts.now c.args.port.now.wire.now c.args.port.now.events.now in
     let new : Reach View g.row.W.Denot = reach c.args.parts.now c.ask.new.port.wire.now c.ask.new.port.events.now in
-    launch_refused (outside g) (laws g) c.args.words (length c.args.parts.now.futures) c.args.self.now c.in_ok-answer.answer old new
+    launch_refused g.W.Wire.outside c.args.words (length c.args.parts.now.futures) c.args.self.now c.in_ok-answer.answer old new
     c.in_ok-answer.ensures.asks refl (sym c.is_started-started.ensures ∙ c.if-not-started.true)
 
 pub returns-in_err-closed-clause-comes : goal.returns-in_err-closed-clause-comes
@@ -42,7 +30,7 @@ returns-in_err-closed-clause-comes g c =
     let mid : Reach View g.row.W.Denot = reach c.args.parts.now c.ask.new.port.wire.now c.ask.new.port.events.now in
     let new : Reach View g.row.W.Denot = reach c.make_future.new.parts c.ask.new.port.wire.now c.ask.new.port.events.now in
     rw (p.1, p.2)
-    (launch_starved (outside g) (laws g) c.args.words (length c.args.parts.now.futures) c.args.self.now c.args.self.now c.in_ok-answer.answer
+    (launch_starved g.W.Wire.outside c.args.words (length c.args.parts.now.futures) c.args.self.now c.args.self.now c.in_ok-answer.answer
     old mid new c.in_ok-answer.ensures.asks refl refl)
 
 pub returns-in_err-push-clause-comes : goal.returns-in_err-push-clause-comes
@@ -52,7 +40,7 @@ returns-in_err-push-clause-comes g c =
     let mid : Reach View g.row.W.Denot = reach c.args.parts.now c.ask.new.port.wire.now c.ask.new.port.events.now in
     let new : Reach View g.row.W.Denot = reach c.make_future.new.parts c.ask.new.port.wire.now c.ask.new.port.events.now in
     rw (p.1, p.2)
-    (launch_starved (outside g) (laws g) c.args.words (length c.args.parts.now.futures) c.args.self.now c.push.new.self c.in_ok-answer.answer
+    (launch_starved g.W.Wire.outside c.args.words (length c.args.parts.now.futures) c.args.self.now c.push.new.self c.in_ok-answer.answer
     old mid new c.in_ok-answer.ensures.asks refl refl)
 
 pushed : (g : Over) (c : goal.In_ok-push g) → c.push.new.self
@@ -66,7 +54,7 @@ returns-clause-comes g c =
     let old : Reach View g.row.W.Denot = reach c.args.parts.now c.args.port.now.wire.now c.args.port.now.events.now in
     let mid : Reach View g.row.W.Denot = reach c.args.parts.now c.ask.new.port.wire.now c.ask.new.port.events.now in
     let new : Reach View g.row.W.Denot = reach c.make_future.new.parts c.ask.new.port.wire.now c.ask.new.port.events.now in
-    launch_started (outside g) (laws g) c.args.words (length c.args.parts.now.futures) c.args.self.now c.next_id-id.result c.push.new.self
+    launch_started g.W.Wire.outside c.args.words (length c.args.parts.now.futures) c.args.self.now c.next_id-id.result c.push.new.self
     c.in_ok-answer.answer old mid new c.in_ok-answer.ensures.asks refl (sym c.is_started-started.ensures ∙ c.if-not-started.false)
     c.in_ok-closed.ensures.after refl c.next_id-id.ensures (pushed g c)
 

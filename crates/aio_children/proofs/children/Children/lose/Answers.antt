@@ -1,26 +1,13 @@
 use Rattle.std.proofs.Common.{Ok, slice_set, sym, subst}
 use Rattle.model_stream.specs.Children.{lose_child}
 use Rattle.model_stream.specs.Streams.{its_children, on_one}
-use Rattle.aio_exchange.specs.Outside.{IsOutside, Outside, outside_of}
 use Rattle.law_doing.specs.Follows.{Reach, reach}
 use Rattle.aio_task.specs.View.{View}
 use Rattle.aio_children.specs.Kept.{Kept}
 use Rattle.aio_children.specs.Owned.{OwnsChildren}
 use Rattle.aio_children.specs.Standing.{Comes}
 use Rattle.aio_children.proofs.Placing.{at_place, comes_absent, comes_placed, own_at, own_placed, past_place}
-use Rattle.aio_children.proofs.children.Children.lose.Given.{Over}
 use Rattle.aio_children.proofs.children.Children.lose.Goals as goal
-
-abbrev outside : (g : Over) → Outside g.row.W.Denot
-outside g = outside_of g.W.Wire.seen g.W.Wire.fails g.W.Wire.keeps g.W.Wire.quiet
-
-laws : (g : Over) → IsOutside (outside g)
-laws g = record {
-  keeps_same = g.met.W.Wire.keeps_same;
-  keeps_on = g.met.W.Wire.keeps_on;
-  quiet_same = g.met.W.Wire.quiet_same;
-  quiet_on = g.met.W.Wire.quiet_on;
-}
 
 pub returns-in_default-clause-comes : goal.returns-in_default-clause-comes
 returns-in_default-clause-comes g c =
@@ -28,9 +15,9 @@ returns-in_default-clause-comes g c =
     let i = c.self.inside in
     let before : Kept = record { children = i.children.items; most = i.most } in
     let nothing : Unit {0} = tt in
-    subst (λ (k : Kept). Comes {R = Unit {0}} (outside g) (on_one its_children c.args.id (lose_child c.args.id c.args.broken)) k before old old
+    subst (λ (k : Kept). Comes {R = Unit {0}} g.W.Wire.outside (on_one its_children c.args.id (lose_child c.args.id c.args.broken)) k before old old
     (Ok tt)) c.self.view_is
-    (comes_absent before c.args.id (past_place i.children.items c.args.id c.in_default.ensures.item.3) (outside g) (laws g)
+    (comes_absent before c.args.id (past_place i.children.items c.args.id c.in_default.ensures.item.3) g.W.Wire.outside
     (lose_child c.args.id c.args.broken) old nothing)
 
 pub lose-requires-clause-own : goal.lose-requires-clause-own
@@ -47,12 +34,12 @@ returns-clause-comes g c =
     let new : Reach View g.row.W.Denot = reach c.lose.new.parts c.lose.new.port.wire.now c.lose.new.port.events.now in
     let i = c.self.inside in
     let before : Kept = record { children = i.children.items; most = i.most } in
-    subst (λ (k : Kept). Comes (outside g) (on_one its_children c.args.id (lose_child c.args.id c.args.broken)) k
+    subst (λ (k : Kept). Comes g.W.Wire.outside (on_one its_children c.args.id (lose_child c.args.id c.args.broken)) k
     (record before { children = slice_set i.children.items c.args.id c.lose.new.self }) old new c.lose.result)
     c.self.view_is
     (comes_placed before c.args.id c.in-Some.child.now c.lose.new.self
     (at_place i.children.items c.args.id c.in-Some.child.now c.in-Some.ensures.item.3.0 c.in-Some.ensures.item.1)
-    (outside g) (laws g) (lose_child c.args.id c.args.broken) old new c.lose.result c.lose.ensures.follows)
+    g.W.Wire.outside (lose_child c.args.id c.args.broken) old new c.lose.result c.lose.ensures.follows)
 
 pub returns-clause-own : goal.returns-clause-own
 returns-clause-own g c =
@@ -62,5 +49,5 @@ returns-clause-own g c =
     let before : Kept = record { children = i.children.items; most = i.most } in
     own_placed before c.args.id c.in-Some.child.now c.lose.new.self
     (at_place i.children.items c.args.id c.in-Some.child.now c.in-Some.ensures.item.3.0 c.in-Some.ensures.item.1)
-    (outside g) (laws g) (lose_child c.args.id c.args.broken) old new c.lose.result c.lose.ensures.follows c.lose.ensures.own
+    g.W.Wire.outside (lose_child c.args.id c.args.broken) old new c.lose.result c.lose.ensures.follows c.lose.ensures.own
     (subst (OwnsChildren c.args.parts.now) (sym c.self.view_is) c.requires.own)

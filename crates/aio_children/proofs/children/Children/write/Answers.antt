@@ -2,34 +2,21 @@ use Rattle.std.proofs.Common.{Ok, slice_set, sym, subst}
 use Rattle.model_wire.specs.declared.event.Handed.TheVariants as to
 use Rattle.model_stream.specs.declared.answers.Wrote.TheVariants as wrote
 use Rattle.model_stream.specs.Requests.{write}
-use Rattle.aio_exchange.specs.Outside.{IsOutside, Outside, outside_of}
 use Rattle.law_doing.specs.Follows.{Reach, reach}
 use Rattle.aio_task.specs.View.{View}
 use Rattle.aio_children.specs.Kept.{Kept}
 use Rattle.aio_children.specs.Owned.{OwnsChildren}
 use Rattle.aio_children.specs.Standing.{Answers}
 use Rattle.aio_children.proofs.Placing.{at_place, own_written, past_place, writes_absent, writes_placed}
-use Rattle.aio_children.proofs.children.Children.write.Given.{Over}
 use Rattle.aio_children.proofs.children.Children.write.Goals as goal
-
-abbrev outside : (g : Over) → Outside g.row.W.Denot
-outside g = outside_of g.W.Wire.seen g.W.Wire.fails g.W.Wire.keeps g.W.Wire.quiet
-
-laws : (g : Over) → IsOutside (outside g)
-laws g = record {
-  keeps_same = g.met.W.Wire.keeps_same;
-  keeps_on = g.met.W.Wire.keeps_on;
-  quiet_same = g.met.W.Wire.quiet_same;
-  quiet_on = g.met.W.Wire.quiet_on;
-}
 
 pub returns-in_default-clause-comes : goal.returns-in_default-clause-comes
 returns-in_default-clause-comes g c =
     let old : Reach View g.row.W.Denot = reach c.args.parts.now c.args.port.now.wire.now c.args.port.now.events.now in
     let i = c.self.inside in
     let before : Kept = record { children = i.children.items; most = i.most } in
-    subst (λ (k : Kept). Answers (outside g) (write (to.Child c.args.id) c.args.piece.now) k before old old (Ok wrote.Done)) c.self.view_is
-    (writes_absent before c.args.id (past_place i.children.items c.args.id c.in_default.ensures.item.3) (outside g) (laws g) c.args.piece.now old)
+    subst (λ (k : Kept). Answers g.W.Wire.outside (write (to.Child c.args.id) c.args.piece.now) k before old old (Ok wrote.Done)) c.self.view_is
+    (writes_absent before c.args.id (past_place i.children.items c.args.id c.in_default.ensures.item.3) g.W.Wire.outside c.args.piece.now old)
 
 pub returns-clause-comes : goal.returns-clause-comes
 returns-clause-comes g c =
@@ -37,12 +24,12 @@ returns-clause-comes g c =
     let new : Reach View g.row.W.Denot = reach c.write.new.parts c.write.new.port.wire.now c.write.new.port.events.now in
     let i = c.self.inside in
     let before : Kept = record { children = i.children.items; most = i.most } in
-    subst (λ (k : Kept). Answers (outside g) (write (to.Child c.args.id) c.args.piece.now) k
+    subst (λ (k : Kept). Answers g.W.Wire.outside (write (to.Child c.args.id) c.args.piece.now) k
     (record before { children = slice_set i.children.items c.args.id c.write.new.self }) old new c.write.result)
     c.self.view_is
     (writes_placed before c.args.id c.in-Some.child.now c.write.new.self
     (at_place i.children.items c.args.id c.in-Some.child.now c.in-Some.ensures.item.3.0 c.in-Some.ensures.item.1)
-    (outside g) (laws g) c.args.piece.now old new c.write.result c.write.ensures.follows)
+    g.W.Wire.outside c.args.piece.now old new c.write.result c.write.ensures.follows)
 
 pub returns-clause-own : goal.returns-clause-own
 returns-clause-own g c =
@@ -52,5 +39,5 @@ returns-clause-own g c =
     let before : Kept = record { children = i.children.items; most = i.most } in
     own_written before c.args.id c.in-Some.child.now c.write.new.self
     (at_place i.children.items c.args.id c.in-Some.child.now c.in-Some.ensures.item.3.0 c.in-Some.ensures.item.1)
-    (outside g) (laws g) c.args.piece.now old new c.write.result c.write.ensures.follows c.write.ensures.own
+    g.W.Wire.outside c.args.piece.now old new c.write.result c.write.ensures.follows c.write.ensures.own
     (subst (OwnsChildren c.args.parts.now) (sym c.self.view_is) c.requires.own)

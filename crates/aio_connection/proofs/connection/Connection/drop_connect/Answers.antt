@@ -3,7 +3,6 @@ use Rattle.std.proofs.lemmas.Result.{err_from_is_err_and}
 use Rattle.model_wire.specs.declared.call.Call.TheVariants as call
 use Rattle.model_stream.specs.Connections.{close, unmade}
 use Rattle.model_stream.specs.Doing.{Ends}
-use Rattle.aio_exchange.specs.Outside.{IsOutside, Outside, outside_of}
 use Rattle.law_doing.specs.Follows.{Reach, reach}
 use Rattle.law_doing.proofs.Following.{follows_end, follows_starved}
 use Rattle.law_doing.proofs.Telling.{tells_follow}
@@ -12,19 +11,7 @@ use Rattle.aio_change.specs.Seen.{seen_changed}
 use Rattle.aio_change.proofs.AfterAsking.{asks_met, asks_on}
 use Rattle.aio_connection.proofs.Calling.{drop_closes, drops}
 use Rattle.aio_connection.proofs.Owning.{own_unmade}
-use Rattle.aio_connection.proofs.connection.Connection.drop_connect.Given.{Over}
 use Rattle.aio_connection.proofs.connection.Connection.drop_connect.Goals as goal
-
-abbrev outside : (g : Over) → Outside g.row.W.Denot
-outside g = outside_of g.W.Wire.seen g.W.Wire.fails g.W.Wire.keeps g.W.Wire.quiet
-
-laws : (g : Over) → IsOutside (outside g)
-laws g = record {
-  keeps_same = g.met.W.Wire.keeps_same;
-  keeps_on = g.met.W.Wire.keeps_on;
-  quiet_same = g.met.W.Wire.quiet_same;
-  quiet_on = g.met.W.Wire.quiet_on;
-}
 
 pub returns-in_err-ask-clause-follows : goal.returns-in_err-ask-clause-follows
 returns-in_err-ask-clause-follows g c =
@@ -32,19 +19,19 @@ returns-in_err-ask-clause-follows g c =
     let old : Reach View g.row.W.Denot = reach c.args.parts.now c.args.port.now.wire.now c.args.port.now.events.now in
     let new : Reach View g.row.W.Denot = reach c.args.parts.now c.ask.new.port.wire.now c.ask.new.port.events.now in
     rw (p.1, p.2)
-    (drops (outside g) (laws g) c.args.id c.args.self.now old new _
+    (drops g.W.Wire.outside c.args.id c.args.self.now old new _
     (ap is_some (sym c.making.ensures) ∙ sym c.is_some.ensures ∙ c.if-is_some.true)
-    (asks_met (outside g) (laws g) (call.Close c.args.id) (call.Close c.args.id) (λ came. Ends (unmade c.args.self.now)) refl c.in_err-ask.field-0.0
+    (asks_met g.W.Wire.outside (call.Close c.args.id) (call.Close c.args.id) (λ came. Ends (unmade c.args.self.now)) refl c.in_err-ask.field-0.0
     old new c.in_err-ask.ensures.asks refl))
 
 pub returns-then-is_some-clause-follows : goal.returns-then-is_some-clause-follows
 returns-then-is_some-clause-follows g c =
     let old : Reach View g.row.W.Denot = reach c.args.parts.now c.args.port.now.wire.now c.args.port.now.events.now in
     let new : Reach View g.row.W.Denot = reach c.args.parts.now c.ask.new.port.wire.now c.ask.new.port.events.now in
-    drops (outside g) (laws g) c.args.id c.args.self.now old new _ (ap is_some (sym c.making.ensures) ∙ sym c.is_some.ensures ∙ c.if-is_some.true)
-    (asks_on (outside g) (laws g) (call.Close c.args.id) (call.Close c.args.id) (λ came. Ends (unmade c.args.self.now)) refl c.in_ok-ask.field-0
+    drops g.W.Wire.outside c.args.id c.args.self.now old new _ (ap is_some (sym c.making.ensures) ∙ sym c.is_some.ensures ∙ c.if-is_some.true)
+    (asks_on g.W.Wire.outside (call.Close c.args.id) (call.Close c.args.id) (λ came. Ends (unmade c.args.self.now)) refl c.in_ok-ask.field-0
     old new new _ c.in_ok-ask.ensures.asks refl
-    (follows_end (outside g) (laws g) seen_changed (unmade c.args.self.now) c.unmake.new.self new c.unmake.ensures))
+    (follows_end g.W.Wire.outside seen_changed (unmade c.args.self.now) c.unmake.new.self new c.unmake.ensures))
 
 pub returns-then-is_some-clause-own : goal.returns-then-is_some-clause-own
 returns-then-is_some-clause-own g c =
@@ -56,14 +43,14 @@ returns-in_err-close-clause-follows g c =
     let old : Reach View g.row.W.Denot = reach c.args.parts.now c.args.port.now.wire.now c.args.port.now.events.now in
     let new : Reach View g.row.W.Denot = reach c.close.new.parts c.args.port.now.wire.now c.args.port.now.events.now in
     rw (p.1, p.2)
-    (drop_closes (outside g) (laws g) c.args.id c.args.self.now old new _
+    (drop_closes g.W.Wire.outside c.args.id c.args.self.now old new _
     (ap is_some (sym c.making.ensures) ∙ sym c.is_some.ensures ∙ c.if-is_some.false)
-    (follows_starved (outside g) (laws g) seen_changed (close c.args.id c.args.self.now) old new refl))
+    (follows_starved g.W.Wire.outside seen_changed (close c.args.id c.args.self.now) old new refl))
 
 pub returns-clause-follows : goal.returns-clause-follows
 returns-clause-follows g c =
     let old : Reach View g.row.W.Denot = reach c.args.parts.now c.args.port.now.wire.now c.args.port.now.events.now in
     let new : Reach View g.row.W.Denot = reach c.close.new.parts c.args.port.now.wire.now c.args.port.now.events.now in
-    drop_closes (outside g) (laws g) c.args.id c.args.self.now old new _
+    drop_closes g.W.Wire.outside c.args.id c.args.self.now old new _
     (ap is_some (sym c.making.ensures) ∙ sym c.is_some.ensures ∙ c.if-is_some.false)
-    (tells_follow seen_changed (outside g) (laws g) (close c.args.id c.args.self.now) old new c.close.new.self c.in_ok-close.ensures.tells refl)
+    (tells_follow seen_changed g.W.Wire.outside (close c.args.id c.args.self.now) old new c.close.new.self c.in_ok-close.ensures.tells refl)

@@ -4,7 +4,6 @@ use Rattle.model_wire.specs.declared.call.Call.TheVariants as call
 use Rattle.model_stream.specs.Connections.{down, unmade, connect_refused}
 use Rattle.model_stream.specs.Doing.{Ends, Settle}
 use Rattle.model_value.specs.declared.outcome.Outcome.TheVariants.{Failed}
-use Rattle.aio_exchange.specs.Outside.{IsOutside, Outside, outside_of}
 use Rattle.law_doing.specs.Follows.{Reach, reach}
 use Rattle.law_doing.proofs.Following.{follows_end, follows_starved}
 use Rattle.aio_task.specs.View.{View}
@@ -14,19 +13,7 @@ use Rattle.aio_change.proofs.AfterAsking.{asks_met, asks_on}
 use Rattle.aio_change.proofs.Owning.{own_changed}
 use Rattle.aio_connection.proofs.Calling.{down_now}
 use Rattle.aio_connection.proofs.Owning.{own_unmade}
-use Rattle.aio_connection.proofs.connection.Connection.fall.Given.{Over}
 use Rattle.aio_connection.proofs.connection.Connection.fall.Goals as goal
-
-abbrev outside : (g : Over) → Outside g.row.W.Denot
-outside g = outside_of g.W.Wire.seen g.W.Wire.fails g.W.Wire.keeps g.W.Wire.quiet
-
-laws : (g : Over) → IsOutside (outside g)
-laws g = record {
-  keeps_same = g.met.W.Wire.keeps_same;
-  keeps_on = g.met.W.Wire.keeps_on;
-  quiet_same = g.met.W.Wire.quiet_same;
-  quiet_on = g.met.W.Wire.quiet_on;
-}
 
 pub resolve-was_pending-requires-clause-no_task : goal.resolve-was_pending-requires-clause-no_task
 resolve-was_pending-requires-clause-no_task g c = subst (IsOwnIfAny c.args.parts.now) c.requires.making c.requires.own.making
@@ -35,7 +22,7 @@ pub returns-in_err-refused-clause-follows : goal.returns-in_err-refused-clause-f
 returns-in_err-refused-clause-follows g c =
     let p = err_from_is_err_and c.from_residual.result c.from_residual.ensures.1 in
     let at : Reach View g.row.W.Denot = reach c.args.parts.now c.args.port.now.wire.now c.args.port.now.events.now in
-    rw (p.1, p.2) (follows_starved (outside g) (laws g) seen_changed (down c.args.id c.args.self.now) at at refl)
+    rw (p.1, p.2) (follows_starved g.W.Wire.outside seen_changed (down c.args.id c.args.self.now) at at refl)
 
 pub returns-in_err-ask-clause-follows : goal.returns-in_err-ask-clause-follows
 returns-in_err-ask-clause-follows g c =
@@ -44,9 +31,9 @@ returns-in_err-ask-clause-follows g c =
     let mid : Reach View g.row.W.Denot = reach c.resolve-was_pending.new.self c.args.port.now.wire.now c.args.port.now.events.now in
     let new : Reach View g.row.W.Denot = reach c.resolve-was_pending.new.self c.ask.new.port.wire.now c.ask.new.port.events.now in
     rw (p.1, p.2)
-    (down_now (outside g) (laws g) c.args.id c.args.self.now c.args.on old mid new _ (sym c.requires.making)
+    (down_now g.W.Wire.outside c.args.id c.args.self.now c.args.on old mid new _ (sym c.requires.making)
     (c.resolve-was_pending.ensures.after ∙ ap (λ it. seen_changed (Settle c.args.on it) c.args.parts.now) c.in_ok-refused.ensures) refl
-    (asks_met (outside g) (laws g) (call.Close c.args.id) (call.Close c.args.id) (λ came. Ends (unmade c.args.self.now)) refl c.in_err-ask.field-0.0
+    (asks_met g.W.Wire.outside (call.Close c.args.id) (call.Close c.args.id) (λ came. Ends (unmade c.args.self.now)) refl c.in_err-ask.field-0.0
     mid new c.in_err-ask.ensures.asks refl))
 
 pub returns-clause-follows : goal.returns-clause-follows
@@ -54,11 +41,11 @@ returns-clause-follows g c =
     let old : Reach View g.row.W.Denot = reach c.args.parts.now c.args.port.now.wire.now c.args.port.now.events.now in
     let mid : Reach View g.row.W.Denot = reach c.resolve-was_pending.new.self c.args.port.now.wire.now c.args.port.now.events.now in
     let new : Reach View g.row.W.Denot = reach c.resolve-was_pending.new.self c.ask.new.port.wire.now c.ask.new.port.events.now in
-    down_now (outside g) (laws g) c.args.id c.args.self.now c.args.on old mid new _ (sym c.requires.making)
+    down_now g.W.Wire.outside c.args.id c.args.self.now c.args.on old mid new _ (sym c.requires.making)
     (c.resolve-was_pending.ensures.after ∙ ap (λ it. seen_changed (Settle c.args.on it) c.args.parts.now) c.in_ok-refused.ensures) refl
-    (asks_on (outside g) (laws g) (call.Close c.args.id) (call.Close c.args.id) (λ came. Ends (unmade c.args.self.now)) refl c.in_ok-ask.field-0
+    (asks_on g.W.Wire.outside (call.Close c.args.id) (call.Close c.args.id) (λ came. Ends (unmade c.args.self.now)) refl c.in_ok-ask.field-0
     mid new new _ c.in_ok-ask.ensures.asks refl
-    (follows_end (outside g) (laws g) seen_changed (unmade c.args.self.now) c.unmake.new.self new c.unmake.ensures))
+    (follows_end g.W.Wire.outside seen_changed (unmade c.args.self.now) c.unmake.new.self new c.unmake.ensures))
 
 pub returns-clause-own : goal.returns-clause-own
 returns-clause-own g c =

@@ -9,28 +9,18 @@ use Rattle.aio_core.proofs.kernel.Kernel.turn.Goals as goal
 pub invariant_of-self : goal.invariant_of-self
 invariant_of-self g c = record { alive = alive_ended g.X.Extra.added c.end.new.kept c.end.result c.args.self.now.body c.end.ensures.kept }
 
-pub returns-in-Some-clause-turned : goal.returns-in-Some-clause-turned
-returns-in-Some-clause-turned g c = λ none. not_both c.args.self.now.ended c.in-Some.ended none (sym c.take.ensures.value ∙ c.in-Some.is)
-
-pub returns-in-Some-clause-sound : goal.returns-in-Some-clause-sound
-returns-in-Some-clause-sound g c = λ past answers s h. turn_sound g.X.Extra.added past answers c.args.self.now s h
-
-pub returns-in-Some-clause-keeps : goal.returns-in-Some-clause-keeps
-returns-in-Some-clause-keeps g c = g.met.W.Wire.keeps_same c.args.wire.now
-
-pub returns-in-Some-clause-stays : goal.returns-in-Some-clause-stays
-returns-in-Some-clause-stays g c = (refl, omega arith)
-
-pub returns-in-Some-clause-kept : goal.returns-in-Some-clause-kept
-returns-in-Some-clause-kept g c = kept_end c.end.result c.end.new.kept c.end.ensures.kept
-
-pub returns-in-Some-clause-again : goal.returns-in-Some-clause-again
-returns-in-Some-clause-again g c =
-    if_some c.args.self.now.ended (λ it. Again it c.end.result) c.in-Some.ended (sym c.take.ensures.value ∙ c.in-Some.is) c.end.ensures.answer
-
-pub returns-in-Some-clause-still : goal.returns-in-Some-clause-still
-returns-in-Some-clause-still g c =
-    if_some c.args.self.now.ended (λ it. c.args.wire.now ≡ c.args.wire.now) c.in-Some.ended (sym c.take.ensures.value ∙ c.in-Some.is) refl
+pub returns-in-Some : goal.returns-in-Some
+returns-in-Some g c =
+    let it_ended = sym c.take.ensures.value ∙ c.in-Some.is in
+    record {
+      turned = λ none. not_both c.args.self.now.ended c.in-Some.ended none it_ended;
+      sound = λ past answers s h. turn_sound g.X.Extra.added past answers c.args.self.now s h;
+      keeps = g.W.Wire.outside.keeps_same c.args.wire.now;
+      stays = (refl, omega arith);
+      kept = kept_end c.end.result c.end.new.kept c.end.ensures.kept;
+      again = if_some c.args.self.now.ended (λ it. Again it c.end.result) c.in-Some.ended it_ended c.end.ensures.answer;
+      still = if_some c.args.self.now.ended (λ it. c.args.wire.now ≡ c.args.wire.now) c.in-Some.ended it_ended refl;
+    }
 
 -- ---- it had not
 pub turn-requires : goal.turn-requires
@@ -55,10 +45,8 @@ returns-in-Ok g c =
     record {
       turned = λ e. (
         c.in-Ok.went,
-        turned_up _ c.args.self.now _ c.keep.result c.in-Ok.went
-            (kept_goes c.in-Ok.went c.keep.result c.take.new.self c.keep.new.kept c.take.ensures.after c.keep.ensures)
-            c.in-Ok.ensures.comes c.in-Ok.ensures.stalls c.in-Ok.ensures.asked c.in-Ok.ensures.caused
-            c.in-Ok.ensures.starved c.in-Ok.ensures.quiet c.in-Ok.ensures.fails
+        turned_up g.W.Wire.outside c.args.wire.now c.turn.new.wire c.args.self.now _ c.keep.result c.in-Ok.went
+            (kept_goes c.in-Ok.went c.keep.result c.take.new.self c.keep.new.kept c.take.ensures.after c.keep.ensures) c.in-Ok.ensures
             (kept_again c.in-Ok.went c.keep.result c.take.new.self c.keep.new.kept c.take.ensures.after c.keep.ensures),
       );
       sound = λ past answers s h. turn_sound g.X.Extra.added past answers c.args.self.now s h;
@@ -76,10 +64,9 @@ returns-in-Err g c =
     record {
       turned = λ e. (
         said,
-        turned_up _ c.args.self.now _ c.keep-in-Err.result said
+        turned_up g.W.Wire.outside c.args.wire.now c.turn.new.wire c.args.self.now _ c.keep-in-Err.result said
             (kept_goes said c.keep-in-Err.result c.take.new.self c.keep-in-Err.new.kept c.take.ensures.after c.keep-in-Err.ensures)
-            c.in-Err.ensures.comes c.in-Err.ensures.stalls c.in-Err.ensures.asked c.in-Err.ensures.caused
-            c.in-Err.ensures.starved c.in-Err.ensures.quiet c.in-Err.ensures.fails
+            c.in-Err.ensures
             (kept_again said c.keep-in-Err.result c.take.new.self c.keep-in-Err.new.kept c.take.ensures.after c.keep-in-Err.ensures),
       );
       sound = λ past answers s h. turn_sound g.X.Extra.added past answers c.args.self.now s h;

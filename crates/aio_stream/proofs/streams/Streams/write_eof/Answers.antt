@@ -2,26 +2,13 @@ use Rattle.std.proofs.Common.{Ok, slice_set, sym, subst}
 use Rattle.std.proofs.lemmas.Result.{on_ok_weaker}
 use Rattle.model_stream.specs.Connections as connection
 use Rattle.model_stream.specs.Requests as requests
-use Rattle.aio_exchange.specs.Outside.{IsOutside, Outside, outside_of}
 use Rattle.law_doing.specs.Follows.{Reach, reach}
 use Rattle.aio_task.specs.View.{View}
 use Rattle.aio_stream.specs.Kept.{Kept, all_opened}
 use Rattle.aio_stream.specs.Owned.{OwnsStreams}
 use Rattle.aio_stream.specs.Standing.{Comes}
 use Rattle.aio_stream.proofs.Placing.{at_place, comes_absent, comes_placed, own_at, own_placed, past_place}
-use Rattle.aio_stream.proofs.streams.Streams.write_eof.Given.{Over}
 use Rattle.aio_stream.proofs.streams.Streams.write_eof.Goals as goal
-
-abbrev outside : (g : Over) → Outside g.row.W.Denot
-outside g = outside_of g.W.Wire.seen g.W.Wire.fails g.W.Wire.keeps g.W.Wire.quiet
-
-laws : (g : Over) → IsOutside (outside g)
-laws g = record {
-  keeps_same = g.met.W.Wire.keeps_same;
-  keeps_on = g.met.W.Wire.keeps_on;
-  quiet_same = g.met.W.Wire.quiet_same;
-  quiet_on = g.met.W.Wire.quiet_on;
-}
 
 pub returns-in_default-clause-comes : goal.returns-in_default-clause-comes
 returns-in_default-clause-comes g c =
@@ -29,8 +16,8 @@ returns-in_default-clause-comes g c =
     let i = c.self.inside in
     let before : Kept = record { servers = i.servers.items; connections = i.connections.items; opened = all_opened i.opened.items; most = i.most } in
     let nothing : Unit {0} = tt in
-    subst (λ (k : Kept). Comes {R = Unit {0}} (outside g) (requests.write_eof c.args.id) k before old old (Ok tt)) c.self.view_is
-    (comes_absent before c.args.id (past_place i.connections.items c.args.id c.in_default.ensures.item.3) (outside g) (laws g)
+    subst (λ (k : Kept). Comes {R = Unit {0}} g.W.Wire.outside (requests.write_eof c.args.id) k before old old (Ok tt)) c.self.view_is
+    (comes_absent before c.args.id (past_place i.connections.items c.args.id c.in_default.ensures.item.3) g.W.Wire.outside
     (connection.write_eof c.args.id) old nothing)
 
 pub returns-clause-comes : goal.returns-clause-comes
@@ -39,12 +26,12 @@ returns-clause-comes g c =
     let new : Reach View g.row.W.Denot = reach c.write_eof.new.parts c.write_eof.new.port.wire.now c.write_eof.new.port.events.now in
     let i = c.self.inside in
     let before : Kept = record { servers = i.servers.items; connections = i.connections.items; opened = all_opened i.opened.items; most = i.most } in
-    subst (λ (k : Kept). Comes (outside g) (requests.write_eof c.args.id) k
+    subst (λ (k : Kept). Comes g.W.Wire.outside (requests.write_eof c.args.id) k
     (record before { connections = slice_set i.connections.items c.args.id c.write_eof.new.self }) old new c.write_eof.result)
     c.self.view_is
     (comes_placed before c.args.id c.in-Some.connection.now c.write_eof.new.self
     (at_place i.connections.items c.args.id c.in-Some.connection.now c.in-Some.ensures.item.3.0 c.in-Some.ensures.item.1)
-    (outside g) (laws g) (connection.write_eof c.args.id) old new c.write_eof.result c.write_eof.ensures.follows)
+    g.W.Wire.outside (connection.write_eof c.args.id) old new c.write_eof.result c.write_eof.ensures.follows)
 
 pub returns-clause-own : goal.returns-clause-own
 returns-clause-own g c =
@@ -54,7 +41,7 @@ returns-clause-own g c =
     let before : Kept = record { servers = i.servers.items; connections = i.connections.items; opened = all_opened i.opened.items; most = i.most } in
     own_placed before c.args.id c.in-Some.connection.now c.write_eof.new.self
     (at_place i.connections.items c.args.id c.in-Some.connection.now c.in-Some.ensures.item.3.0 c.in-Some.ensures.item.1)
-    (outside g) (laws g) (connection.write_eof c.args.id) old new c.write_eof.result c.write_eof.ensures.follows (on_ok_weaker c.write_eof.result
+    g.W.Wire.outside (connection.write_eof c.args.id) old new c.write_eof.result c.write_eof.ensures.follows (on_ok_weaker c.write_eof.result
     (λ keeps. keeps (own_at c.args.parts.now i.connections.items c.args.id c.in-Some.connection.now
     (at_place i.connections.items c.args.id c.in-Some.connection.now c.in-Some.ensures.item.3.0 c.in-Some.ensures.item.1)
     (subst (OwnsStreams c.args.parts.now) (sym c.self.view_is) c.requires.own))) c.write_eof.ensures.own)

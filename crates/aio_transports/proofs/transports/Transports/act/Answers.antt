@@ -3,7 +3,6 @@ use Rattle.std.proofs.lemmas.Result.{err_from_is_err_and}
 use Rattle.model_value.specs.declared.action.Action.TheVariants as action
 use Rattle.model_value.specs.Action.{Action}
 use Rattle.model_stream.specs.Streams.{act}
-use Rattle.aio_exchange.specs.Outside.{IsOutside, Outside, outside_of}
 use Rattle.law_doing.specs.Follows.{Reach, reach}
 use Rattle.aio_task.specs.View.{View}
 use Rattle.aio_listener.specs.Acts.{is_of_child}
@@ -14,19 +13,7 @@ use Rattle.aio_transports.proofs.Acts.{or_else, starved_comes, told_comes}
 use Rattle.aio_transports.proofs.Lifting.{comes_on_children, comes_on_streams, own_on_children, own_on_streams}
 use Rattle.aio_transports.proofs.Lifting.{own_told_children, told_on_children}
 use Rattle.aio_transports.proofs.Lasting.{act_keeps}
-use Rattle.aio_transports.proofs.transports.Transports.act.Given.{Over}
 use Rattle.aio_transports.proofs.transports.Transports.act.Goals as goal
-
-abbrev outside : (g : Over) → Outside g.row.W.Denot
-outside g = outside_of g.W.Wire.seen g.W.Wire.fails g.W.Wire.keeps g.W.Wire.quiet
-
-laws : (g : Over) → IsOutside (outside g)
-laws g = record {
-  keeps_same = g.met.W.Wire.keeps_same;
-  keeps_on = g.met.W.Wire.keeps_on;
-  quiet_same = g.met.W.Wire.quiet_same;
-  quiet_on = g.met.W.Wire.quiet_on;
-}
 
 pub writable-requires-clause-own : goal.writable-requires-clause-own
 writable-requires-clause-own g c =
@@ -38,11 +25,11 @@ returns-in-WritableChild-clause-comes g c =
     let new : Reach View g.row.W.Denot = reach c.writable.new.parts c.writable.new.port.wire.now c.writable.new.port.events.now in
     let i = c.self.inside in
     let next = length c.args.parts.now.futures in
-    subst (λ (it : Action). Comes (outside g) (act next c.args.returned it) c.args.self.now
+    subst (λ (it : Action). Comes g.W.Wire.outside (act next c.args.returned it) c.args.self.now
     (kept_all i.streams c.writable.new.self i.remaining) old new c.writable.result) (sym c.in-WritableChild.is)
-    (subst (λ (k : Kept). Comes (outside g) (act next c.args.returned (action.WritableChild c.in-WritableChild.id)) k
+    (subst (λ (k : Kept). Comes g.W.Wire.outside (act next c.args.returned (action.WritableChild c.in-WritableChild.id)) k
     (kept_all i.streams c.writable.new.self i.remaining) old new c.writable.result) c.self.view_is
-    (comes_on_children (outside g) i.streams i.children i.remaining old new c.writable.result (act next c.args.returned
+    (comes_on_children g.W.Wire.outside i.streams i.children i.remaining old new c.writable.result (act next c.args.returned
     (action.WritableChild c.in-WritableChild.id))
     (act_keeps next c.args.returned (action.WritableChild c.in-WritableChild.id)) c.writable.new.self c.writable.ensures.comes))
 
@@ -52,7 +39,7 @@ returns-in-WritableChild-clause-own g c =
     let new : Reach View g.row.W.Denot = reach c.writable.new.parts c.writable.new.port.wire.now c.writable.new.port.events.now in
     let i = c.self.inside in
     let next = length c.args.parts.now.futures in
-    own_on_children (outside g) i.streams i.children i.remaining old new c.writable.result (act next c.args.returned
+    own_on_children g.W.Wire.outside i.streams i.children i.remaining old new c.writable.result (act next c.args.returned
     (action.WritableChild c.in-WritableChild.id))
     (act_keeps next c.args.returned
     (action.WritableChild c.in-WritableChild.id)) c.writable.new.self c.writable.ensures.comes c.writable.ensures.own
@@ -68,13 +55,13 @@ returns-in-LostChild-clause-comes g c =
     let new : Reach View g.row.W.Denot = reach c.lose.new.parts c.lose.new.port.wire.now c.lose.new.port.events.now in
     let i = c.self.inside in
     let next = length c.args.parts.now.futures in
-    subst (λ (it : Action). Comes (outside g) (act next c.args.returned it) c.args.self.now
+    subst (λ (it : Action). Comes g.W.Wire.outside (act next c.args.returned it) c.args.self.now
     (kept_all i.streams c.lose.new.self i.remaining) old new c.lose.result)
     (sym c.in-LostChild.is)
-    (subst (λ (k : Kept). Comes (outside g) (act next c.args.returned
+    (subst (λ (k : Kept). Comes g.W.Wire.outside (act next c.args.returned
     (action.LostChild c.in-LostChild.child c.in-LostChild.broken)) k
     (kept_all i.streams c.lose.new.self i.remaining) old new c.lose.result) c.self.view_is
-    (comes_on_children (outside g) i.streams i.children i.remaining old new c.lose.result
+    (comes_on_children g.W.Wire.outside i.streams i.children i.remaining old new c.lose.result
     (act next c.args.returned (action.LostChild c.in-LostChild.child c.in-LostChild.broken))
     (act_keeps next c.args.returned
     (action.LostChild c.in-LostChild.child c.in-LostChild.broken)) c.lose.new.self c.lose.ensures.comes))
@@ -85,7 +72,7 @@ returns-in-LostChild-clause-own g c =
     let new : Reach View g.row.W.Denot = reach c.lose.new.parts c.lose.new.port.wire.now c.lose.new.port.events.now in
     let i = c.self.inside in
     let next = length c.args.parts.now.futures in
-    own_on_children (outside g) i.streams i.children i.remaining old new c.lose.result
+    own_on_children g.W.Wire.outside i.streams i.children i.remaining old new c.lose.result
     (act next c.args.returned (action.LostChild c.in-LostChild.child c.in-LostChild.broken))
     (act_keeps next c.args.returned
     (action.LostChild c.in-LostChild.child c.in-LostChild.broken)) c.lose.new.self c.lose.ensures.comes c.lose.ensures.own
@@ -103,7 +90,7 @@ returns-in_err-tell-in-ChildItem-clause-comes g c =
     let i = c.self.inside in
     let next = length c.args.parts.now.futures in
     rw (p.1, p.2)
-    (starved_comes (outside g) (laws g) (act next c.args.returned c.args.action.now) c.args.self.now
+    (starved_comes g.W.Wire.outside (act next c.args.returned c.args.action.now) c.args.self.now
     (kept_all i.streams c.tell.new.self i.remaining) old new refl)
 
 pub returns-in_ok-tell-in-ChildItem-clause-comes : goal.returns-in_ok-tell-in-ChildItem-clause-comes
@@ -113,13 +100,13 @@ returns-in_ok-tell-in-ChildItem-clause-comes g c =
     let i = c.self.inside in
     let next = length c.args.parts.now.futures in
     let fine : Result (Unit {0}) (Unit {0}) = Ok tt in
-    subst (λ (it : Action). Comes {R = Unit {0}} (outside g) (act next c.args.returned it) c.args.self.now
+    subst (λ (it : Action). Comes {R = Unit {0}} g.W.Wire.outside (act next c.args.returned it) c.args.self.now
     (kept_all i.streams c.tell.new.self i.remaining) old new
     (Ok tt)) (sym c.in-ChildItem.is)
-    (subst (λ (k : Kept). Comes {R = Unit {0}} (outside g) (act next c.args.returned
+    (subst (λ (k : Kept). Comes {R = Unit {0}} g.W.Wire.outside (act next c.args.returned
     (action.ChildItem c.in-ChildItem.child c.in-ChildItem.item)) k
     (kept_all i.streams c.tell.new.self i.remaining) old new (Ok tt)) c.self.view_is
-    (told_comes (outside g) (laws g) (act next c.args.returned (action.ChildItem c.in-ChildItem.child c.in-ChildItem.item))
+    (told_comes g.W.Wire.outside (act next c.args.returned (action.ChildItem c.in-ChildItem.child c.in-ChildItem.item))
     (kept_all i.streams i.children i.remaining) (kept_all i.streams c.tell.new.self i.remaining) old new refl
     (told_on_children i.streams i.children i.remaining c.args.parts.now c.tell.new.parts
     (act next c.args.returned (action.ChildItem c.in-ChildItem.child c.in-ChildItem.item))
@@ -170,9 +157,9 @@ returns-in-ReadableServer-clause-comes g c =
     let new : Reach View g.row.W.Denot = reach c.act.new.parts c.act.new.port.wire.now c.act.new.port.events.now in
     let i = c.self.inside in
     let next = length c.args.parts.now.futures in
-    subst (λ (k : Kept). Comes (outside g) (act next c.args.returned c.args.action.now) k
+    subst (λ (k : Kept). Comes g.W.Wire.outside (act next c.args.returned c.args.action.now) k
     (kept_all c.act.new.streams i.children i.remaining) old new c.act.result) c.self.view_is
-    (comes_on_streams (outside g) i.streams i.children i.remaining old new c.act.result
+    (comes_on_streams g.W.Wire.outside i.streams i.children i.remaining old new c.act.result
     (act next c.args.returned c.args.action.now)
     (act_keeps next c.args.returned c.args.action.now) c.act.new.streams c.act.ensures.comes)
 
@@ -182,6 +169,6 @@ returns-in-ReadableServer-clause-own g c =
     let new : Reach View g.row.W.Denot = reach c.act.new.parts c.act.new.port.wire.now c.act.new.port.events.now in
     let i = c.self.inside in
     let next = length c.args.parts.now.futures in
-    own_on_streams (outside g) i.streams i.children i.remaining old new c.act.result (act next c.args.returned c.args.action.now)
+    own_on_streams g.W.Wire.outside i.streams i.children i.remaining old new c.act.result (act next c.args.returned c.args.action.now)
     (act_keeps next c.args.returned c.args.action.now) c.act.new.streams c.act.ensures.comes c.act.ensures.own
     (subst (OwnsTransports c.args.parts.now) (sym c.self.view_is) c.requires.own)

@@ -1,6 +1,5 @@
 use Rattle.std.proofs.Common.{◌<◌, ◌^◌, length, sym, subst}
 use Rattle.model_stream.specs.Streams.{connect}
-use Rattle.aio_exchange.specs.Outside.{Outside, outside_of}
 use Rattle.law_doing.specs.Follows.{Reach, reach}
 use Rattle.aio_task.specs.View.{View}
 use Rattle.aio_transports.specs.Kept.{Kept, kept_all}
@@ -8,11 +7,7 @@ use Rattle.aio_transports.specs.Owned.{OwnsTransports}
 use Rattle.aio_transports.specs.Standing.{Answers}
 use Rattle.aio_transports.proofs.Lifting.{answers_on_streams, own_answers_streams}
 use Rattle.aio_transports.proofs.Lasting.{connect_keeps}
-use Rattle.aio_transports.proofs.transports.Transports.connect.Given.{Over}
 use Rattle.aio_transports.proofs.transports.Transports.connect.Goals as goal
-
-abbrev outside : (g : Over) → Outside g.row.W.Denot
-outside g = outside_of g.W.Wire.seen g.W.Wire.fails g.W.Wire.keeps g.W.Wire.quiet
 
 pub connect-requires-clause-own : goal.connect-requires-clause-own
 connect-requires-clause-own g c =
@@ -28,9 +23,9 @@ returns-clause-comes g c =
     let new : Reach View g.row.W.Denot = reach c.connect.new.parts c.connect.new.port.wire.now c.connect.new.port.events.now in
     let i = c.self.inside in
     let next = length c.args.parts.now.futures in
-    subst (λ (k : Kept). Answers (outside g) (connect c.args.number next) k
+    subst (λ (k : Kept). Answers g.W.Wire.outside (connect c.args.number next) k
     (kept_all c.connect.new.streams i.children i.remaining) old new c.connect.result) c.self.view_is
-    (answers_on_streams (outside g) i.streams i.children i.remaining old new c.connect.result (connect c.args.number next)
+    (answers_on_streams g.W.Wire.outside i.streams i.children i.remaining old new c.connect.result (connect c.args.number next)
     (connect_keeps c.args.number next) c.connect.new.streams
     c.connect.ensures.comes)
 
@@ -40,6 +35,6 @@ returns-clause-own g c =
     let new : Reach View g.row.W.Denot = reach c.connect.new.parts c.connect.new.port.wire.now c.connect.new.port.events.now in
     let i = c.self.inside in
     let next = length c.args.parts.now.futures in
-    own_answers_streams (outside g) i.streams i.children i.remaining old new c.connect.result (connect c.args.number next)
+    own_answers_streams g.W.Wire.outside i.streams i.children i.remaining old new c.connect.result (connect c.args.number next)
     (connect_keeps c.args.number next) c.connect.new.streams
     c.connect.ensures.comes c.connect.ensures.own (subst (OwnsTransports c.args.parts.now) (sym c.self.view_is) c.requires.own)

@@ -2,26 +2,13 @@ use Rattle.std.proofs.Common.{◌<◌, ◌^◌, Ok, Err, length, sym, subst}
 use Rattle.std.proofs.lemmas.Result.{err_from_is_err_and}
 use Rattle.model_stream.specs.Streams.{launch}
 use Rattle.aio_wire.specs.declared.stop.Stop.TheVariants as stop
-use Rattle.aio_exchange.specs.Outside.{IsOutside, Outside, outside_of}
 use Rattle.law_doing.specs.Follows.{Reach, reach}
 use Rattle.aio_task.specs.View.{View}
 use Rattle.aio_transports.specs.Kept.{Kept, kept_all}
 use Rattle.aio_transports.specs.Owned.{OwnsTransports}
 use Rattle.aio_transports.specs.Standing.{Answers}
 use Rattle.aio_transports.proofs.Launching.{launch_goes, launch_starves, launch_stops, own_launched}
-use Rattle.aio_transports.proofs.transports.Transports.launch.Given.{Over}
 use Rattle.aio_transports.proofs.transports.Transports.launch.Goals as goal
-
-abbrev outside : (g : Over) → Outside g.row.W.Denot
-outside g = outside_of g.W.Wire.seen g.W.Wire.fails g.W.Wire.keeps g.W.Wire.quiet
-
-laws : (g : Over) → IsOutside (outside g)
-laws g = record {
-  keeps_same = g.met.W.Wire.keeps_same;
-  keeps_on = g.met.W.Wire.keeps_on;
-  quiet_same = g.met.W.Wire.quiet_same;
-  quiet_on = g.met.W.Wire.quiet_on;
-}
 
 pub launch-requires-clause-own : goal.launch-requires-clause-own
 launch-requires-clause-own g c =
@@ -39,11 +26,11 @@ returns-in_err-launched-clause-comes g c =
     let i = c.self.inside in
     let next = length c.args.parts.now.futures in
     rw (p.1, p.2)
-    (subst (λ (k : Kept). Answers (outside g) (launch c.args.words next) k
+    (subst (λ (k : Kept). Answers g.W.Wire.outside (launch c.args.words next) k
     (kept_all i.streams c.launch.new.self i.remaining) old new
     (Err c.in_err-launched.field-0.0)) c.self.view_is
-    (launch_stops (outside g)
-    (laws g) c.args.words next i.streams i.children i.remaining c.launch.new.self old new i.streams c.in_err-launched.field-0.0
+    (launch_stops g.W.Wire.outside
+    c.args.words next i.streams i.children i.remaining c.launch.new.self old new i.streams c.in_err-launched.field-0.0
     c.in_err-launched.ensures.comes))
 
 pub returns-in_err-put_in_order-clause-comes : goal.returns-in_err-put_in_order-clause-comes
@@ -54,11 +41,11 @@ returns-in_err-put_in_order-clause-comes g c =
     let i = c.self.inside in
     let next = length c.args.parts.now.futures in
     rw (p.1, p.2)
-    (subst (λ (k : Kept). Answers (outside g) (launch c.args.words next) k
+    (subst (λ (k : Kept). Answers g.W.Wire.outside (launch c.args.words next) k
     (kept_all c.put_in_order.new.streams c.launch.new.self i.remaining) old new
     (Err stop.Memory)) c.self.view_is
-    (launch_starves (outside g)
-    (laws g) c.args.words next i.streams i.children i.remaining c.launch.new.self old new c.in_ok-launched.launched
+    (launch_starves g.W.Wire.outside
+    c.args.words next i.streams i.children i.remaining c.launch.new.self old new c.in_ok-launched.launched
     c.put_in_order.new.streams c.in_ok-launched.ensures.comes))
 
 pub returns-clause-comes : goal.returns-clause-comes
@@ -67,11 +54,11 @@ returns-clause-comes g c =
     let new : Reach View g.row.W.Denot = reach c.launch.new.parts c.launch.new.port.wire.now c.launch.new.port.events.now in
     let i = c.self.inside in
     let next = length c.args.parts.now.futures in
-    subst (λ (k : Kept). Answers (outside g) (launch c.args.words next) k
+    subst (λ (k : Kept). Answers g.W.Wire.outside (launch c.args.words next) k
     (kept_all c.put_in_order.new.streams c.launch.new.self i.remaining) old new
     (Ok c.in_ok-launched.launched)) c.self.view_is
-    (launch_goes (outside g)
-    (laws g) c.args.words next i.streams i.children i.remaining c.launch.new.self old new c.in_ok-launched.launched c.put_in_order.new.streams
+    (launch_goes g.W.Wire.outside
+    c.args.words next i.streams i.children i.remaining c.launch.new.self old new c.in_ok-launched.launched c.put_in_order.new.streams
     c.in_ok-put_in_order.ensures
     c.in_ok-launched.ensures.comes)
 
@@ -81,8 +68,8 @@ returns-clause-own g c =
     let new : Reach View g.row.W.Denot = reach c.launch.new.parts c.launch.new.port.wire.now c.launch.new.port.events.now in
     let i = c.self.inside in
     let next = length c.args.parts.now.futures in
-    own_launched (outside g)
-    (laws g) c.args.words next i.streams i.children i.remaining c.launch.new.self old new c.in_ok-launched.launched c.put_in_order.new.streams
+    own_launched g.W.Wire.outside
+    c.args.words next i.streams i.children i.remaining c.launch.new.self old new c.in_ok-launched.launched c.put_in_order.new.streams
     c.in_ok-put_in_order.ensures
     c.in_ok-launched.ensures.comes c.in_ok-launched.ensures.own (subst (OwnsTransports c.args.parts.now)
     (sym c.self.view_is) c.requires.own)

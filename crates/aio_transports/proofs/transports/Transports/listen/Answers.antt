@@ -1,6 +1,5 @@
 use Rattle.std.proofs.Common.{◌<◌, ◌^◌, length, OnOk, sym, subst}
 use Rattle.model_stream.specs.Streams.{listen}
-use Rattle.aio_exchange.specs.Outside.{Outside, outside_of}
 use Rattle.law_doing.specs.Follows.{Reach, reach}
 use Rattle.aio_task.specs.View.{View}
 use Rattle.aio_transports.specs.Kept.{Kept, kept_all}
@@ -8,20 +7,16 @@ use Rattle.aio_transports.specs.Owned.{OwnsTransports}
 use Rattle.aio_transports.specs.Standing.{Answers}
 use Rattle.aio_transports.proofs.Lifting.{answers_on_streams, own_alone}
 use Rattle.aio_transports.proofs.Lasting.{listen_keeps}
-use Rattle.aio_transports.proofs.transports.Transports.listen.Given.{Over}
 use Rattle.aio_transports.proofs.transports.Transports.listen.Goals as goal
-
-abbrev outside : (g : Over) → Outside g.row.W.Denot
-outside g = outside_of g.W.Wire.seen g.W.Wire.fails g.W.Wire.keeps g.W.Wire.quiet
 
 pub returns-clause-comes : goal.returns-clause-comes
 returns-clause-comes g c v =
     let old : Reach View g.row.W.Denot = reach v c.args.port.now.wire.now c.args.port.now.events.now in
     let new : Reach View g.row.W.Denot = reach v c.listen.new.port.wire.now c.listen.new.port.events.now in
     let i = c.self.inside in
-    subst (λ (k : Kept). Answers (outside g) (listen c.args.number c.args.handler) k
+    subst (λ (k : Kept). Answers g.W.Wire.outside (listen c.args.number c.args.handler) k
     (kept_all c.listen.new.streams i.children i.remaining) old new c.listen.result) c.self.view_is
-    (answers_on_streams (outside g) i.streams i.children i.remaining old new c.listen.result (listen c.args.number c.args.handler)
+    (answers_on_streams g.W.Wire.outside i.streams i.children i.remaining old new c.listen.result (listen c.args.number c.args.handler)
     (listen_keeps c.args.number c.args.handler) c.listen.new.streams (c.listen.ensures.comes v))
 
 pub returns-clause-own : goal.returns-clause-own

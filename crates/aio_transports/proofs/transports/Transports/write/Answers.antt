@@ -2,7 +2,6 @@ use Rattle.std.proofs.Common.{sym, subst}
 use Rattle.model_wire.specs.declared.event.Handed.{Handed}
 use Rattle.model_wire.specs.declared.event.Handed.TheVariants as to
 use Rattle.model_stream.specs.Requests.{write}
-use Rattle.aio_exchange.specs.Outside.{Outside, outside_of}
 use Rattle.law_doing.specs.Follows.{Reach, reach}
 use Rattle.aio_task.specs.View.{View}
 use Rattle.aio_transports.specs.Kept.{Kept, kept_all}
@@ -10,11 +9,7 @@ use Rattle.aio_transports.specs.Owned.{OwnsTransports}
 use Rattle.aio_transports.specs.Standing.{Answers}
 use Rattle.aio_transports.proofs.Lifting.{answers_on_streams, answers_on_children, own_answers_streams, own_answers_children}
 use Rattle.aio_transports.proofs.Lasting.{write_keeps}
-use Rattle.aio_transports.proofs.transports.Transports.write.Given.{Over}
 use Rattle.aio_transports.proofs.transports.Transports.write.Goals as goal
-
-abbrev outside : (g : Over) → Outside g.row.W.Denot
-outside g = outside_of g.W.Wire.seen g.W.Wire.fails g.W.Wire.keeps g.W.Wire.quiet
 
 pub write-requires-clause-own : goal.write-requires-clause-own
 write-requires-clause-own g c =
@@ -25,12 +20,12 @@ returns-in-Conn-clause-comes g c =
     let old : Reach View g.row.W.Denot = reach c.args.parts.now c.args.port.now.wire.now c.args.port.now.events.now in
     let new : Reach View g.row.W.Denot = reach c.write.new.parts c.write.new.port.wire.now c.write.new.port.events.now in
     let i = c.self.inside in
-    subst (λ (whom : Handed). Answers (outside g) (write whom c.args.piece.now) c.args.self.now
+    subst (λ (whom : Handed). Answers g.W.Wire.outside (write whom c.args.piece.now) c.args.self.now
     (kept_all c.write.new.self i.children i.remaining) old new c.write.result)
     (sym c.in-Conn.is)
-    (subst (λ (k : Kept). Answers (outside g) (write (to.Conn c.in-Conn.id) c.args.piece.now) k
+    (subst (λ (k : Kept). Answers g.W.Wire.outside (write (to.Conn c.in-Conn.id) c.args.piece.now) k
     (kept_all c.write.new.self i.children i.remaining) old new c.write.result) c.self.view_is
-    (answers_on_streams (outside g) i.streams i.children i.remaining old new c.write.result (write
+    (answers_on_streams g.W.Wire.outside i.streams i.children i.remaining old new c.write.result (write
     (to.Conn c.in-Conn.id) c.args.piece.now)
     (write_keeps c.args.piece.now (to.Conn c.in-Conn.id)) c.write.new.self
     c.write.ensures.comes))
@@ -40,7 +35,7 @@ returns-in-Conn-clause-own g c =
     let old : Reach View g.row.W.Denot = reach c.args.parts.now c.args.port.now.wire.now c.args.port.now.events.now in
     let new : Reach View g.row.W.Denot = reach c.write.new.parts c.write.new.port.wire.now c.write.new.port.events.now in
     let i = c.self.inside in
-    own_answers_streams (outside g) i.streams i.children i.remaining old new c.write.result (write
+    own_answers_streams g.W.Wire.outside i.streams i.children i.remaining old new c.write.result (write
     (to.Conn c.in-Conn.id) c.args.piece.now)
     (write_keeps c.args.piece.now (to.Conn c.in-Conn.id)) c.write.new.self
     c.write.ensures.comes c.write.ensures.own (subst (OwnsTransports c.args.parts.now) (sym c.self.view_is) c.requires.own)
@@ -54,12 +49,12 @@ returns-in-Child-clause-comes g c =
     let old : Reach View g.row.W.Denot = reach c.args.parts.now c.args.port.now.wire.now c.args.port.now.events.now in
     let new : Reach View g.row.W.Denot = reach c.write-in-Child.new.parts c.write-in-Child.new.port.wire.now c.write-in-Child.new.port.events.now in
     let i = c.self.inside in
-    subst (λ (whom : Handed). Answers (outside g) (write whom c.args.piece.now) c.args.self.now
+    subst (λ (whom : Handed). Answers g.W.Wire.outside (write whom c.args.piece.now) c.args.self.now
     (kept_all i.streams c.write-in-Child.new.self i.remaining) old new c.write-in-Child.result)
     (sym c.in-Child.is)
-    (subst (λ (k : Kept). Answers (outside g) (write (to.Child c.in-Child.id) c.args.piece.now) k
+    (subst (λ (k : Kept). Answers g.W.Wire.outside (write (to.Child c.in-Child.id) c.args.piece.now) k
     (kept_all i.streams c.write-in-Child.new.self i.remaining) old new c.write-in-Child.result) c.self.view_is
-    (answers_on_children (outside g) i.streams i.children i.remaining old new c.write-in-Child.result (write
+    (answers_on_children g.W.Wire.outside i.streams i.children i.remaining old new c.write-in-Child.result (write
     (to.Child c.in-Child.id) c.args.piece.now)
     (write_keeps c.args.piece.now (to.Child c.in-Child.id)) c.write-in-Child.new.self
     c.write-in-Child.ensures.comes))
@@ -69,7 +64,7 @@ returns-in-Child-clause-own g c =
     let old : Reach View g.row.W.Denot = reach c.args.parts.now c.args.port.now.wire.now c.args.port.now.events.now in
     let new : Reach View g.row.W.Denot = reach c.write-in-Child.new.parts c.write-in-Child.new.port.wire.now c.write-in-Child.new.port.events.now in
     let i = c.self.inside in
-    own_answers_children (outside g) i.streams i.children i.remaining old new c.write-in-Child.result (write
+    own_answers_children g.W.Wire.outside i.streams i.children i.remaining old new c.write-in-Child.result (write
     (to.Child c.in-Child.id) c.args.piece.now)
     (write_keeps c.args.piece.now (to.Child c.in-Child.id)) c.write-in-Child.new.self
     c.write-in-Child.ensures.comes c.write-in-Child.ensures.own (subst (OwnsTransports c.args.parts.now)
