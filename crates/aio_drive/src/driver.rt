@@ -1,9 +1,9 @@
 //! The one loop that holds kernel, wire and sink.
-ghost use Rattle.std.specs.Prelude.{◌≡◌, ◌≤◌, None};
+ghost use Rattle.std.specs.Prelude.{◌≡◌, ◌≤◌};
 ghost use Rattle.std.specs.Option.{option_copied};
 ghost use Rattle.model_tree.specs.Syntax.{Program};
 ghost use Rattle.aio_extra.specs.Nothing.{nothing_added};
-ghost use Rattle.aio_core.specs.Turned.{Begins, ended};
+ghost use Rattle.aio_core.specs.Turned.{Begins};
 ghost use Rattle.aio_drive.specs.Drive.{Drives, DrivesRecorded, LastOf, WritesLimit};
 ghost use Rattle.aio_drive.specs.Recording.{TellsNext};
 
