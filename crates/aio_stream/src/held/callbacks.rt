@@ -1,7 +1,6 @@
 //! Callbacks of one.
 ghost use Rattle.std.specs.Prelude.{◌≡◌, None, OnOk};
 ghost use Rattle.model_stream.specs.Connections as plain;
-ghost use Rattle.aio_exchange.specs.Outside.{outside_of};
 ghost use Rattle.law_doing.specs.Follows.{Follows, after_of, reach};
 ghost use Rattle.law_doing.specs.Tells.{Tells};
 ghost use Rattle.aio_change.specs.Seen.{seen_changed};
@@ -26,7 +25,7 @@ impl HeldConnection {
         requires own { OwnsConnection parts.old self.old }
         ensures wire_name { port.new.wire.ghost_name ≡ port.old.wire.ghost_name }
         ensures events_name { port.new.events.ghost_name ≡ port.old.events.ghost_name }
-        ensures follows { Follows (outside_of W.seen W.fails W.keeps W.quiet) seen_changed
+        ensures follows { Follows W.outside seen_changed
             (plain.readable id self.old)
             (reach parts.old port.old.wire.now port.old.events.now)
             (reach parts.new port.new.wire.now port.new.events.now)
@@ -52,7 +51,7 @@ impl HeldConnection {
         requires own { OwnsConnection parts.old self.old }
         ensures wire_name { port.new.wire.ghost_name ≡ port.old.wire.ghost_name }
         ensures events_name { port.new.events.ghost_name ≡ port.old.events.ghost_name }
-        ensures follows { Follows (outside_of W.seen W.fails W.keeps W.quiet) seen_changed
+        ensures follows { Follows W.outside seen_changed
             (plain.writable id self.old)
             (reach parts.old port.old.wire.now port.old.events.now)
             (reach parts.new port.new.wire.now port.new.events.now)
@@ -79,7 +78,7 @@ impl HeldConnection {
         requires own { OwnsConnection parts.old self.old }
         ensures wire_name { port.new.wire.ghost_name ≡ port.old.wire.ghost_name }
         ensures events_name { port.new.events.ghost_name ≡ port.old.events.ghost_name }
-        ensures follows { Follows (outside_of W.seen W.fails W.keeps W.quiet) seen_changed
+        ensures follows { Follows W.outside seen_changed
             (plain.lose id broken self.old)
             (reach parts.old port.old.wire.now port.old.events.now)
             (reach parts.new port.new.wire.now port.new.events.now)
@@ -105,7 +104,7 @@ impl HeldConnection {
         requires own { OwnsConnection parts.old self.old }
         ensures wire_name { port.new.wire.ghost_name ≡ port.old.wire.ghost_name }
         ensures events_name { port.new.events.ghost_name ≡ port.old.events.ghost_name }
-        ensures follows { Follows (outside_of W.seen W.fails W.keeps W.quiet) seen_changed
+        ensures follows { Follows W.outside seen_changed
             (plain.down id self.old)
             (reach parts.old port.old.wire.now port.old.events.now)
             (reach parts.new port.new.wire.now port.new.events.now)

@@ -4,7 +4,6 @@ ghost use Rattle.model_stream.specs.Connections as plain;
 ghost use Rattle.model_stream.specs.Connections.{its_receiver};
 ghost use Rattle.model_stream.specs.Doing.{asked_on};
 ghost use Rattle.model_stream.specs.Receivers as receivers;
-ghost use Rattle.aio_exchange.specs.Outside.{outside_of};
 ghost use Rattle.law_doing.specs.Follows.{Follows, after_of, reach, with_after};
 ghost use Rattle.law_doing.specs.Tells.{Tells};
 ghost use Rattle.aio_change.specs.Seen.{seen_changed};
@@ -33,7 +32,7 @@ impl HeldConnection {
         requires idle { parts.old.called ≡ None }
         ensures wire_name { port.new.wire.ghost_name ≡ port.old.wire.ghost_name }
         ensures events_name { port.new.events.ghost_name ≡ port.old.events.ghost_name }
-        ensures follows { Follows (outside_of W.seen W.fails W.keeps W.quiet) seen_changed
+        ensures follows { Follows W.outside seen_changed
             (plain.write_to id piece.now self.old)
             (reach parts.old port.old.wire.now port.old.events.now)
             (reach parts.new port.new.wire.now port.new.events.now)
@@ -59,7 +58,7 @@ impl HeldConnection {
         requires idle { parts.old.called ≡ None }
         ensures wire_name { port.new.wire.ghost_name ≡ port.old.wire.ghost_name }
         ensures events_name { port.new.events.ghost_name ≡ port.old.events.ghost_name }
-        ensures follows { Follows (outside_of W.seen W.fails W.keeps W.quiet) seen_changed
+        ensures follows { Follows W.outside seen_changed
             (plain.write_eof id self.old)
             (reach parts.old port.old.wire.now port.old.events.now)
             (reach parts.new port.new.wire.now port.new.events.now)
@@ -85,7 +84,7 @@ impl HeldConnection {
         requires idle { parts.old.called ≡ None }
         ensures wire_name { port.new.wire.ghost_name ≡ port.old.wire.ghost_name }
         ensures events_name { port.new.events.ghost_name ≡ port.old.events.ghost_name }
-        ensures follows { Follows (outside_of W.seen W.fails W.keeps W.quiet) seen_changed
+        ensures follows { Follows W.outside seen_changed
             (plain.drop_connect id self.old)
             (reach parts.old port.old.wire.now port.old.events.now)
             (reach parts.new port.new.wire.now port.new.events.now)

@@ -1,31 +1,18 @@
 use Rattle.std.proofs.Common.{refl, sym, subst, ◌∙◌}
 use Rattle.std.proofs.lemmas.Result.{err_from_is_err_and}
 use Rattle.model_stream.specs.Connections.{down}
-use Rattle.aio_exchange.specs.Outside.{IsOutside, Outside, outside_of}
 use Rattle.law_doing.specs.Follows.{Follows, Reach, after_of, reach}
 use Rattle.law_doing.proofs.Following.{follows_starved}
 use Rattle.aio_task.specs.View.{View}
 use Rattle.aio_change.specs.Seen.{seen_changed}
 use Rattle.aio_connection.specs.Owned.{OwnsConnection}
-use Rattle.aio_stream.proofs.held.HeldConnection.down.Given.{Over}
 use Rattle.aio_stream.proofs.held.HeldConnection.down.Goals as goal
-
-abbrev outside : (g : Over) → Outside g.row.W.Denot
-outside g = outside_of g.W.Wire.seen g.W.Wire.fails g.W.Wire.keeps g.W.Wire.quiet
-
-laws : (g : Over) → IsOutside (outside g)
-laws g = record {
-  keeps_same = g.met.W.Wire.keeps_same;
-  keeps_on = g.met.W.Wire.keeps_on;
-  quiet_same = g.met.W.Wire.quiet_same;
-  quiet_on = g.met.W.Wire.quiet_on;
-}
 
 pub returns-in_err-connection-clause-follows : goal.returns-in_err-connection-clause-follows
 returns-in_err-connection-clause-follows g c =
     let p = err_from_is_err_and c.from_residual.result c.from_residual.ensures.1 in
     let at : Reach View g.row.W.Denot = reach c.args.parts.now c.args.port.now.wire.now c.args.port.now.events.now in
-    rw (p.1, p.2) (follows_starved (outside g) (laws g) seen_changed (down c.args.id c.args.self.now) at at refl)
+    rw (p.1, p.2) (follows_starved g.W.Wire.outside seen_changed (down c.args.id c.args.self.now) at at refl)
 
 pub down-done-requires-clause-own : goal.down-done-requires-clause-own
 down-done-requires-clause-own g c =
@@ -34,7 +21,7 @@ down-done-requires-clause-own g c =
 pub returns-clause-follows : goal.returns-clause-follows
 returns-clause-follows g c =
     rw c.lay.ensures
-    (subst (λ it. Follows (outside g) seen_changed (down c.args.id it)
+    (subst (λ it. Follows g.W.Wire.outside seen_changed (down c.args.id it)
     (reach c.args.parts.now c.args.port.now.wire.now c.args.port.now.events.now)
     (reach c.down-done.new.parts c.down-done.new.port.wire.now c.down-done.new.port.events.now)
     (after_of c.down-done.new.self c.down-done.result))

@@ -1,30 +1,17 @@
 use Rattle.std.proofs.Common.{refl}
 use Rattle.std.proofs.lemmas.Result.{err_from_is_err_and}
 use Rattle.model_stream.specs.Connections.{write_eof}
-use Rattle.aio_exchange.specs.Outside.{IsOutside, Outside, outside_of}
 use Rattle.law_doing.specs.Follows.{Reach, reach}
 use Rattle.law_doing.proofs.Following.{follows_starved}
 use Rattle.aio_task.specs.View.{View}
 use Rattle.aio_change.specs.Seen.{seen_changed}
-use Rattle.aio_stream.proofs.held.HeldConnection.write_eof.Given.{Over}
 use Rattle.aio_stream.proofs.held.HeldConnection.write_eof.Goals as goal
-
-abbrev outside : (g : Over) → Outside g.row.W.Denot
-outside g = outside_of g.W.Wire.seen g.W.Wire.fails g.W.Wire.keeps g.W.Wire.quiet
-
-laws : (g : Over) → IsOutside (outside g)
-laws g = record {
-  keeps_same = g.met.W.Wire.keeps_same;
-  keeps_on = g.met.W.Wire.keeps_on;
-  quiet_same = g.met.W.Wire.quiet_same;
-  quiet_on = g.met.W.Wire.quiet_on;
-}
 
 pub returns-in_err-connection-clause-follows : goal.returns-in_err-connection-clause-follows
 returns-in_err-connection-clause-follows g c =
     let p = err_from_is_err_and c.from_residual.result c.from_residual.ensures.1 in
     let at : Reach View g.row.W.Denot = reach c.args.parts.now c.args.port.now.wire.now c.args.port.now.events.now in
-    rw (p.1, p.2) (follows_starved (outside g) (laws g) seen_changed (write_eof c.args.id c.args.self.now) at at refl)
+    rw (p.1, p.2) (follows_starved g.W.Wire.outside seen_changed (write_eof c.args.id c.args.self.now) at at refl)
 
 pub returns-clause-follows : goal.returns-clause-follows
 returns-clause-follows g c = rw (c.lay.ensures, ← c.in_ok-connection.ensures, ← c.deref_mut.ensures.value) c.write_eof-done.ensures.follows
