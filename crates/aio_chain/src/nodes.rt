@@ -16,8 +16,8 @@ pub struct Node<T, A> {
 }
 
 /// `blocks` says of each node where it lies, its `next` and its `last`, and its handle. With no
-/// node, `head` and `tail` mean nothing. There is no `Drop`: `end` alone lets nodes go, and they own
-/// nothing then.
+/// node, `head` and `tail` mean nothing. There is no `Drop`: `end` alone lets nodes go, and they
+/// own nothing then.
 pub struct Nodes<T, A: Allocator> {
     head: *const Node<T, A>,
     tail: *const Node<T, A>,
