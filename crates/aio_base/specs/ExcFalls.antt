@@ -15,8 +15,11 @@ use Rattle.aio_base.specs.declared.exc.Exc.TheDeep.{deep-ExcNode, deep-ExcParts}
 use Rattle.aio_base.specs.Size.{exc_size, excs_size}
 use Rattle.aio_base.specs.Exc.{exc_of, exc_of_parts}
 
+abbrev parts_of : Kind → String Global → Option (RcSlice ℕ Global) → Option (Rc (List Exc) Global) → ExcParts
+parts_of kind text bytes members = record { kind = kind; text = text; bytes = bytes; members = members }
+
 parts_fall : (kind : Kind) (text : String Global) (bytes : Option (RcSlice ℕ Global)) (members : Option (Rc (List Exc) Global))
-    → let parts : ExcParts = record { kind = kind; text = text; bytes = bytes; members = members } in max (deep-ExcParts parts) 0 ≤ exc_size (exc_of_parts parts)
+    → max (deep-ExcParts (parts_of kind text bytes members)) 0 ≤ exc_size (exc_of_parts (parts_of kind text bytes members))
 parts_fall kind text bytes None = omega arith
 parts_fall kind text bytes (Some members) = omega arith
 
