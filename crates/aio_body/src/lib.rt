@@ -4,6 +4,7 @@
 mod arguments;
 mod body;
 mod delay;
+pub mod laws;
 mod reply;
 mod slots;
 mod standing;

@@ -17,9 +17,9 @@ use Rattle.aio_wire.specs.Outside.{Outside}
 use Rattle.aio_wire.specs.Port.{ported}
 use Rattle.aio_wire.specs.declared.stop.Stop.{Stop}
 use Rattle.aio_exchange.specs.Exchanged.{Exchange}
-use Rattle.law_doing.specs.Follows.{reach}
-use Rattle.law_trees.specs.Trees.{AnswersStreams, IsMade, Keeping}
-use Rattle.law_trees.proofs.Opening.{connects}
+use Rattle.aio_exchange.specs.Follows.{reach}
+use Rattle.law_cases.specs.Trees.{AnswersStreams, IsMade, Keeping}
+use Rattle.law_cases.proofs.Opening.{connects}
 use Rattle.aio_transports.specs.Standing.{Answers as AnswersTree}
 use Rattle.aio_extra.specs.Added.{Added}
 use Rattle.aio_body.specs.declared.body.Body.{Body}
@@ -31,17 +31,17 @@ use Rattle.aio_body.specs.Asking.{Comes, or_stop, serving}
 use Rattle.aio_body.specs.Slots.{standing_at}
 use Rattle.aio_body.specs.Stands.{Possible, Setting}
 use Rattle.aio_body.proofs.Asking.{HasCome}
-use Rattle.law_body.specs.Answers.{with_answers, with_rest}
-use Rattle.law_body.proofs.Answering.{asking_again}
-use Rattle.law_body.proofs.May.{going_of, running_of}
-use Rattle.law_does.specs.Went.{BegunWaits, HasGone, MayCall, Suspends}
-use Rattle.law_does.proofs.Forgetting.{connect_forgets}
-use Rattle.law_does.proofs.May.{may_asking}
-use Rattle.law_does.proofs.Nexts.{connects_add}
-use Rattle.law_does.proofs.Possible.{called_gone, pending_gone, running_gone}
-use Rattle.law_does.proofs.Requests.{begun_waits}
-use Rattle.law_does.proofs.Served.{asking_idle, serving_fails, serving_goes, serving_raises, serving_stands, serving_starves}
-use Rattle.law_body.proofs.HasSlot.{slot_there}
+use Rattle.aio_body.specs.Answers.{with_answers, with_rest}
+use Rattle.aio_body.proofs.Answering.{asking_again}
+use Rattle.aio_body.proofs.May.{going_of, running_of}
+use Rattle.refine_streams.specs.Went.{BegunWaits, HasGone, MayCall, Suspends}
+use Rattle.refine_streams.proofs.Forgetting.{connect_forgets}
+use Rattle.refine_streams.proofs.May.{may_asking}
+use Rattle.refine_streams.proofs.Nexts.{connects_add}
+use Rattle.refine_streams.proofs.Possible.{called_gone, pending_gone, running_gone}
+use Rattle.refine_streams.proofs.Requests.{begun_waits}
+use Rattle.refine_streams.proofs.Served.{asking_idle, serving_fails, serving_goes, serving_raises, serving_stands, serving_starves}
+use Rattle.aio_body.proofs.HasSlot.{slot_there}
 
 module _ {X W : Type 0} {a : Added X} (task number : ℕ) (request : Request) (old : Body X) (o : Outside W)
     (possible : Possible a (IsAskingFor task request) old) (new : Body X) (wire after : W)

@@ -1,0 +1,13 @@
+use Rattle.algorithm_parts.proofs.RoomsKept.{settle-room, register-room, ask-room, change-room, cancel-room, make-room, release-room}
+use Rattle.algorithm_parts.proofs.rooms.are_kept.Goals as goal
+
+pub returns : goal.returns
+returns c = record {
+  settle = settle-room;
+  register = register-room;
+  ask = ask-room;
+  change = change-room;
+  cancel = cancel-room;
+  make = make-room;
+  release = release-room;
+}
