@@ -1,4 +1,4 @@
-pub mod Passing
-pub mod Commanding
+mod Passing
+mod Commanding
 pub mod Together
-pub mod Ending
+mod Ending

@@ -1,9 +1,9 @@
-pub mod Causes
-pub mod Driving
-pub mod Exits
+mod Causes
+mod Driving
+mod Exits
 pub mod Fronts
-pub mod Rounds
-pub mod Telling
-pub mod Turns
+mod Rounds
+mod Telling
+mod Turns
 pub mod Unrecorded
 pub mod Written

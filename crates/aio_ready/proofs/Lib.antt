@@ -1,6 +1,6 @@
-pub mod Turning
-pub mod Reaching
-pub mod Forks
-pub mod Changes
-pub mod Names
-pub mod Seeing
+mod Turning
+mod Reaching
+mod Forks
+mod Changes
+mod Names
+mod Seeing

@@ -1,6 +1,6 @@
-pub mod Zips
-pub mod Loops
-pub mod Handlers
+mod Zips
+mod Loops
+mod Handlers
 pub mod Keeping
 pub mod Naming
-pub mod Below
+mod Below

@@ -1,4 +1,4 @@
 pub mod Environments
 pub mod Coroutines
-pub mod Agreeing
+mod Agreeing
 pub mod Bodies

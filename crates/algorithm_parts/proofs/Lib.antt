@@ -1,9 +1,9 @@
 pub mod WalkLemmas
 pub mod WeightLemmas
 pub mod QuietLemmas
-pub mod Leading
+mod Leading
 pub mod SeekLemmas
-pub mod OpenLemmas
+mod OpenLemmas
 pub mod RoomLemmas
 pub mod RoomsKept
 pub mod Commuting

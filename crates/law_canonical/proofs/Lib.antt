@@ -3,12 +3,12 @@ pub mod Nested
 pub mod Passed
 pub mod Parted
 pub mod Judged
-pub mod Bodies
-pub mod Texts
-pub mod SpelledLines
-pub mod TextLines
-pub mod Replayed
-pub mod Reparted
-pub mod Rejudged
+mod Bodies
+mod Texts
+mod SpelledLines
+mod TextLines
+mod Replayed
+mod Reparted
+mod Rejudged
 pub mod Whole
-pub mod CoroutineLines
+mod CoroutineLines

@@ -10,6 +10,6 @@ pub mod StepNumbers
 pub mod Counting
 pub mod Balancing
 pub mod LoopBalance
-pub mod Asked
+mod Asked
 pub mod Quietly
 pub mod Booking

@@ -5,7 +5,7 @@ pub mod Due
 pub mod Revoking
 pub mod Firing
 pub mod Told
-pub mod StepTold
+mod StepTold
 pub mod Holding
 pub mod MakingHolds
 pub mod StepHolds

@@ -1,18 +1,18 @@
-pub mod Cuts
-pub mod Shapes
-pub mod Read
-pub mod Facts
-pub mod Meanings
-pub mod Fronts
+mod Cuts
+mod Shapes
+mod Read
+mod Facts
+mod Meanings
+mod Fronts
 pub mod Spelling
-pub mod TokenTexts
-pub mod ExprTexts
-pub mod LineReads
-pub mod Arguments
+mod TokenTexts
+mod ExprTexts
+mod LineReads
+mod Arguments
 pub mod FormReads
 pub mod Printable
-pub mod Goods
-pub mod GoodTerms
-pub mod GoodForms
-pub mod MeantTerms
+mod Goods
+mod GoodTerms
+mod GoodForms
+mod MeantTerms
 pub mod MeantLines

@@ -1,6 +1,6 @@
-pub mod Along
+mod Along
 pub mod Growing
-pub mod OverChildren
-pub mod OverConnections
-pub mod Spent
+mod OverChildren
+mod OverConnections
+mod Spent
 pub mod Staying

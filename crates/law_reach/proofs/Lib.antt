@@ -1,9 +1,9 @@
-pub mod Answering
-pub mod Extras
+mod Answering
+mod Extras
 pub mod Opened
 pub mod Rows
 pub mod Streams
-pub mod Trees
+mod Trees
 pub mod Loops
 pub mod Running
 pub mod Turning

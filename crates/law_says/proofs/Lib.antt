@@ -1,9 +1,9 @@
 pub mod Loops
-pub mod Sound
+mod Sound
 pub mod Bodies
-pub mod Ends
+mod Ends
 pub mod Counting
-pub mod Values
-pub mod Nesting
-pub mod BlockBodies
+mod Values
+mod Nesting
+mod BlockBodies
 pub mod Growing

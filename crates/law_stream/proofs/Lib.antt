@@ -1,17 +1,17 @@
-pub mod LineEnds
-pub mod LinesByUntil
-pub mod ReaderOrder
-pub mod SoundWriters
-pub mod WriterOrder
+mod LineEnds
+mod LinesByUntil
+mod ReaderOrder
+mod SoundWriters
+mod WriterOrder
 pub mod Along
 pub mod SenderRuns
 pub mod SoundSenders
 pub mod SoundSends
-pub mod ChildEnds
+mod ChildEnds
 pub mod ChildOrder
-pub mod ConnectionOrder
-pub mod Losses
+mod ConnectionOrder
+mod Losses
 pub mod Quiet
 pub mod ReceiverOrder
 pub mod SoundConnections
-pub mod SoundReceivers
+mod SoundReceivers

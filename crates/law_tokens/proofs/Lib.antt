@@ -1,10 +1,10 @@
 pub mod PieceLemmas
 pub mod RunLemmas
-pub mod InsideLemmas
+mod InsideLemmas
 pub mod SymbolLemmas
 pub mod CutLemmas
 pub mod PartLemmas
 pub mod LineLemmas
-pub mod SpanLemmas
-pub mod FaultLemmas
+mod SpanLemmas
+mod FaultLemmas
 pub mod RangeLemmas

@@ -5,9 +5,9 @@ pub mod Loops
 pub mod Made
 pub mod Parts
 pub mod Requests
-pub mod Replying
+mod Replying
 pub mod Running
-pub mod Serving
+mod Serving
 pub mod Stepping
 pub mod Streaming
 pub mod TreeSteps

@@ -1,5 +1,5 @@
-pub mod Beginning
-pub mod Replying
+mod Beginning
+mod Replying
 pub mod Rows
 pub mod Trees
 pub mod Turning

@@ -3,11 +3,11 @@ pub mod Naming
 pub mod Appending
 pub mod Running
 pub mod Skipping
-pub mod Deadlining
+mod Deadlining
 pub mod Scheduling
 pub mod Only
-pub mod PlacedSteps
-pub mod Becoming
+mod PlacedSteps
+mod Becoming
 pub mod Calls
 pub mod Telling
 pub mod Requesting

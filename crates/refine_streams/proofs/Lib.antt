@@ -1,23 +1,23 @@
-pub mod Keeping
-pub mod Doing
-pub mod Telling
-pub mod Noted
-pub mod Stopping
-pub mod Alike
-pub mod Adding
+mod Keeping
+mod Doing
+mod Telling
+mod Noted
+mod Stopping
+mod Alike
+mod Adding
 pub mod Forgetting
 pub mod Nexts
-pub mod Calling
-pub mod Leaving
-pub mod Owning
-pub mod Standing
-pub mod Going
+mod Calling
+mod Leaving
+mod Owning
+mod Standing
+mod Going
 pub mod Requests
 pub mod Answering
 pub mod GivingUp
 pub mod May
 pub mod Meaning
-pub mod Kept
+mod Kept
 pub mod Possible
 pub mod Replying
 pub mod Unasking
