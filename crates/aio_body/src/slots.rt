@@ -1,15 +1,15 @@
 //! What tasks run and stand at.
 ghost use Rattle.std.specs.Prelude.{◌≡◌, ◌<◌, None, Some, IfOk, OnOk, length, slice_get, slice_set};
 ghost use Rattle.aio_body.specs.GivingUp.{IsNoTasks, given_up_in};
-ghost use Rattle.aio_body.specs.Slots.{HoldsMore, no_slot, put_back, standing_at};
+ghost use Rattle.aio_body.specs.Slots.{HoldsMore, no_slot, put_back, resume_point_at};
 
-use crate::body::Body;
-use crate::standing::{Slot, Standing};
+use crate::resume_point::{ResumePoint, Slot};
+use crate::run_state::RunState;
 use aio_base::{Memory, Value, ValueList};
 use aio_gen::Gen;
 use std::alloc::Global;
 
-impl<X> Body<X> {
+impl<X> RunState<X> {
     /// The coroutine of the task that is made next.
     pub fn hold(
         &mut self,
@@ -23,7 +23,7 @@ impl<X> Body<X> {
         let coroutine = Gen::start(alloc, &self.code, coroutine, arguments)?;
         self.slots.push(Slot {
             coroutine: Some(coroutine),
-            standing: Standing::Asked,
+            resume_point: ResumePoint::Asked,
         })?;
         Ok(())
     }
@@ -32,7 +32,7 @@ impl<X> Body<X> {
     pub fn take(&mut self, task: u32) -> Slot
         requires { task < length self.old.slots.items }
         ensures slot { slice_get self.old.slots.items task ≡ Some result }
-        ensures beside { self.new ≡ record self.old { slots = self.new.slots } }
+        ensures frame { self.new ≡ record self.old { slots = self.new.slots } }
         ensures slots { self.new.slots.items ≡ slice_set self.old.slots.items task no_slot }
     {
         let slot = &mut self.slots[task as usize];
@@ -40,7 +40,7 @@ impl<X> Body<X> {
             slot,
             Slot {
                 coroutine: None,
-                standing: Standing::Asked,
+                resume_point: ResumePoint::Asked,
             },
         )
     }
@@ -48,7 +48,7 @@ impl<X> Body<X> {
     /// The coroutine of a task is put back.
     pub fn put_back(&mut self, task: u32, coroutine: Gen)
         requires { task < length self.old.slots.items }
-        ensures beside { self.new ≡ record self.old { slots = self.new.slots } }
+        ensures frame { self.new ≡ record self.old { slots = self.new.slots } }
         ensures slots { self.new.slots.items ≡ put_back task coroutine self.old.slots.items }
     {
         let slot = &mut self.slots[task as usize];
@@ -56,39 +56,41 @@ impl<X> Body<X> {
     }
 
     /// The request at which a task stands.
-    pub fn stand(&mut self, task: u32, standing: Standing)
+    pub fn stand(&mut self, task: u32, resume_point: ResumePoint)
         requires { task < length self.old.slots.items }
-        ensures beside { self.new ≡ record self.old { slots = self.new.slots } }
-        ensures slots { self.new.slots.items ≡ standing_at task standing self.old.slots.items }
+        ensures frame { self.new ≡ record self.old { slots = self.new.slots } }
+        ensures slots { self.new.slots.items
+            ≡ resume_point_at task resume_point self.old.slots.items }
     {
         let slot = &mut self.slots[task as usize];
-        slot.standing = standing;
+        slot.resume_point = resume_point;
     }
 
-    /// The timer of a sleep is given up as its task is resumed, and its future is let go.
-    pub fn give_up(&mut self, standing: &Standing)
+    /// The timer of a sleep is given up as its task is resumed, and its future is released.
+    pub fn give_up(&mut self, resume_point: &ResumePoint)
         requires idle { self.old.parts.called ≡ None }
-        requires no_task { IsNoTasks standing.now self.old.parts }
-        ensures { self.new ≡ record self.old { parts = given_up_in standing.now self.old.parts } }
+        requires no_task { IsNoTasks resume_point.now self.old.parts }
+        ensures { self.new
+            ≡ record self.old { parts = given_up_in resume_point.now self.old.parts } }
     {
-        match standing {
-            Standing::Asked => {}
-            Standing::Sleeping { timer, future } => {
+        match resume_point {
+            ResumePoint::Asked => {}
+            ResumePoint::Sleeping { timer, future } => {
                 self.parts.cancel_timer(*timer);
                 if self.parts.outcome(*future).is_some() {
                     self.parts.release(*future);
                 }
             }
-            Standing::Leaving(_) => {}
-            Standing::Serving(_) => {}
-            Standing::Connecting(_) => {}
-            Standing::Yielding(_) => {}
-            Standing::Reading {
+            ResumePoint::Leaving(_) => {}
+            ResumePoint::Serving(_) => {}
+            ResumePoint::Connecting(_) => {}
+            ResumePoint::Yielding(_) => {}
+            ResumePoint::Reading {
                 from: _,
                 op: _,
                 on: _,
             } => {}
-            Standing::ReadingAll {
+            ResumePoint::ReadingAll {
                 from: _,
                 taken: _,
                 on: _,

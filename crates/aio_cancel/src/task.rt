@@ -70,7 +70,7 @@ impl Task {
     }
 
     /// Whether a cancel waits for the next step (`_must_cancel` of `tasks.py`).
-    pub fn is_marked(&self) -> bool
+    pub fn must_cancel_of(&self) -> bool
         ensures { result ≡ self.now.must_cancel }
     {
         self.must_cancel
@@ -100,14 +100,14 @@ impl Task {
     }
 
     /// A cancel waits for the next step.
-    pub fn mark(&mut self)
+    pub fn set_must_cancel(&mut self)
         ensures { self.new ≡ record self.old { must_cancel = true } }
     {
         self.must_cancel = true;
     }
 
     /// No cancel waits for the next step any more.
-    pub fn unmark(&mut self)
+    pub fn clear_must_cancel(&mut self)
         ensures { self.new ≡ record self.old { must_cancel = false } }
     {
         self.must_cancel = false;

@@ -1,5 +1,5 @@
-//! What several asks of one port did, as one record, and calls that do what trees of asks and changes
-//! say.
+//! What several asks of one port did, as one record, and calls that do what trees of asks and
+//! changes say.
 #![tactic(auto)]
 
 mod asking;

@@ -1,5 +1,5 @@
-//! Code of bodies: the operations and ranges of `algorithm_flat`, over types that own what they name.
-//! Variables go by their numbers.
+//! Code of bodies: the operations and ranges of `algorithm_flat`, over types that own what they
+//! name. Variables go by their numbers.
 ghost use Rattle.std.specs.Prelude.{◌≡◌};
 
 use aio_expr::{FlatExpr, FlatExprList, Local};

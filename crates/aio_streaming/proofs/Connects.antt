@@ -22,19 +22,19 @@ use Rattle.law_cases.specs.Trees.{AnswersStreams, IsMade, Keeping}
 use Rattle.law_cases.proofs.Opening.{connects}
 use Rattle.aio_transports.specs.Standing.{Answers as AnswersTree}
 use Rattle.aio_extra.specs.Added.{Added}
-use Rattle.aio_body.specs.declared.body.Body.{Body}
+use Rattle.aio_body.specs.declared.run_state.RunState.{RunState}
 use Rattle.aio_body.specs.declared.reply.RequestReply.{RequestReply}
 use Rattle.aio_body.specs.declared.reply.RequestReply.TheVariants as said
-use Rattle.aio_body.specs.declared.standing.Standing.TheVariants as code
+use Rattle.aio_body.specs.declared.resume_point.ResumePoint.TheVariants as code
 use Rattle.aio_body.specs.Asked.{IsAskingFor}
 use Rattle.aio_body.specs.Asking.{Comes, or_stop, serving}
-use Rattle.aio_body.specs.Slots.{standing_at}
-use Rattle.aio_body.specs.Stands.{Possible, Setting}
+use Rattle.aio_body.specs.Slots.{resume_point_at}
+use Rattle.aio_body.specs.Stands.{Possible, Context}
 use Rattle.aio_body.proofs.Asking.{HasCome}
 use Rattle.aio_body.specs.Answers.{with_answers, with_rest}
 use Rattle.aio_body.proofs.Answering.{asking_again}
 use Rattle.aio_body.proofs.May.{going_of, running_of}
-use Rattle.refine_streams.specs.Went.{BegunWaits, HasGone, MayCall, Suspends}
+use Rattle.refine_streams.specs.Went.{BegunWaits, HasGone, MayCall, CallsSuspend}
 use Rattle.refine_streams.proofs.Forgetting.{connect_forgets}
 use Rattle.refine_streams.proofs.May.{may_asking}
 use Rattle.refine_streams.proofs.Nexts.{connects_add}
@@ -43,9 +43,9 @@ use Rattle.refine_streams.proofs.Requests.{begun_waits}
 use Rattle.refine_streams.proofs.Served.{asking_idle, serving_fails, serving_goes, serving_raises, serving_stands, serving_starves}
 use Rattle.aio_body.proofs.HasSlot.{slot_there}
 
-module _ {X W : Type 0} {a : Added X} (task number : ℕ) (request : Request) (old : Body X) (o : Outside W)
-    (possible : Possible a (IsAskingFor task request) old) (new : Body X) (wire after : W)
-    (means : (c : Setting a) (s : State a.Kept) → IsAskingFor task request c old s
+module _ {X W : Type 0} {a : Added X} (task number : ℕ) (request : Request) (old : RunState X) (o : Outside W)
+    (possible : Possible a (IsAskingFor task request) old) (new : RunState X) (wire after : W)
+    (means : (c : Context a) (s : State a.Kept) → IsAskingFor task request c old s
     → reply a.meaning task request s ≡ streams_do (connect number (next_future s.loop.parts) s.streams) (connects_as task) s) where
   abbrev Says : Result (Option (ℕ × ℕ)) Stop → Type 0
   Says result =
@@ -67,33 +67,33 @@ module _ {X W : Type 0} {a : Added X} (task number : ℕ) (request : Request) (o
       (connect_forgets number (length old.parts.futures)) why call
 
   module _ (it : Option (ℕ × ℕ)) (call : Says (Ok it))
-      (beside : new ≡ record old { parts = new.parts; events = new.events; transports = new.transports }) where
+      (frame : new ≡ record old { parts = new.parts; events = new.events; transports = new.transports }) where
     -- it was refused
     pub connect_raises : it ≡ None → (result : Result RequestReply Memory) → IfOk result (λ it_. it_ ≡ said.Raises connect_refused)
         → Comes o (serving a task request old new) (ported wire old.events) (ported after new.events) (or_stop result)
     connect_raises none (Ok reply_) is =
         subst (λ r. Comes o (serving a task request old new) (ported wire old.events) (ported after new.events) (Ok r)) (sym is)
-        (serving_raises task request old o possible new wire after (connect number) (connects_as task) means BegunWaits it call keeping beside
+        (serving_raises task request old o possible new wire after (connect number) (connects_as task) means BegunWaits it call keeping frame
         connect_refused (λ t. ap (λ k. connects_as task k t) none))
     connect_raises none (Err memory) is =
-        serving_starves task request old o possible new wire after (connect number) (connects_as task) means BegunWaits it call keeping beside new
+        serving_starves task request old o possible new wire after (connect number) (connects_as task) means BegunWaits it call keeping frame new
         (connects_add task it)
 
     module _ (begun : ℕ × ℕ) (is : it ≡ Some begun) where
       made_it : (first now : ℕ) → BegunWaits (IsMade first now) it → IsMade first now begun.1
       made_it first now waits = subst (BegunWaits (IsMade first now)) is waits
 
-      come : (had : List Exchange) × HasCome {a = a} o (λ (c : Setting a) (s : State a.Kept). IsAskingFor task request c old s) had
+      come : (had : List Exchange) × HasCome {a = a} o (λ (c : Context a) (s : State a.Kept). IsAskingFor task request c old s) had
           (ported wire old.events) (ported after new.events)
-          (λ (c : Setting a) (s : State a.Kept).
+          (λ (c : Context a) (s : State a.Kept).
           HasGone (Some task) (λ first now. BegunWaits (IsMade first now) it) (reply a.meaning task request s) (connects_as task it) c old new s)
       come =
-          serving_goes task request old o possible new wire after (connect number) (connects_as task) means BegunWaits it call keeping beside
+          serving_goes task request old o possible new wire after (connect number) (connects_as task) means BegunWaits it call keeping frame
 
-      may : (c : Setting a) (s : State a.Kept) → IsAskingFor task request c old s → MayCall (Some task) c old s
+      may : (c : Context a) (s : State a.Kept) → IsAskingFor task request c old s → MayCall (Some task) c old s
       may c s from = may_asking c old s task request from
 
-      again : (answers : List Entry) (c : Setting a) (s : State a.Kept) → IsAskingFor task request c old s
+      again : (answers : List Entry) (c : Context a) (s : State a.Kept) → IsAskingFor task request c old s
           → (t : State a.Kept) × IsAskingFor task request (with_rest answers c) old t
       again answers c s from = (with_answers answers s, asking_again answers c old s task request from)
 
@@ -116,12 +116,12 @@ module _ {X W : Type 0} {a : Added X} (task number : ℕ) (request : Request) (o
 
       pub connect_there : task < length new.slots.items
       connect_there =
-          subst (λ (b : Body X). task < length b.slots.items) (sym beside) (slot_there task old (going_of task request old possible))
+          subst (λ (b : RunState X). task < length b.slots.items) (sym frame) (slot_there task old (going_of task request old possible))
 
-      pub connect_stands : (last : Body X) → Suspends task begun.1 new.parts last.parts → last ≡ record new { parts = last.parts; slots = last.slots }
-          → last.slots.items ≡ standing_at task (code.Connecting begun.0) new.slots.items
-          → Comes o (serving a task request old last) (ported wire old.events) (ported after last.events) (Ok said.Rests)
+      pub connect_stands : (last : RunState X) → CallsSuspend task begun.1 new.parts last.parts → last ≡ record new { parts = last.parts; slots = last.slots }
+          → last.slots.items ≡ resume_point_at task (code.Connecting begun.0) new.slots.items
+          → Comes o (serving a task request old last) (ported wire old.events) (ported after last.events) (Ok said.Suspends)
       connect_stands last suspends same items =
-          serving_stands task request old o possible new wire after (connect number) (connects_as task) means BegunWaits it call keeping beside last
+          serving_stands task request old o possible new wire after (connect number) (connects_as task) means BegunWaits it call keeping frame last
           begun.1 last.parts (code.Connecting begun.0) (state.Connecting begun.0) same items connect_there (λ t p named. refl) suspends made_it
           (λ t. ap (λ k. connects_as task k t) is)

@@ -1,5 +1,6 @@
 -- A hub fails only where its count rose.
-use Rattle.std.proofs.Common.{◌≡◌, ℕ, ◌+◌, ◌-◌, ◌^◌, ◌<◌, ◌≤◌, ⊎_elim, Bool, true, false, cond, ◌&&◌, List, [], ◌∷◌, ◌++◌, length, min, Option, Some, None, refl, sym, ap, ◌∙◌, subst, arith}
+use Rattle.std.proofs.Common.{◌≡◌, ℕ, ◌+◌, ◌-◌, ◌^◌, ◌<◌, ◌≤◌, ⊎_elim, Bool, true, false, cond, ◌&&◌, List, [], ◌∷◌, ◌++◌, length, min, Option, Some, None}
+use Rattle.std.proofs.Common.{refl, sym, ap, ◌∙◌, subst, arith}
 use Rattle.std.proofs.Math.Nat.{min-eq_left, min-eq_right, min-le_left, min-le_right, le-min}
 use Rattle.std.proofs.lemmas.Bool.{cases_lt}
 use Rattle.std.proofs.lemmas.List.{length-append}
@@ -20,12 +21,14 @@ use Rattle.model_hub.specs.declared.halt.Halt.{Halt}
 use Rattle.model_hub.specs.declared.halt.Halt.TheVariants.{Going, Faulted, Starving}
 use Rattle.model_hub.specs.Posts.{told_of}
 use Rattle.model_hub.specs.Hub.{Hub, with_child}
-use Rattle.model_hub.specs.Others.{Lanes, OfWrite, Launching, Started, NotStarted, NoMemory, Others, Polled, Ready, PollFailed, PollStarved, Said, Got, Failed, Memory, is_given}
+use Rattle.model_hub.specs.Others.{Lanes, OfWrite, Launching, Started, NotStarted, NoMemory, Others, Polled, Ready, PollFailed, PollStarved, Said, Got, Failed}
+use Rattle.model_hub.specs.Others.{Memory, is_given}
 use Rattle.model_hub.specs.Lanes.{serve}
-use Rattle.model_hub.specs.Gathering.{Gathering, goes_in, offer, offer_all, add, add_all, kept_of, stdin_items, start, begin, halt_at, note_in, after_post, gather}
+use Rattle.model_hub.specs.Gathering.{Gathering, goes_in, offer, offer_all, add, add_all, kept_of, stdin_items, start, begin, halt_at, note_in, after_post}
+use Rattle.model_hub.specs.Gathering.{gather}
 use Rattle.model_hub.specs.Select.{said_at, after_poll}
 use Rattle.model_hub.specs.Calls.{answer_to, socket, feed_child, offers_write, after_write, after_launching, launch_with, most_children}
-use Rattle.model_hub.specs.Asked.{HubSeen, Asks, PollKeeps, NetKeeps, Keeps, is_fault, faults_in, faults_of}
+use Rattle.model_hub.specs.Asked.{HubSeen, Asks, PollKeeps, NetKeeps, HubKeeps, is_fault, faults_in, faults_of}
 use Rattle.law_hub.proofs.Answered.{of_two}
 
 -- ---- posts that were taken
@@ -190,7 +193,7 @@ module _ (before now : ℕ) (later : before ≤ now) where
       of_two (Counts hub) (nat_lt (length served.children) most_children) (after_launching launching seats free served)
       (served, Got answer.Refused) (λ few. launched_counts launching seats free hub served) tt
 
-  answer_counts : (asks : Call) (others : Others) (hub : Hub) → Keeps asks others before now → Counts hub (answer_to asks others hub)
+  answer_counts : (asks : Call) (others : Others) (hub : Hub) → HubKeeps asks others before now → Counts hub (answer_to asks others hub)
   answer_counts (call.Select wait watched) others hub keeps =
       poll_counts watched others others.polled (serve others.lanes watched hub) keeps
   answer_counts (call.Listen port) others hub keeps = net_counts (call.Listen port) others.lanes others.net hub keeps
@@ -210,7 +213,7 @@ module _ (before now : ℕ) (later : before ≤ now) where
       let served = serve others.lanes [] hub in launch_counts others.launching served.free hub served
   answer_counts (call.Extra code bytes) others hub keeps = tt
 
-  asked_counts : (asks : Call) (others : Others) (hub : Hub) (starved : Bool) → Keeps asks others before now
+  asked_counts : (asks : Call) (others : Others) (hub : Hub) (starved : Bool) → HubKeeps asks others before now
       → Counts hub (cond starved (hub, Memory) (answer_to asks others hub))
   asked_counts asks others hub true keeps = tt
   asked_counts asks others hub false keeps = answer_counts asks others hub keeps
