@@ -1,4 +1,4 @@
 mod Passing
-mod Commanding
+pub mod Commanding
 pub mod Together
 mod Ending

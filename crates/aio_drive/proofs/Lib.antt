@@ -1,9 +1,9 @@
 mod Causes
-mod Driving
+pub mod Driving
 mod Exits
 pub mod Fronts
 mod Rounds
-mod Telling
-mod Turns
+pub mod Telling
+pub mod Turns
 pub mod Unrecorded
 pub mod Written

@@ -1,6 +1,6 @@
-mod Zips
-mod Loops
-mod Handlers
+pub mod Zips
+pub mod Loops
+pub mod Handlers
 pub mod Keeping
 pub mod Naming
 mod Below

@@ -1,6 +1,6 @@
-mod Endings
-mod WaysOut
-mod Statements
-mod Moves
+pub mod Endings
+pub mod WaysOut
+pub mod Statements
+pub mod Moves
 pub mod Tapes
 pub mod Nearer

@@ -1,4 +1,4 @@
 pub mod Environments
 pub mod Coroutines
-mod Agreeing
+pub mod Agreeing
 pub mod Bodies

@@ -1,9 +1,9 @@
 pub mod WalkLemmas
 pub mod WeightLemmas
 pub mod QuietLemmas
-mod Leading
+pub mod Leading
 pub mod SeekLemmas
-mod OpenLemmas
+pub mod OpenLemmas
 pub mod RoomLemmas
 pub mod RoomsKept
 pub mod Commuting

@@ -1,20 +1,20 @@
-mod Options
-mod Capping
-mod Levels
-mod Fresh
-mod Moves
-mod Passes
-mod Meaning
-mod Operators
-mod Beginnings
-mod Rows
-mod Openings
-mod Lift
-mod Within
-mod Dead
-mod Closings
-mod Commas
-mod BareNames
-mod Steps
+pub mod Options
+pub mod Capping
+pub mod Levels
+pub mod Fresh
+pub mod Moves
+pub mod Passes
+pub mod Meaning
+pub mod Operators
+pub mod Beginnings
+pub mod Rows
+pub mod Openings
+pub mod Lift
+pub mod Within
+pub mod Dead
+pub mod Closings
+pub mod Commas
+pub mod BareNames
+pub mod Steps
 pub mod Read
 mod RowLaws

@@ -3,12 +3,12 @@ pub mod Nested
 pub mod Passed
 pub mod Parted
 pub mod Judged
-mod Bodies
-mod Texts
-mod SpelledLines
-mod TextLines
-mod Replayed
-mod Reparted
-mod Rejudged
+pub mod Bodies
+pub mod Texts
+pub mod SpelledLines
+pub mod TextLines
+pub mod Replayed
+pub mod Reparted
+pub mod Rejudged
 pub mod Whole
-mod CoroutineLines
+pub mod CoroutineLines

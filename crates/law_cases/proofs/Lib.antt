@@ -1,8 +1,8 @@
 pub mod Composing
 pub mod Fits
-mod Reading
-mod Sending
-mod Standing
+pub mod Reading
+pub mod Sending
+pub mod Standing
 pub mod Opening
 pub mod Asking
 pub mod Cases

@@ -10,6 +10,6 @@ pub mod StepNumbers
 pub mod Counting
 pub mod Balancing
 pub mod LoopBalance
-mod Asked
+pub mod Asked
 pub mod Quietly
 pub mod Booking

@@ -5,7 +5,7 @@ pub mod Due
 pub mod Revoking
 pub mod Firing
 pub mod Told
-mod StepTold
+pub mod StepTold
 pub mod Holding
 pub mod MakingHolds
 pub mod StepHolds

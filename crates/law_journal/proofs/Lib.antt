@@ -1,17 +1,17 @@
-mod Items
-mod Lengths
-mod Numbers
-mod Tokens
-mod Words
-mod Readings
-mod Newlines
-mod Journals
+pub mod Items
+pub mod Lengths
+pub mod Numbers
+pub mod Tokens
+pub mod Words
+pub mod Readings
+pub mod Newlines
+pub mod Journals
 mod Recorded
-mod Tasks
-mod Lines
+pub mod Tasks
+pub mod Lines
 mod Standing
 mod Meanings
-mod WorkBodies
+pub mod WorkBodies
 pub mod Texts
 pub mod Scripts
 pub mod WorkJournals

@@ -1,18 +1,18 @@
-mod Cuts
-mod Shapes
-mod Read
-mod Facts
+pub mod Cuts
+pub mod Shapes
+pub mod Read
+pub mod Facts
 mod Meanings
-mod Fronts
+pub mod Fronts
 pub mod Spelling
-mod TokenTexts
-mod ExprTexts
-mod LineReads
-mod Arguments
+pub mod TokenTexts
+pub mod ExprTexts
+pub mod LineReads
+pub mod Arguments
 pub mod FormReads
 pub mod Printable
-mod Goods
-mod GoodTerms
-mod GoodForms
-mod MeantTerms
+pub mod Goods
+pub mod GoodTerms
+pub mod GoodForms
+pub mod MeantTerms
 pub mod MeantLines

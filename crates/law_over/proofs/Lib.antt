@@ -1,6 +1,6 @@
-mod Along
+pub mod Along
 pub mod Growing
-mod OverChildren
-mod OverConnections
-mod Spent
+pub mod OverChildren
+pub mod OverConnections
+pub mod Spent
 pub mod Staying

@@ -1,9 +1,9 @@
-mod Answering
-mod Extras
+pub mod Answering
+pub mod Extras
 pub mod Opened
 pub mod Rows
 pub mod Streams
-mod Trees
+pub mod Trees
 pub mod Loops
 pub mod Running
 pub mod Turning

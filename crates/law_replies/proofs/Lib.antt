@@ -2,7 +2,7 @@ pub mod Tapes
 pub mod Blocks
 pub mod Counts
 pub mod Keeping
-mod Replacing
+pub mod Replacing
 pub mod Given
 pub mod Nobody
 pub mod Answering
@@ -11,6 +11,6 @@ pub mod Standing
 pub mod Streaming
 pub mod Innermost
 pub mod Table
-mod Entering
+pub mod Entering
 pub mod Exiting
 pub mod Replying

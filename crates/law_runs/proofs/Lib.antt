@@ -11,6 +11,6 @@ pub mod Turning
 pub mod Nothing
 pub mod Folding
 pub mod Leaving
-mod Handles
+pub mod Handles
 pub mod Steps
 pub mod Calls

@@ -1,9 +1,9 @@
 pub mod Loops
-mod Sound
+pub mod Sound
 pub mod Bodies
-mod Ends
+pub mod Ends
 pub mod Counting
-mod Values
-mod Nesting
-mod BlockBodies
+pub mod Values
+pub mod Nesting
+pub mod BlockBodies
 pub mod Growing

@@ -1,8 +1,8 @@
 mod LineEnds
 mod LinesByUntil
-mod ReaderOrder
-mod SoundWriters
-mod WriterOrder
+pub mod ReaderOrder
+pub mod SoundWriters
+pub mod WriterOrder
 pub mod Along
 pub mod SenderRuns
 pub mod SoundSenders

@@ -1,6 +1,6 @@
 pub mod PieceLemmas
 pub mod RunLemmas
-mod InsideLemmas
+pub mod InsideLemmas
 pub mod SymbolLemmas
 pub mod CutLemmas
 pub mod PartLemmas

@@ -5,9 +5,9 @@ pub mod Loops
 pub mod Made
 pub mod Parts
 pub mod Requests
-mod Replying
+pub mod Replying
 pub mod Running
-mod Serving
+pub mod Serving
 pub mod Stepping
 pub mod Streaming
 pub mod TreeSteps

@@ -1,5 +1,5 @@
 mod Beginning
-mod Replying
+pub mod Replying
 pub mod Rows
 pub mod Trees
 pub mod Turning

@@ -1,15 +1,15 @@
-mod Keeping
+pub mod Keeping
 mod Doing
 mod Telling
 mod Noted
 mod Stopping
-mod Alike
+pub mod Alike
 mod Adding
 pub mod Forgetting
 pub mod Nexts
 mod Calling
 mod Leaving
-mod Owning
+pub mod Owning
 mod Standing
 mod Going
 pub mod Requests
@@ -17,7 +17,7 @@ pub mod Answering
 pub mod GivingUp
 pub mod May
 pub mod Meaning
-mod Kept
+pub mod Kept
 pub mod Possible
 pub mod Replying
 pub mod Unasking
