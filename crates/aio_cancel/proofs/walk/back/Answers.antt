@@ -29,7 +29,7 @@ pub returns-then-not-answer-clause-falls : goal.returns-then-not-answer-clause-f
 returns-then-not-answer-clause-falls c = λ seen stack.
     rw c.in-Waits.is
     (weigh_back_must_cancel _ c.in-Waits.task true c.args.answer stack seen (parts c.args.body.now) (parts c.set_must_cancel.new.self)
-        c.set_must_cancel.ensures.after)
+    c.set_must_cancel.ensures.after)
 
 pub returns-else-not-answer-clause-falls : goal.returns-else-not-answer-clause-falls
 returns-else-not-answer-clause-falls c = λ seen stack.
