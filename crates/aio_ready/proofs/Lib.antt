@@ -1,4 +1,3 @@
-pub mod Turning
 pub mod Reaching
 pub mod Forks
 pub mod Changes

@@ -1,5 +1,6 @@
 -- What a change under one number comes to under names.
-use Rattle.std.proofs.Common.{◌≡◌, ◌==◌, ℕ, Bool, true, false, Option, Some, refl, arith, if◌then◌else◌}
+use Rattle.std.proofs.Common.{◌≡◌, ◌==◌, ℕ, Bool, true, false, Option, Some, None, refl, arith, if◌then◌else◌}
+use Rattle.std.specs.Option.{is_some}
 use Rattle.std.proofs.lemmas.Bool.{false≢true}
 use Rattle.std.proofs.lemmas.Bool.Decides.{nat_tests}
 use Rattle.aio_ready.specs.declared.handle.HandleName.{HandleName}
@@ -73,3 +74,8 @@ turned_name (Given number) (Timer other) = refl
 turned_name (Timer number) Nameless = refl
 turned_name (Timer number) (Given other) = refl
 turned_name (Timer number) (Timer other) = grind (arith, nat_tests)
+
+-- what isn't there is not something
+pub not_there : (state : Option Bool) → None ≡ state → is_some state ≡ true → ⊥
+not_there None h k = false≢true k
+not_there (Some dead) h k = absurd (cc)

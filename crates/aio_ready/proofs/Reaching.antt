@@ -1,13 +1,15 @@
 -- Handles whose numbers do not fall below others: what changes them, and what passes them by.
-use Rattle.std.proofs.Common.{◌≡◌, ◌≤◌, ◌==◌, ℕ, Bool, true, false, ◌||◌, List, [], ◌∷◌, ◌++◌, map, reverse, refl, nat_le, arith}
+use Rattle.std.proofs.Common.{◌≡◌, ◌≤◌, ◌==◌, ℕ, Bool, true, false, ◌||◌, List, [], ◌∷◌, ◌++◌, map, refl, nat_le, arith}
 use Rattle.std.proofs.lemmas.Bool.{and_parts, true≢false}
 use Rattle.std.proofs.lemmas.List.Folds.{list_all-append}
-use mathlib.Core.List.{reverse_aux}
+use Rattle.model_value.specs.Action.{Action}
 use Rattle.aio_ready.specs.declared.handle.HandleName.{HandleName}
 use Rattle.aio_ready.specs.declared.handle.HandleName.TheVariants.{Nameless, Given, Timer}
+use Rattle.aio_ready.specs.declared.handle.Handle.{Handle}
+use Rattle.aio_ready.specs.declared.index.Leaf.{Leaf}
 use Rattle.aio_ready.specs.declared.least.Least.{Least}
-use Rattle.aio_ready.specs.declared.stack.Entry.{Entry}
-use Rattle.aio_ready.specs.declared.stack.Entry.TheVariants.{Loose, Registered}
+use Rattle.aio_ready.specs.declared.entry.Entry.{Entry}
+use Rattle.aio_ready.specs.declared.entry.Entry.TheVariants.{Loose, Registered}
 use Rattle.aio_ready.specs.Names.{is_same}
 use Rattle.aio_ready.specs.Entries.{loosely_marked}
 use Rattle.aio_ready.specs.Reach.{reaches, is_reached, all_reach, IsBelow}
@@ -31,7 +33,7 @@ same_dead false = refl
 
 one_passed : (least : Least) (name : HandleName) (entry : Entry) → reaches least name ≡ false → is_reached least entry ≡ true
     → loosely_marked name entry ≡ entry
-one_passed least name (Loose handle) h k = rw (other least name handle.name h k, same_dead handle.dead) refl
+one_passed least name (Loose handle leaf) h k = rw (other least name handle.name h k, same_dead handle.dead) refl
 one_passed least name (Registered own action) h k = refl
 
 pub passed_by : (least : Least) (name : HandleName) (entries : List Entry) → reaches least name ≡ false
@@ -44,7 +46,7 @@ passed_by least name (entry ∷ entries) h k =
 -- ---- marks leave names
 mark_leaves : (least : Least) (name : HandleName) (entry : Entry)
     → is_reached least (loosely_marked name entry) ≡ is_reached least entry
-mark_leaves least name (Loose handle) = refl
+mark_leaves least name (Loose handle leaf) = refl
 mark_leaves least name (Registered own action) = refl
 
 pub marks_leave : (least : Least) (name : HandleName) (entries : List Entry)
@@ -63,7 +65,7 @@ one_lowered least other (Timer number) h k = lesser least.timer other.timer numb
 
 entry_lowered : (least other : Least) (entry : Entry) → IsBelow least other → is_reached other entry ≡ true
     → is_reached least entry ≡ true
-entry_lowered least other (Loose handle) h k = one_lowered least other handle.name h k
+entry_lowered least other (Loose handle leaf) h k = one_lowered least other handle.name h k
 entry_lowered least other (Registered name action) h k = refl
 
 pub lowered : (least other : Least) (entries : List Entry) → IsBelow least other → all_reach other entries ≡ true
@@ -73,25 +75,15 @@ lowered least other (entry ∷ entries) h k =
     let parts = and_parts (is_reached other entry) (all_reach other entries) k in
     rw (entry_lowered least other entry h parts.0, lowered least other entries h parts.1) refl
 
--- ---- turning, and one after another
-turned_onto : (least : Least) (entries onto : List Entry) → all_reach least entries ≡ true → all_reach least onto ≡ true
-    → all_reach least (reverse_aux entries onto) ≡ true
-turned_onto least [] onto h k = k
-turned_onto least (entry ∷ entries) onto h k =
-    let parts = and_parts (is_reached least entry) (all_reach least entries) h in
-    turned_onto least entries (entry ∷ onto) parts.1 (rw (parts.0, k) refl)
-
-turned : (least : Least) (entries : List Entry) → all_reach least entries ≡ true → all_reach least (reverse entries) ≡ true
-turned least entries h = turned_onto least entries [] h refl
-
-in_a_row : (least : Least) (entries others : List Entry) → all_reach least entries ≡ true → all_reach least others ≡ true
+-- ---- one row after another
+pub in_a_row : (least : Least) (entries others : List Entry) → all_reach least entries ≡ true → all_reach least others ≡ true
     → all_reach least (entries ++ others) ≡ true
 in_a_row least entries others h k = rw (list_all-append (is_reached least) entries others, h, k) refl
 
--- ---- what comes to stand before the bar
-pub at_the_bar : (least : Least) (below late : List Entry) → all_reach least below ≡ true → all_reach least late ≡ true
-    → all_reach least (reverse (reverse below ++ []) ++ (reverse late ++ [])) ≡ true
-at_the_bar least below late b l =
-    in_a_row least (reverse (reverse below ++ [])) (reverse late ++ [])
-    (turned least (reverse below ++ []) (in_a_row least (reverse below) [] (turned least below b) refl))
-    (in_a_row least (reverse late) [] (turned least late l) refl)
+pub loose_reached : (least : Least) (handle : Handle) (leaf : Leaf) (entries : List Entry) → all_reach least entries ≡ true
+    → reaches least handle.name ≡ true → all_reach least (entries ++ Loose handle leaf ∷ []) ≡ true
+loose_reached least handle leaf entries h k = in_a_row least entries (Loose handle leaf ∷ []) h (rw k refl)
+
+pub registered_reached : (least : Least) (name : HandleName) (action : Action) (entries : List Entry) → all_reach least entries ≡ true
+    → all_reach least (entries ++ Registered name action ∷ []) ≡ true
+registered_reached least name action entries h = in_a_row least entries (Registered name action ∷ []) h refl

@@ -1,18 +1,18 @@
 -- Handles whose states stand in a register: what changes of it do to them.
-use Rattle.std.proofs.Common.{◌≡◌, Bool, true, false, ◌||◌, not, List, [], ◌∷◌, ◌++◌, map, reverse, Option, Some, None, refl, sym, if◌then◌else◌}
+use Rattle.std.proofs.Common.{◌≡◌, Bool, true, false, ◌||◌, not, List, [], ◌∷◌, ◌++◌, map, Option, Some, None, refl, sym, if◌then◌else◌}
 use Rattle.std.specs.Option.{option_map, is_some}
 use Rattle.std.proofs.lemmas.Bool.{and_parts, false≢true, true≢false}
-use Rattle.std.proofs.lemmas.List.{append-nil, append_assoc, map-append, reverse-append, reverse-reverse}
+use Rattle.std.proofs.lemmas.List.{append-nil, append_assoc, map-append}
 use Rattle.std.proofs.lemmas.List.Folds.{list_all-append}
 use Rattle.model_value.specs.Action.{Action}
 use Rattle.aio_ready.specs.declared.handle.HandleName.{HandleName}
 use Rattle.aio_ready.specs.declared.handle.Handle.{Handle}
-use Rattle.aio_ready.specs.declared.stack.Entry.{Entry}
-use Rattle.aio_ready.specs.declared.stack.Entry.TheVariants.{Loose, Registered}
+use Rattle.aio_ready.specs.declared.index.Leaf.{Leaf}
+use Rattle.aio_ready.specs.declared.entry.Entry.{Entry}
+use Rattle.aio_ready.specs.declared.entry.Entry.TheVariants.{Loose, Registered}
 use Rattle.aio_ready.specs.Names.{is_same, marked}
-use Rattle.aio_ready.specs.Entries.{loosely_marked, is_dead, seen, is_held, all_held, is_apart, all_apart, AreDistinct, AreRegistered}
+use Rattle.aio_ready.specs.Entries.{loosely_marked, is_loose, all_loose, is_dead, seen, is_held, all_held, is_apart, all_apart, AreDistinct, AreRegistered}
 use Rattle.aio_ready.proofs.Names.{same_is, turned_name}
-use Rattle.aio_ready.proofs.Turning.{reverse-map}
 
 -- ---- a change under another name
 apart_is : (same : Bool) → not same ≡ true → same ≡ false
@@ -22,7 +22,7 @@ apart_is false h = refl
 one_unseen : (old new : HandleName → Option Bool) (name : HandleName) (entry : Entry)
     → ((other : HandleName) → is_same name other ≡ false → new other ≡ old other) → is_apart name entry ≡ true
     → seen new entry ≡ seen old entry
-one_unseen old new name (Loose handle) h k = refl
+one_unseen old new name (Loose handle leaf) h k = refl
 one_unseen old new name (Registered own action) h k = rw (h own (apart_is (is_same name own) k)) refl
 
 pub unseen : (old new : HandleName → Option Bool) (name : HandleName) (entries : List Entry)
@@ -36,7 +36,7 @@ unseen old new name (entry ∷ entries) h k =
 one_held : (old new : HandleName → Option Bool) (name : HandleName) (entry : Entry)
     → ((other : HandleName) → is_same name other ≡ false → new other ≡ old other) → is_apart name entry ≡ true
     → is_held new entry ≡ is_held old entry
-one_held old new name (Loose handle) h k = refl
+one_held old new name (Loose handle leaf) h k = refl
 one_held old new name (Registered own action) h k = rw (h own (apart_is (is_same name own) k)) refl
 
 pub still_held : (old new : HandleName → Option Bool) (name : HandleName) (entries : List Entry)
@@ -61,7 +61,7 @@ not_by states name own true e h k =
 
 one_not_held : (states : HandleName → Option Bool) (name : HandleName) (entry : Entry) → states name ≡ None
     → is_held states entry ≡ true → is_apart name entry ≡ true
-one_not_held states name (Loose handle) h k = refl
+one_not_held states name (Loose handle leaf) h k = refl
 one_not_held states name (Registered own action) h k = not_by states name own (is_same name own) refl h k
 
 pub not_held : (states : HandleName → Option Bool) (name : HandleName) (entries : List Entry) → states name ≡ None
@@ -88,7 +88,7 @@ held_after false state = refl
 one_marked : (old new : HandleName → Option Bool) (name : HandleName) (entry : Entry)
     → ((other : HandleName) → new other ≡ (if is_same name other then option_map (λ _. true) (old other) else old other))
     → is_held old entry ≡ true → seen new (loosely_marked name entry) ≡ marked name (seen old entry)
-one_marked old new name (Loose handle) h k = refl
+one_marked old new name (Loose handle leaf) h k = refl
 one_marked old new name (Registered own action) h k = rw (h own, dead_after (is_same name own) (old own) k) refl
 
 pub all_marked : (old new : HandleName → Option Bool) (name : HandleName) (entries : List Entry)
@@ -102,7 +102,7 @@ all_marked old new name (entry ∷ entries) h k =
 mark_held : (old new : HandleName → Option Bool) (name : HandleName) (entry : Entry)
     → ((other : HandleName) → new other ≡ (if is_same name other then option_map (λ _. true) (old other) else old other))
     → is_held new (loosely_marked name entry) ≡ is_held old entry
-mark_held old new name (Loose handle) h = refl
+mark_held old new name (Loose handle leaf) h = refl
 mark_held old new name (Registered own action) h = rw (h own, held_after (is_same name own) (old own)) refl
 
 marks_held : (old new : HandleName → Option Bool) (name : HandleName) (entries : List Entry)
@@ -112,7 +112,7 @@ marks_held old new name [] h = refl
 marks_held old new name (entry ∷ entries) h = rw (mark_held old new name entry h, marks_held old new name entries h) refl
 
 mark_apart : (name other : HandleName) (entry : Entry) → is_apart other (loosely_marked name entry) ≡ is_apart other entry
-mark_apart name other (Loose handle) = refl
+mark_apart name other (Loose handle leaf) = refl
 mark_apart name other (Registered own action) = refl
 
 marks_apart : (name other : HandleName) (entries : List Entry)
@@ -122,7 +122,7 @@ marks_apart name other (entry ∷ entries) = rw (mark_apart name other entry, ma
 
 marks_distinct : (name : HandleName) (entries : List Entry) → AreDistinct entries → AreDistinct (map (loosely_marked name) entries)
 marks_distinct name [] h = tt
-marks_distinct name (Loose handle ∷ entries) h = marks_distinct name entries h
+marks_distinct name (Loose handle leaf ∷ entries) h = marks_distinct name entries h
 marks_distinct name (Registered own action ∷ entries) h =
     (rw (marks_apart name own entries) h.0, marks_distinct name entries h.1)
 
@@ -143,27 +143,28 @@ apart_after_all : (name : HandleName) (last : Entry) (entries : List Entry) → 
     → is_apart name last ≡ true → all_apart name (entries ++ last ∷ []) ≡ true
 apart_after_all name last entries h k = rw (list_all-append (is_apart name) entries (last ∷ []), h, k) refl
 
-loose_distinct : (handle : Handle) (entries : List Entry) → AreDistinct entries → AreDistinct (entries ++ Loose handle ∷ [])
-loose_distinct handle [] h = tt
-loose_distinct handle (Loose other ∷ entries) h = loose_distinct handle entries h
-loose_distinct handle (Registered name action ∷ entries) h =
-    (apart_after_all name (Loose handle) entries h.0 refl, loose_distinct handle entries h.1)
+loose_distinct : (handle : Handle) (leaf : Leaf) (entries : List Entry) → AreDistinct entries
+    → AreDistinct (entries ++ Loose handle leaf ∷ [])
+loose_distinct handle leaf [] h = tt
+loose_distinct handle leaf (Loose other own ∷ entries) h = loose_distinct handle leaf entries h
+loose_distinct handle leaf (Registered name action ∷ entries) h =
+    (apart_after_all name (Loose handle leaf) entries h.0 refl, loose_distinct handle leaf entries h.1)
 
 distinct_after_all : (name : HandleName) (action : Action) (entries : List Entry) → AreDistinct entries
     → all_apart name entries ≡ true → AreDistinct (entries ++ Registered name action ∷ [])
 distinct_after_all name action [] h k = (refl, tt)
-distinct_after_all name action (Loose other ∷ entries) h k = distinct_after_all name action entries h k
+distinct_after_all name action (Loose other leaf ∷ entries) h k = distinct_after_all name action entries h k
 distinct_after_all name action (Registered own other ∷ entries) h k =
     let parts = and_parts (not (is_same name own)) (all_apart name entries) k in (
       apart_after_all own (Registered name action) entries h.0 (rw (turned_name own name) parts.0),
       distinct_after_all name action entries h.1 parts.1,
     )
 
-pub registered_loose : (states : HandleName → Option Bool) (handle : Handle) (entries : List Entry) → AreRegistered states entries
-    → AreRegistered states (entries ++ Loose handle ∷ [])
-registered_loose states handle entries h = record {
-  held = held_after_all states (Loose handle) entries h.held refl;
-  distinct = loose_distinct handle entries h.distinct;
+pub registered_loose : (states : HandleName → Option Bool) (handle : Handle) (leaf : Leaf) (entries : List Entry)
+    → AreRegistered states entries → AreRegistered states (entries ++ Loose handle leaf ∷ [])
+registered_loose states handle leaf entries h = record {
+  held = held_after_all states (Loose handle leaf) entries h.held refl;
+  distinct = loose_distinct handle leaf entries h.distinct;
 }
 
 some_is : (state : Option Bool) → state ≡ Some false → is_some state ≡ true
@@ -189,14 +190,15 @@ registered_left old new name action entries h k =
       distinct = k.distinct.1;
     }
 
-pub loose_left : (states : HandleName → Option Bool) (handle : Handle) (entries : List Entry)
-    → AreRegistered states (Loose handle ∷ entries) → AreRegistered states entries
-loose_left states handle entries h = record { held = h.held; distinct = h.distinct }
+pub loose_left : (states : HandleName → Option Bool) (handle : Handle) (leaf : Leaf) (entries : List Entry)
+    → AreRegistered states (Loose handle leaf ∷ entries) → AreRegistered states entries
+loose_left states handle leaf entries h = record { held = h.held; distinct = h.distinct }
 
--- ---- the queue: those before the bar, and those after it, the last first
-put_on : (last : Entry) (below late : List Entry) → below ++ reverse (last ∷ late) ≡ (below ++ reverse late) ++ last ∷ []
-put_on last below late = rw (reverse-append (last ∷ []) late) (sym (append_assoc below (reverse late) (last ∷ [])))
+pub first_held : (states : HandleName → Option Bool) (name : HandleName) (action : Action) (entries : List Entry)
+    → AreRegistered states (Registered name action ∷ entries) → is_some (states name) ≡ true
+first_held states name action entries h = (and_parts (is_some (states name)) (all_held states entries) h.held).0
 
+-- ---- the queue: those before the bar, and those after it
 others_by : (same : Bool) (new changed old : Option Bool) → new ≡ (if same then changed else old) → same ≡ false → new ≡ old
 others_by true new changed old h k = absurd (true≢false k)
 others_by false new changed old h k = h
@@ -207,23 +209,24 @@ pub but_entered : (old new : HandleName → Option Bool) (name : HandleName)
     → (other : HandleName) → is_same name other ≡ false → new other ≡ old other
 but_entered old new name h other k = others_by (is_same name other) (new other) (Some false) (old other) (h other) k
 
-pub queue_loose : (states : HandleName → Option Bool) (handle : Handle) (below late : List Entry)
-    → AreRegistered states (below ++ reverse late) → AreRegistered states (below ++ reverse (Loose handle ∷ late))
-queue_loose states handle below late h = rw (put_on (Loose handle) below late) (registered_loose states handle (below ++ reverse late) h)
+pub queue_loose : (states : HandleName → Option Bool) (handle : Handle) (leaf : Leaf) (below late : List Entry)
+    → AreRegistered states (below ++ late) → AreRegistered states (below ++ (late ++ Loose handle leaf ∷ []))
+queue_loose states handle leaf below late h =
+    rw (← append_assoc below late (Loose handle leaf ∷ [])) (registered_loose states handle leaf (below ++ late) h)
 
 pub queue_entered : (old new : HandleName → Option Bool) (name : HandleName) (action : Action) (below late : List Entry)
     → ((other : HandleName) → new other ≡ (if is_same name other then Some false else old other)) → old name ≡ None
-    → new name ≡ Some false → AreRegistered old (below ++ reverse late)
-    → AreRegistered new (below ++ reverse (Registered name action ∷ late))
+    → new name ≡ Some false → AreRegistered old (below ++ late)
+    → AreRegistered new (below ++ (late ++ Registered name action ∷ []))
 queue_entered old new name action below late h none there k =
-    rw (put_on (Registered name action) below late)
-    (registered_entered old new name action (below ++ reverse late) (but_entered old new name h) none there k)
+    rw (← append_assoc below late (Registered name action ∷ []))
+    (registered_entered old new name action (below ++ late) (but_entered old new name h) none there k)
 
 -- what is seen once a name is entered
 pub record SeenEntered (old new : HandleName → Option Bool) (name : HandleName) (action : Action) (below late : List Entry) : Type 0 where
   pub before : map (seen new) below ≡ map (seen old) below
-  pub after : map (seen new) (reverse (Registered name action ∷ late))
-      ≡ map (seen old) (reverse late) ++ record { name = name; action = action; dead = false } ∷ []
+  pub after : map (seen new) (late ++ Registered name action ∷ [])
+      ≡ map (seen old) late ++ record { name = name; action = action; dead = false } ∷ []
 
 seen_last : (states : HandleName → Option Bool) (name : HandleName) (action : Action) → states name ≡ Some false
     → seen states (Registered name action) ≡ record { name = name; action = action; dead = false }
@@ -231,16 +234,15 @@ seen_last states name action h = rw h refl
 
 pub seen_entered : (old new : HandleName → Option Bool) (name : HandleName) (action : Action) (below late : List Entry)
     → ((other : HandleName) → new other ≡ (if is_same name other then Some false else old other)) → old name ≡ None
-    → new name ≡ Some false → AreRegistered old (below ++ reverse late) → SeenEntered old new name action below late
+    → new name ≡ Some false → AreRegistered old (below ++ late) → SeenEntered old new name action below late
 seen_entered old new name action below late h none there k =
-    let apart = not_held old name (below ++ reverse late) none k.held in
-    let parts = and_parts (all_apart name below) (all_apart name (reverse late)) (rw (list_all-append (is_apart name) below (reverse late)) at apart) in
+    let apart = not_held old name (below ++ late) none k.held in
+    let parts = and_parts (all_apart name below) (all_apart name late) (rw (list_all-append (is_apart name) below late) at apart) in
     let others = but_entered old new name h in record {
       before = unseen old new name below others parts.0;
       after = rw (
-        reverse-append (Registered name action ∷ []) late,
-        map-append (seen new) (reverse late) (Registered name action ∷ []),
-        unseen old new name (reverse late) others parts.1,
+        map-append (seen new) late (Registered name action ∷ []),
+        unseen old new name late others parts.1,
         seen_last new name action there,
       )
           refl;
@@ -249,45 +251,40 @@ seen_entered old new name action below late h none there k =
 -- marks of both parts
 pub queue_marked : (old new : HandleName → Option Bool) (name : HandleName) (below late : List Entry)
     → ((other : HandleName) → new other ≡ (if is_same name other then option_map (λ _. true) (old other) else old other))
-    → AreRegistered old (below ++ reverse late)
-    → AreRegistered new (map (loosely_marked name) below ++ reverse (map (loosely_marked name) late))
+    → AreRegistered old (below ++ late)
+    → AreRegistered new (map (loosely_marked name) below ++ map (loosely_marked name) late)
 queue_marked old new name below late h k =
-    rw (reverse-map (loosely_marked name) late, ← map-append (loosely_marked name) below (reverse late))
-    (registered_marked old new name (below ++ reverse late) h k)
+    rw (← map-append (loosely_marked name) below late) (registered_marked old new name (below ++ late) h k)
 
-pub below_held : (states : HandleName → Option Bool) (below late : List Entry) → AreRegistered states (below ++ reverse late)
-    → (all_held states below ≡ true) × (all_held states (reverse late) ≡ true)
+pub below_held : (states : HandleName → Option Bool) (below late : List Entry) → AreRegistered states (below ++ late)
+    → (all_held states below ≡ true) × (all_held states late ≡ true)
 below_held states below late h =
-    and_parts (all_held states below) (all_held states (reverse late)) (rw (list_all-append (is_held states) below (reverse late)) at h.held)
+    and_parts (all_held states below) (all_held states late) (rw (list_all-append (is_held states) below late) at h.held)
 
 pub seen_marked : (old new : HandleName → Option Bool) (name : HandleName) (below late : List Entry)
     → ((other : HandleName) → new other ≡ (if is_same name other then option_map (λ _. true) (old other) else old other))
-    → AreRegistered old (below ++ reverse late)
+    → AreRegistered old (below ++ late)
     → (map (seen new) (map (loosely_marked name) below) ≡ map (marked name) (map (seen old) below))
-    × (map (seen new) (reverse (map (loosely_marked name) late)) ≡ map (marked name) (map (seen old) (reverse late)))
+    × (map (seen new) (map (loosely_marked name) late) ≡ map (marked name) (map (seen old) late))
 seen_marked old new name below late h k =
-    let held = below_held old below late k in (
-      all_marked old new name below h held.0,
-      rw (reverse-map (loosely_marked name) late) (all_marked old new name (reverse late) h held.1),
-    )
+    let held = below_held old below late k in
+    (all_marked old new name below h held.0, all_marked old new name late h held.1)
 
 -- all stand before the bar
-pub queue_barred : (states : HandleName → Option Bool) (below late : List Entry) → AreRegistered states (below ++ reverse late)
-    → AreRegistered states ((reverse (reverse below ++ []) ++ (reverse late ++ [])) ++ [])
-queue_barred states below late h =
-    rw (
-      append-nil (reverse (reverse below ++ []) ++ (reverse late ++ [])),
-      append-nil (reverse below),
-      append-nil (reverse late),
-      reverse-reverse below,
-    )
-    h
+pub queue_barred : (states : HandleName → Option Bool) (below late : List Entry) → AreRegistered states (below ++ late)
+    → AreRegistered states ((below ++ late) ++ [])
+queue_barred states below late h = rw (append-nil (below ++ late)) h
 
 -- the first leaves
 pub seen_left : (old new : HandleName → Option Bool) (name : HandleName) (action : Action) (below late : List Entry)
     → ((other : HandleName) → is_same name other ≡ false → new other ≡ old other)
-    → AreRegistered old (Registered name action ∷ below ++ reverse late)
-    → (map (seen new) below ≡ map (seen old) below) × (map (seen new) (reverse late) ≡ map (seen old) (reverse late))
+    → AreRegistered old (Registered name action ∷ below ++ late)
+    → (map (seen new) below ≡ map (seen old) below) × (map (seen new) late ≡ map (seen old) late)
 seen_left old new name action below late h k =
-    let parts = and_parts (all_apart name below) (all_apart name (reverse late)) (rw (list_all-append (is_apart name) below (reverse late)) at k.distinct.0) in
-    (unseen old new name below h parts.0, unseen old new name (reverse late) h parts.1)
+    let parts = and_parts (all_apart name below) (all_apart name late) (rw (list_all-append (is_apart name) below late) at k.distinct.0) in
+    (unseen old new name below h parts.0, unseen old new name late h parts.1)
+
+-- ---- callbacks are loose
+pub loose_added : (handle : Handle) (leaf : Leaf) (entries : List Entry) → all_loose entries ≡ true
+    → all_loose (entries ++ Loose handle leaf ∷ []) ≡ true
+loose_added handle leaf entries h = rw (list_all-append is_loose entries (Loose handle leaf ∷ []), h) refl

@@ -1,5 +1,4 @@
 pub mod Names
-pub mod Stacks
 pub mod Queue
 pub mod Reach
 pub mod Entries

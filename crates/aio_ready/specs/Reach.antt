@@ -3,8 +3,8 @@ use Rattle.std.specs.Prelude.{Bool, true, List, ◌≤◌, nat_le}
 use Rattle.std.specs.List.{list_all}
 use Rattle.aio_ready.specs.declared.handle.HandleName.{HandleName}
 use Rattle.aio_ready.specs.declared.handle.HandleName.TheVariants.{Nameless, Given, Timer}
-use Rattle.aio_ready.specs.declared.stack.Entry.{Entry}
-use Rattle.aio_ready.specs.declared.stack.Entry.TheVariants.{Loose, Registered}
+use Rattle.aio_ready.specs.declared.entry.Entry.{Entry}
+use Rattle.aio_ready.specs.declared.entry.Entry.TheVariants.{Loose, Registered}
 use Rattle.aio_ready.specs.declared.least.Least.{Least}
 
 -- whether a name's number does not fall below
@@ -15,7 +15,7 @@ reaches least (Timer number) = nat_le least.timer number
 
 -- whether that of a handle which says by itself whether it is dead does not
 abbrev pub is_reached : Least → Entry → Bool
-is_reached least (Loose handle) = reaches least handle.name
+is_reached least (Loose handle leaf) = reaches least handle.name
 is_reached least (Registered name action) = true
 
 abbrev pub all_reach : Least → List Entry → Bool

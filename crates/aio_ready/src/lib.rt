@@ -2,12 +2,12 @@
 #![tactic(auto)]
 
 mod callbacks;
+mod entry;
 mod handle;
 mod index;
 mod least;
 mod ready;
 mod register;
-mod stack;
 mod ticket;
 
 pub use callbacks::Callbacks;

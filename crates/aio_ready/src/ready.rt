@@ -6,12 +6,13 @@ ghost use Rattle.aio_ready.specs.Reach.{all_reach, IsBelow};
 ghost use Rattle.aio_ready.specs.Queue.{no_handles, soon, soon_all, next_name, appended, cancelled, barred, next_action, given_after, taken, is_empty};
 
 use crate::callbacks::Callbacks;
+use crate::entry::{Entry, mark_loose};
 use crate::handle::{Handle, HandleId, HandleName};
 use crate::least::Least;
 use crate::register::Register;
-use crate::stack::{Entry, Stack};
 use crate::ticket::Ticket;
 use aio_base::{Action, Memory};
+use aio_chain::Chain;
 use std::alloc::Global;
 use std::marker::Model;
 
@@ -22,10 +23,8 @@ const MOST_GIVEN: u64 = 1 << 62;
 /// order in which they were appended, and how many numbers were given.
 #[derive(Drop)]
 pub struct Ready {
-    // the first is on top
-    below: Stack,
-    // the last is on top
-    late: Stack,
+    below: Chain<Entry>,
+    late: Chain<Entry>,
     given: u64,
     // which of them wait under their names
     register: Register,
@@ -35,7 +34,7 @@ pub struct Ready {
 }
 
 impl Model for Ready {
-    ghost use Rattle.std.specs.Prelude.{◌≡◌, ◌++◌, map, reverse, true, ◌≤◌};
+    ghost use Rattle.std.specs.Prelude.{◌≡◌, ◌++◌, map, true, ◌≤◌};
     ghost use Rattle.aio_ready.specs.Queue.{Queue, most_given};
     ghost use Rattle.aio_ready.specs.Registered.{state};
     ghost use Rattle.aio_ready.specs.Entries.{seen, AreRegistered};
@@ -45,29 +44,29 @@ impl Model for Ready {
 
     ghost view = { λ a. record {
       below = map (seen (state a.register)) a.below;
-      after = map (seen (state a.register)) (reverse a.late);
+      after = map (seen (state a.register)) a.late;
       given = a.given;
     } };
 
     ghost invariant = { λ a. (a.given ≤ most_given)
         × ((all_reach a.least_below a.below ≡ true)
         × ((all_reach a.least_late a.late ≡ true)
-        × AreRegistered (state a.register) (a.below ++ reverse a.late))) };
+        × AreRegistered (state a.register) (a.below ++ a.late))) };
 }
 
 // Those with this name that say so by themselves are dead. They are looked through only where its
 // number does not fall below.
-fn mark(handles: &mut Stack, least: Least, name: HandleName)
+fn mark(handles: &mut Chain<Entry>, least: Least, name: HandleName)
     requires { all_reach least handles.old ≡ true }
     ensures { handles.new ≡ map (loosely_marked name) handles.old }
 {
     if least.reaches(name) {
-        handles.mark(name);
+        mark_loose(handles, name);
     }
 }
 
 // What serves for those before the bar, once those after it stand there too.
-fn least_at_bar(below: &Stack, least_below: Least, least_late: Least) -> Least
+fn least_at_bar(below: &Chain<Entry>, least_below: Least, least_late: Least) -> Least
     requires { all_reach least_below below.now ≡ true }
     ensures below { all_reach result below.now ≡ true }
     ensures late { IsBelow result least_late }
@@ -85,8 +84,8 @@ impl Ready {
         ensures { result ≡ no_handles }
     {
         Ready {
-            below: Stack::new(),
-            late: Stack::new(),
+            below: Chain::new(),
+            late: Chain::new(),
             given: 0,
             register: Register::new(),
             least_below: Least::of_none(),
@@ -118,9 +117,8 @@ impl Ready {
         ensures after { self.new ≡ soon_all waiting.old self.old }
         ensures waiting { waiting.new ≡ [] }
     {
-        let mut first = waiting.turn_out();
-        while let Some((handle, ticket)) = first.pop() {
-            let _id = self.soon(ticket, handle.into_action());
+        while let Some((action, ticket)) = waiting.pop() {
+            let _id = self.soon(ticket, action);
         }
     }
 
@@ -165,10 +163,7 @@ impl Ready {
     {
         self.least_below = least_at_bar(&self.below, self.least_below, self.least_late);
         self.least_late = Least::of_none();
-        let mut turned = Stack::new();
-        self.below.turn_onto(&mut turned);
-        self.late.turn_onto(&mut self.below);
-        turned.turn_onto(&mut self.below);
+        self.below.append(&mut self.late);
     }
 
     /// What runs next before the bar, with its memory. Those that were cancelled are let go.
@@ -191,11 +186,11 @@ impl Ready {
     {
         match self.below.pop() {
             None => None,
-            Some((entry, ticket)) => match entry {
-                Entry::Loose(handle) => Some((handle, ticket)),
+            Some((entry, spare)) => match entry {
+                Entry::Loose(handle, leaf) => Some((handle, Ticket { spare, leaf })),
                 Entry::Registered(name, action) => {
-                    let (dead, ticket) = self.register.leave(name, ticket);
-                    Some((Handle { name, action, dead }, ticket))
+                    let (dead, leaf) = self.register.leave(name);
+                    Some((Handle { name, action, dead }, Ticket { spare, leaf }))
                 }
             },
         }
@@ -222,13 +217,14 @@ impl Ready {
     fn append(&mut self, ticket: Ticket, name: HandleName, action: Action)
         ensures { self.new ≡ appended name action self.old }
     {
-        match self.register.enter(name, ticket) {
-            Ok(ticket) => self.late.push(ticket, Entry::Registered(name, action)),
-            Err(ticket) => {
+        let Ticket { spare, leaf } = ticket;
+        match self.register.enter(name, leaf) {
+            Ok(()) => self.late.push(spare, Entry::Registered(name, action)),
+            Err(leaf) => {
                 let dead = false;
                 self.least_late = self.least_late.with(name);
                 let handle = Handle { name, action, dead };
-                self.late.push(ticket, Entry::Loose(handle));
+                self.late.push(spare, Entry::Loose(handle, leaf));
             }
         }
     }

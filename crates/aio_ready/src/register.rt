@@ -1,12 +1,11 @@
 //! Which handles wait, by name.
-ghost use Rattle.std.specs.Prelude.{◌≡◌, [], None, Some, false, OnOk, OnErr};
-ghost use Rattle.std.specs.Option.{option_map};
+ghost use Rattle.std.specs.Prelude.{◌≡◌, [], None, Some, true, false, OnOk, OnErr};
+ghost use Rattle.std.specs.Option.{option_map, is_some};
 ghost use Rattle.aio_ready.specs.Entries.{is_dead};
 ghost use Rattle.aio_ready.specs.Registered.{state, IsEntered, IsStruck, IsLeft};
 
 use crate::handle::HandleName;
 use crate::index::{Index, Leaf};
-use crate::ticket::Ticket;
 
 /// The names of handles that wait, each with whether its handle is dead.
 #[derive(Drop)]
@@ -26,28 +25,9 @@ impl Register {
         }
     }
 
-    /// A name that isn't there is entered, in memory of the ticket, which comes back without it. The
-    /// ticket comes back as it was where the name is there already or names nothing.
-    pub fn enter(&mut self, name: HandleName, ticket: Ticket) -> Result<Ticket, Ticket>
-        ensures free { OnOk result (state self.old name ≡ None) }
-        ensures there { OnOk result (state self.new name ≡ Some false) }
-        ensures after { OnOk result (IsEntered name self.old self.new) }
-        ensures err { OnErr result (self.new ≡ self.old) }
-    {
-        let Ticket { room, leaf } = ticket;
-        let Some(leaf) = leaf else {
-            return Err(Ticket { room, leaf: None });
-        };
-        match self.put(name, leaf) {
-            Ok(()) => Ok(Ticket { room, leaf: None }),
-            Err(leaf) => Err(Ticket {
-                room,
-                leaf: Some(leaf),
-            }),
-        }
-    }
-
-    fn put(&mut self, name: HandleName, leaf: Leaf) -> Result<(), Leaf>
+    /// A name that isn't there is entered, in memory of its ticket. The memory comes back where the
+    /// name is there already or names nothing.
+    pub fn enter(&mut self, name: HandleName, leaf: Leaf) -> Result<(), Leaf>
         ensures free { OnOk result (state self.old name ≡ None) }
         ensures there { OnOk result (state self.new name ≡ Some false) }
         ensures after { OnOk result (IsEntered name self.old self.new) }
@@ -71,15 +51,16 @@ impl Register {
         }
     }
 
-    /// A name that is there leaves, and its memory goes back to its ticket. The answer says whether
-    /// its handle is dead.
-    pub fn leave(&mut self, name: HandleName, ticket: Ticket) -> (bool, Ticket)
+    /// A name that is there leaves, and its memory comes back. The answer begins with whether its
+    /// handle is dead.
+    pub fn leave(&mut self, name: HandleName) -> (bool, Leaf)
+        requires { is_some (state self.old name) ≡ true }
         ensures dead { result.0 ≡ is_dead (state self.old name) }
         ensures after { IsLeft name self.old self.new }
     {
         match self.take(name) {
-            Some((dead, leaf)) => (dead, ticket.with(leaf)),
-            None => (false, ticket),
+            Some(left) => left,
+            None => unreachable!(),
         }
     }
 

@@ -1,7 +1,7 @@
--- The new one is among those after the bar.
+-- The new one is the last of those after the bar.
 use Rattle.std.proofs.Common.{refl}
 use Rattle.aio_ready.specs.Registered.{state}
-use Rattle.aio_ready.proofs.Reaching.{lowered}
+use Rattle.aio_ready.proofs.Reaching.{lowered, loose_reached, registered_reached}
 use Rattle.aio_ready.proofs.Seeing.{queue_loose, queue_entered, seen_entered}
 use Rattle.aio_ready.proofs.ready.Ready.append.Goals as goal
 
@@ -14,7 +14,7 @@ invariant_of-self c =
       (
         rest.0,
         (
-          rest.1.0,
+          registered_reached inside.least_late c.args.name c.args.action inside.late rest.1.0,
           queue_entered (state inside.register) (state c.enter.new.self) c.args.name c.args.action inside.below inside.late
               c.in-Ok.ensures.after c.in-Ok.ensures.free c.in-Ok.ensures.there rest.1.1,
         ),
@@ -37,12 +37,10 @@ invariant_of-self-in-Err c =
       (
         rest.0,
         (
-          rw (
-            c.with-self-inside.ensures.name,
-            lowered c.with-self-inside.result inside.least_late inside.late c.with-self-inside.ensures.below rest.1.0,
-          )
-              refl,
-          queue_loose (state inside.register) _ inside.below inside.late rest.1.1,
+          loose_reached c.with-self-inside.result _ _ inside.late
+              (lowered c.with-self-inside.result inside.least_late inside.late c.with-self-inside.ensures.below rest.1.0)
+              c.with-self-inside.ensures.name,
+          queue_loose (state inside.register) _ _ inside.below inside.late rest.1.1,
         ),
       ),
     )
