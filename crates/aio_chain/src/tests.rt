@@ -12,29 +12,39 @@ fn push_all(alloc: Global, chain: &mut Chain<u8>, values: &[u8]) -> Result<(), F
     Ok(())
 }
 
-#[test]
-fn chains_appended(rt: HostRuntime) -> Result<(), Fail> {
-    let values = [5, 6, 7];
-    let mut three = Chain::new();
-    push_all(rt.alloc(), &mut three, &values)?;
-    let mut all = Chain::new();
-    all.append(&mut three);
-    assert!(rt; three.is_empty());
-    all.append(&mut three);
-    for value in &values {
-        match all.pop() {
-            Some((first, _spare)) => assert_eq!(rt; first, *value),
-            None => return Err(Fail::from("too short")),
+// Takes all values, which are these.
+fn pop_all(chain: &mut Chain<u8>, values: &[u8]) -> Result<(), Fail> {
+    for value in values {
+        match chain.pop() {
+            Some((first, _spare)) => {
+                if first != *value {
+                    return Err(Fail::from("another value"));
+                }
+            }
+            None => return Err(Fail::from("a value too few")),
         }
     }
-    assert!(rt; all.pop().is_none());
-    push_all(rt.alloc(), &mut three, &values)?;
-    push_all(rt.alloc(), &mut all, &values)?;
-    all.append(&mut three);
-    let mut sum = 0u64;
-    while let Some((value, _spare)) = all.pop() {
-        sum = sum.wrapping_mul(10).wrapping_add(value as u64);
+    if chain.is_empty() {
+        Ok(())
+    } else {
+        Err(Fail::from("a value too many"))
     }
-    assert_eq!(rt; sum, 567567);
-    Ok(())
+}
+
+#[test]
+fn chains_appended(rt: HostRuntime) -> Result<(), Fail> {
+    let mut all = Chain::new();
+    let mut other = Chain::new();
+    push_all(rt.alloc(), &mut other, &[5, 6, 7])?;
+    all.append(&mut other);
+    all.append(&mut other);
+    pop_all(&mut all, &[5, 6, 7])?;
+    push_all(rt.alloc(), &mut all, &[1, 2])?;
+    push_all(rt.alloc(), &mut other, &[3, 4])?;
+    all.append(&mut other);
+    push_all(rt.alloc(), &mut other, &[8])?;
+    all.append(&mut other);
+    pop_all(&mut all, &[1, 2, 3, 4, 8])?;
+    // what is left is let go
+    push_all(rt.alloc(), &mut all, &[9, 9, 9])
 }
