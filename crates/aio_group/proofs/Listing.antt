@@ -8,11 +8,10 @@ use Rattle.std.specs.List.{AllByRecursion as Each, list_any}
 use Rattle.std.specs.List.Sorted.{IsStrictlySortedBy}
 use Rattle.std.specs.Ordering.{is_eq, nat_cmp}
 use Rattle.std.specs.Set.{remove_key}
-use Rattle.std.specs.declared.cmp.Ordering.TheVariants.{Less}
-use Rattle.std.proofs.lemmas.Bool.{cases_eq, cases_lt, eq-eqb, ne_eqb}
+use Rattle.std.specs.declared.cmp.Ordering.TheVariants.{Less, Equal, Greater}
+use Rattle.std.proofs.lemmas.Bool.{cases_eq, cases_lt, lt-ltb, le-ltb, eq-eqb, ne_eqb}
 use Rattle.std.proofs.lemmas.Map.Keys.{sorted_head, sorted_tail}
 use Rattle.model_loop.specs.Cancel.{has_seen}
-use Rattle.aio_timer.proofs.Comparing.{less, equal, greater}
 
 pub set-set : {X : Type 0} (xs : List X) (i : ℕ) (a b : X) → slice_set (slice_set xs i a) i b ≡ slice_set xs i b
 set-set [] i a b = refl
@@ -74,6 +73,15 @@ some_each (x ∷ xs) (y ∷ ys) e =
     ap (λ z. z ∷ xs) head ∙ ap (λ zs. y ∷ zs) (some_each xs ys tail)
 
 -- ---- children by number
+less : (a b : ℕ) → a < b → nat_cmp a b ≡ Less
+less a b l = rw (lt-ltb a b l) refl
+
+equal : (a b : ℕ) → a ≡ b → nat_cmp a b ≡ Equal
+equal a b e = rw (le-ltb a b (omega arith), eq-eqb a b e) refl
+
+greater : (a b : ℕ) → b < a → nat_cmp a b ≡ Greater
+greater a b l = rw (le-ltb a b (omega arith), ne_eqb a b (omega arith)) refl
+
 at_equal : (a b : ℕ) → is_at (nat_cmp a) b ≡ (b == a)
 at_equal a b = go (cases_lt a b) (cases_lt b a)
   where

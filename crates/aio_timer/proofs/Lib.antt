@@ -1,2 +1,5 @@
 pub mod Comparing
-pub mod Placing
+pub mod Sorting
+pub mod Waiting
+pub mod Searching
+pub mod Keeping

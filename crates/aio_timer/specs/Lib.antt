@@ -1,2 +1,2 @@
 pub mod Schedule
-pub mod Entries
+pub mod Kept

@@ -1,5 +1,5 @@
 -- The timers that live. Source: `base_events.py`, `call_at`, `_scheduled`, `_run_once`; `events.py`, TimerHandle.
-use Rattle.std.specs.Prelude.{ℕ, ◌<◌, ◌==◌, ◌&&◌, Bool, true, false, List, [], ◌∷◌, Option, None, Some, filter, nat_le, nat_lt, if◌then◌else◌}
+use Rattle.std.specs.Prelude.{ℕ, ◌==◌, ◌&&◌, Bool, true, false, List, [], ◌∷◌, Option, None, Some, filter, nat_le, nat_lt, if◌then◌else◌}
 use Rattle.model_value.specs.Action.{Action}
 use Rattle.model_loop.specs.Parts.{Timer}
 use Rattle.aio_ready.specs.Queue.{Queue, appended}
@@ -52,8 +52,3 @@ later_than now = filter (λ (timer : Timer). nat_lt now timer.when)
 abbrev pub fallen : List Timer → Queue → Queue
 fallen [] q = q
 fallen (timer ∷ timers) q = fallen timers (appended (name.Timer timer.tag) timer.action q)
-
--- each number is below the next one
-abbrev pub AreBelow : ℕ → List Timer → Type 0
-AreBelow next [] = Unit {0}
-AreBelow next (timer ∷ timers) = (timer.tag < next) × AreBelow next timers

@@ -2,6 +2,8 @@
 #![tactic(auto)]
 
 mod live;
+mod number;
+mod place;
 mod timers;
 
 pub use live::TimerId;

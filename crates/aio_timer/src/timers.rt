@@ -31,17 +31,18 @@ impl Unplaced {
 #[derive(Drop)]
 pub struct Timers {
     live: Live,
-    next: u64,
 }
 
 impl Model for Timers {
-    ghost use Rattle.aio_timer.specs.Schedule.{Schedule, AreBelow};
+    ghost use Rattle.aio_timer.specs.Schedule.{Schedule};
 
     ghost Value = { Schedule };
 
-    ghost view = { λ a. record { live = a.live; next = a.next } };
+    ghost use Rattle.aio_timer.specs.Kept.{IsKept, timers_of};
 
-    ghost invariant = { λ a. AreBelow a.next a.live };
+    ghost view = { λ a. record { live = timers_of a.live; next = a.live.next } };
+
+    ghost invariant = { λ a. IsKept a.live };
 }
 
 impl Timers {
@@ -50,7 +51,7 @@ impl Timers {
         ensures { IfOk result (λ timers. timers ≡ no_timers) }
     {
         let live = Live::new(alloc);
-        Ok(Timers { live, next: 0 })
+        Ok(Timers { live })
     }
 
     /// `call_at`: a handle for a time, in milliseconds.
@@ -68,17 +69,9 @@ impl Timers {
         }) }
         ensures err { OnErr result (self.new ≡ self.old) }
     {
-        let number = self.next;
-        let Some(next) = number.checked_add(1) else {
-            return Err(Unplaced::of(ticket));
-        };
-        let id = TimerId { number, when };
-        match self.live.put(id, TimerHandle { action, ticket }) {
-            Ok(()) => {
-                self.next = next;
-                Ok(id)
-            }
-            Err(entry) => Err(Unplaced::of(entry.ticket)),
+        match self.live.put(when, TimerHandle { action, ticket }) {
+            Ok(id) => Ok(id),
+            Err(refused) => Err(Unplaced::of(refused.ticket)),
         }
     }
 
