@@ -1,24 +1,15 @@
--- How an exception of the code is seen as plain data: what it lacks is empty.
-use Rattle.std.specs.Prelude.{ℕ, List, [], Option, Some, None}
-use Rattle.std.specs.declared.rc.Rc.{Rc}
-use Rattle.std.specs.declared.rc.RcStr.{RcStr}
-use Rattle.std.specs.declared.rc.RcSlice.{RcSlice}
-use Rattle.std.specs.declared.alloc.Global.{Global}
-use Rattle.std.specs.Rc.{rc_str_bytes, rc_slice_items}
-use Rattle.model_value.specs.declared.kind.Kind.{Kind}
-use Rattle.model_value.specs.Value.{Exc, exc, Excs, no_excs, excs}
+-- How an exception of the code is seen as plain data.
+use Rattle.std.specs.Prelude.{[]}
+use Rattle.std.specs.String.{string_bytes}
+use Rattle.model_value.specs.Value.{Exc, exc, exception_of}
+use Rattle.aio_base.specs.declared.exc.ExcParts.{ExcParts}
+use Rattle.aio_base.specs.declared.exc.ExcNode.{ExcNode}
+use Rattle.aio_base.specs.declared.exc.ExcNode.TheVariants as node
+use Rattle.aio_base.specs.Held.{bytes_held, members_held}
 
-abbrev pub text_held : Option (RcStr Global) → List ℕ
-text_held None = []
-text_held (Some text) = rc_str_bytes text
+abbrev pub exc_of_parts : ExcParts → Exc
+exc_of_parts parts = exc parts.kind (string_bytes parts.text) (bytes_held parts.bytes) (members_held parts.members)
 
-abbrev pub bytes_held : Option (RcSlice ℕ Global) → List ℕ
-bytes_held None = []
-bytes_held (Some bytes) = rc_slice_items bytes
-
-abbrev pub members_held : Option (Rc (List Exc) Global) → Excs
-members_held None = no_excs
-members_held (Some members) = excs members.value
-
-abbrev pub exc_of : Kind → Option (RcStr Global) → Option (RcSlice ℕ Global) → Option (Rc (List Exc) Global) → Exc
-exc_of kind text bytes members = exc kind (text_held text) (bytes_held bytes) (members_held members)
+abbrev pub exc_of : ExcNode → Exc
+exc_of (node.Bare kind) = exception_of kind []
+exc_of (node.Full parts) = exc_of_parts parts.value

@@ -1,3 +1,4 @@
+pub mod Held
 pub mod Exc
 pub mod ExcFalls
 pub mod Value

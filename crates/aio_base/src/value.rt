@@ -12,6 +12,7 @@ use crate::nesting::depth_of_all;
 use crate::weigh::weight_of_all;
 use std::alloc::{AllocError, Global};
 use std::marker::Model;
+use std::mem::size_of;
 use std::rc::{Rc, RcSlice, RcStr};
 
 /// A value of a script. Contracts see it as plain data.
@@ -40,6 +41,9 @@ enum ValueNode {
     Errs(u32),
     Exc(Exc),
 }
+
+// A value is three words, whichever its case.
+const _: () = prove!(size_of::<Value>() == 24);
 
 /// A list of values.
 #[cycle(value)]

@@ -1,8 +1,9 @@
 //! Statements that were counted, and the exit of a `with`.
-ghost use Rattle.std.specs.Prelude.{◌≡◌, ◌+◌, ◌<◌, ◌^◌, ℕ, IfOk};
+ghost use Rattle.std.specs.Prelude.{◌≡◌, ◌+◌, ◌<◌, ◌^◌, ℕ, IfOk, OnOk, ◌∷◌};
 ghost use Rattle.law_flat.specs.declared.op.Op.TheVariants as flat;
 ghost use Rattle.law_flat.specs.Ops.{CoroutineCode};
-ghost use Rattle.law_flat.specs.Moves.{by_test, raise_value, ask_exit, after_statement};
+ghost use Rattle.law_flat.specs.Moves.{by_test, raise_value, ask_exit, after_statement, at_next, with_handlers};
+ghost use Rattle.law_flat.specs.declared.open_handler.OpenHandler.TheVariants.{AtExit, InFinally};
 ghost use Rattle.law_flat.specs.Rests.{fault_of};
 ghost use Rattle.model_says.specs.Operations.{bad_operand};
 ghost use Rattle.aio_gen.specs.Plain.{plain_frames, plain_move, exit_request};
@@ -205,32 +206,75 @@ impl Frames {
             (plain_frames self.old)) }
     {
         match self.frame.handlers.pop() {
-            Some(OpenHandler::AtExit(entered, way)) => {
-                let request = exit_request(of_group, entered, &way)?;
-                self.frame.handlers.push(OpenHandler::InFinally(way))?;
-                self.frame.place += 1;
-                Ok(Move::Asks(request, AnswerUse::Ignored))
-            }
-            _ => Ok(Move::Runaway),
+            Some(handler) => self.ask_exit_of(of_group, handler),
+            None => Ok(Move::Runaway),
         }
+    }
+
+    // The same, of the handler that was the innermost one.
+    fn ask_exit_of(&mut self, of_group: bool, handler: OpenHandler) -> Result<Move, Memory>
+        requires { self.old.frame.place + 1 < 2 ^ 64 }
+        ensures { IfOk result (λ moving. plain_move moving self.new
+            ≡ ask_exit (exit_request of_group) (handler ∷ (plain_frames self.old).frame.handlers)
+            (plain_frames self.old)) }
+    {
+        match handler {
+            OpenHandler::AtExit(entered, way) => self.leave(of_group, entered, way),
+            OpenHandler::InTry(_)
+            | OpenHandler::InClause(_)
+            | OpenHandler::InFinally(_)
+            | OpenHandler::InWith(_, _) => Ok(Move::Runaway),
+        }
+    }
+
+    fn leave(&mut self, of_group: bool, entered: Value, way: Way) -> Result<Move, Memory>
+        requires { self.old.frame.place + 1 < 2 ^ 64 }
+        ensures { IfOk result (λ moving. plain_move moving self.new
+            ≡ ask_exit (exit_request of_group)
+            (AtExit entered way ∷ (plain_frames self.old).frame.handlers) (plain_frames self.old)) }
+    {
+        let fault = self.keep_way(way)?;
+        let request = exit_request(of_group, entered, fault);
+        Ok(Move::Asks(request, AnswerUse::Ignored))
+    }
+
+    // The next statement, with the way that is taken after it; and the exception of that way.
+    fn keep_way(&mut self, way: Way) -> Result<Option<Exc>, Memory>
+        requires { self.old.frame.place + 1 < 2 ^ 64 }
+        ensures fault { IfOk result (λ fault. fault ≡ fault_of way) }
+        ensures after { OnOk result (plain_frames self.new ≡ at_next (with_handlers
+            (InFinally way ∷ (plain_frames self.old).frame.handlers) (plain_frames self.old))) }
+    {
+        let fault = fault_of(&way)?;
+        self.push_way(way)?;
+        Ok(fault)
+    }
+
+    fn push_way(&mut self, way: Way) -> Result<(), Memory>
+        requires { self.old.frame.place + 1 < 2 ^ 64 }
+        ensures { OnOk result (plain_frames self.new ≡ at_next (with_handlers
+            (InFinally way ∷ (plain_frames self.old).frame.handlers) (plain_frames self.old))) }
+    {
+        self.frame.handlers.push(OpenHandler::InFinally(way))?;
+        self.frame.place += 1;
+        Ok(())
     }
 }
 
 /// The request of an exit, with the exception that leaves the body.
-fn exit_request(of_group: bool, entered: Value, way: &Way) -> Result<Request, Memory>
-    ensures { IfOk result (λ request. request ≡ exit_request of_group entered (fault_of way.now)) }
+fn exit_request(of_group: bool, entered: Value, fault: Option<Exc>) -> Request
+    ensures { result ≡ exit_request of_group entered fault }
 {
-    let fault = fault_of(way)?;
     if of_group {
-        Ok(Request::GroupExit {
+        Request::GroupExit {
             group: entered,
             fault,
-        })
+        }
     } else {
-        Ok(Request::TimeoutExit {
+        Request::TimeoutExit {
             timeout: entered,
             fault,
-        })
+        }
     }
 }
 

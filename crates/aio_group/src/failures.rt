@@ -74,7 +74,7 @@ fn grouped(alloc: Global, members: Vec<Exc>) -> Result<Exc, Memory>
 {
     let fault = exception(alloc, Kind::ExceptionGroup, TEXT)?;
     let members = Rc::new(alloc, ExcList::of(members))?;
-    let whole = fault.clone()?.with_members(members);
+    let whole = fault.clone()?.with_members(alloc, members)?;
     if is_bearable(&whole) {
         Ok(whole)
     } else {

@@ -354,8 +354,9 @@ impl Reader {
         let text = format!(in alloc; "{held} bytes read on a total of {wanted} expected bytes")?;
         let fault = exception(alloc, Kind::IncompleteReadError, text.as_str())?;
         let bytes = RcSlice::from_slice(alloc, self.held.items())?;
+        let fault = fault.with_bytes(alloc, bytes)?;
         self.held.drop_front(held);
-        Ok(Taken::Raises(fault.with_bytes(bytes)))
+        Ok(Taken::Raises(fault))
     }
 }
 
