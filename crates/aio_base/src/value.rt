@@ -364,7 +364,8 @@ impl ValueList {
     fn joined(alloc: Global, front: &ValueList, back: &ValueList) -> Result<ValueList, AllocError>
         ensures { IfOk result (λ list. list ≡ front.now ++ back.now) }
     {
-        let mut items = Vec::new(alloc);
+        let count = front.items.len().saturating_add(back.items.len());
+        let mut items = Vec::with_capacity(alloc, count)?;
         push_copies(&mut items, front.items.as_slice())?;
         push_copies(&mut items, back.items.as_slice())?;
         Ok(ValueList {

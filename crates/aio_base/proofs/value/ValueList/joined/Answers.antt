@@ -12,7 +12,7 @@ invariant_of-result c =
     rw (
       c.in_ok-push_copies-2.ensures,
       c.in_ok-push_copies.ensures,
-      c.new-items.ensures.items,
+      c.in_ok-items.ensures.items,
       c.as_slice.ensures.value,
       c.as_slice-2.ensures.value,
     )
