@@ -1,5 +1,5 @@
 //! What waits for an answer in a request.
-ghost use Rattle.std.specs.Prelude.{◌≡◌, ◌+◌, ◌<◌, ◌^◌, [], ◌∷◌, ◌++◌, OnOk, OnErr, MatchOption, length};
+ghost use Rattle.std.specs.Prelude.{◌≡◌, ◌+◌, ◌-◌, ◌<◌, ◌^◌, [], ◌∷◌, ◌++◌, OnOk, OnErr, MatchOption, length};
 ghost use Rattle.aio_cancel.specs.Members.{TakesMember};
 
 use aio_base::Memory;
@@ -48,6 +48,13 @@ impl WalkStack {
         self.frames.reserve(room)?;
         self.room = room;
         Ok(())
+    }
+
+    /// Room for one frame less is wanted. The memory stays, and what is announced next takes it.
+    pub fn retire(&mut self)
+        ensures { self.new ≡ record self.old { room = self.old.room - 1 } }
+    {
+        self.room = self.room.saturating_sub(1);
     }
 
     /// Puts a frame on top, into room that was made before.

@@ -223,8 +223,9 @@ released_kept v id idle free over is = there (nat_lt id (length v.futures))
 -- ---- the room that a request needs
 pub resolved_room : (v : View) (id : ℕ) (outcome : Outcome)
     → room_of (parts (record v { futures = settled_in id outcome v.futures; queue = queue.soon_all (called id v.futures) v.queue }))
-    ≡ room_of (parts v)
-resolved_room v id outcome = ap room_of (sym (settle-parts id outcome (body v))) ∙ settle-room id outcome (parts v)
+    ≤ room_of (parts v)
+resolved_room v id outcome =
+    subst (λ n. n ≤ room_of (parts v)) (ap room_of (settle-parts id outcome (body v))) (settle-room id outcome (parts v))
 
 pub on_done_room : (v : View) (id : ℕ) (action : Action)
     → room_of (parts (record v { futures = registered_in id action v.futures; queue = soon_if_done id action v.futures v.queue }))
@@ -248,7 +249,8 @@ pub resolved_whole : (v : View) (stack : Stacked) (seen : Marked) (notes : Noted
     → IsKept (record v { futures = settled_in id outcome v.futures; queue = queue.soon_all (called id v.futures) v.queue })
     × HasRoom (record v { futures = settled_in id outcome v.futures; queue = queue.soon_all (called id v.futures) v.queue }) stack seen notes
 resolved_whole v stack seen notes id outcome idle free is has =
-    (resolve_kept v id outcome idle free is, room_same _ _ stack seen notes (resolved_room v id outcome) refl has)
+    let after : View = record v { futures = settled_in id outcome v.futures; queue = queue.soon_all (called id v.futures) v.queue } in
+    (resolve_kept v id outcome idle free is, released_room v after stack seen notes notes (resolved_room v id outcome) refl has.unnoted has)
 
 pub on_done_whole : (v : View) (stack : Stacked) (seen : Marked) (notes : Noted) (id : ℕ) (action : Action) → v.called ≡ None
     → is_step action ≡ false → IsKept v → HasRoom v stack seen notes

@@ -228,6 +228,7 @@ impl Parts {
     {
         self.running = None;
         finish(&mut self.body, task, end);
+        self.stack.retire();
     }
 
     /// A request to cancel a future, a task's among them. The answer is false exactly where it

@@ -1,4 +1,4 @@
--- No more futures are open than are tasks' own or stand for several, where nothing waits in a circle.
+-- No more futures are open than are pending and are tasks' own or stand for several, where nothing waits in a circle.
 use Rattle.std.proofs.Common.{◌≡◌, ℕ, zero, suc, ◌+◌, ◌<◌, ◌≤◌, ◌⊎◌, Bool, true, false, ◌||◌, cond, List, [], ◌∷◌, ◌++◌, Option, Some, None, length, map}
 use Rattle.std.proofs.Common.{reverse, slice_get, slice_set, nat_eq, nat_lt, refl, ap, sym, ◌∙◌, subst, arith, inl, inr}
 use Rattle.std.specs.List.{list_any}
@@ -22,7 +22,7 @@ use Rattle.law_parts.specs.declared.walk.WalkFrame.{WalkFrame}
 use Rattle.law_parts.specs.declared.walk.WalkFrame.TheVariants.{Waits, Members}
 use Rattle.law_parts.specs.declared.walk.FutureState.{FutureState}
 use Rattle.law_parts.specs.declared.walk.FutureState.TheVariants as stands
-use Rattle.law_parts.specs.Open.{is_inner_kind, is_inner_at, is_inner, others, room_of, passing, passing_at, AllLead, id_of, frame_stands, OpenDown}
+use Rattle.law_parts.specs.Open.{is_inner_until, is_inner_at, is_inner, others, room_of, passing, passing_at, AllLead, id_of, frame_stands, OpenDown}
 use Rattle.law_parts.proofs.Leading.{leads_on}
 use Rattle.law_parts.proofs.WalkLemmas.{goes-members}
 
@@ -33,7 +33,7 @@ others_past inner (suc n) ids id h =
     let ih : others inner n (id ∷ ids) ≡ others inner n ids = others_past inner n ids id (omega arith) in
     rw (ne_eqb n id (omega arith), ih) refl
 
-others-cons : (inner : ℕ → Bool) (n : ℕ) (ids : List ℕ) (id : ℕ) → id < n → has_seen ids id ≡ false → inner id ≡ true
+pub others-cons : (inner : ℕ → Bool) (n : ℕ) (ids : List ℕ) (id : ℕ) → id < n → has_seen ids id ≡ false → inner id ≡ true
     → others inner n (id ∷ ids) + 1 ≡ others inner n ids
 others-cons inner zero ids id h u f = absurd (omega arith)
 others-cons inner (suc n) ids id h u f = go (cases_eq n id) (λ below. others-cons inner n ids id below u f)
@@ -50,7 +50,7 @@ others-cons inner (suc n) ids id h u f = go (cases_eq n id) (λ below. others-co
         let c : others inner n (id ∷ ids) + 1 ≡ others inner n ids = ih (omega arith) in
         rw (ne_eqb n id ne) (omega arith)
 
--- a future that passes to others is a task's own or stands for several
+-- a future that passes to others is pending, and a task's own or stands for several
 inner_of : (p : Parts) (id : ℕ) (st : FutureState) → passing_at p id ≡ passing st → (st ≡ stands.Done → ⊥) → passing st ≡ st
     → (is_inner p id ≡ true) × (id < length p.futures)
 inner_of p id st e n s = at (slice_get p.futures id) refl (e ∙ s)
@@ -59,7 +59,7 @@ inner_of p id st e n s = at (slice_get p.futures id) refl (e ∙ s)
     no d = absurd (n (sym d))
 
     until : (future : Future) → slice_get p.futures id ≡ Some future → (o : Option Outcome) (k : FutureKind)
-        → passing (stands_of o k) ≡ st → is_inner_kind k ≡ true
+        → passing (stands_of o k) ≡ st → is_inner_until o k ≡ true
     until future f (Some outcome) k h = no h
     until future f None Plain h = no h
     until future f None (OfTask task) h = refl

@@ -1,5 +1,6 @@
 -- The futures that are open in a request: those of tasks that wait for its answer, and those whose members it goes through.
 use Rattle.std.specs.Prelude.{◌≡◌, ℕ, zero, suc, ◌+◌, ◌≤◌, Bool, true, false, cond, List, [], ◌∷◌, Option, None, Some, length, map, reverse, slice_get}
+use Rattle.model_value.specs.Value.{Outcome}
 use Rattle.model_loop.specs.Parts.{FutureKind, Plain, OfTask, Many, Future, Parts}
 use Rattle.model_loop.specs.Cancel.{has_seen}
 use Rattle.model_loop.specs.Circles.{Leads}
@@ -18,11 +19,15 @@ is_inner_kind Plain = false
 is_inner_kind (OfTask task) = true
 is_inner_kind (Many members asked) = true
 
+abbrev pub is_inner_until : Option Outcome → FutureKind → Bool
+is_inner_until (Some done) kind = false
+is_inner_until None kind = is_inner_kind kind
+
 abbrev pub is_inner_at : Option Future → Bool
 is_inner_at None = false
-is_inner_at (Some future) = is_inner_kind future.kind
+is_inner_at (Some future) = is_inner_until future.outcome future.kind
 
--- whether a future is a task's own or stands for several
+-- whether a future is pending, and is a task's own or stands for several
 abbrev pub is_inner : Parts → ℕ → Bool
 is_inner p id = is_inner_at (slice_get p.futures id)
 

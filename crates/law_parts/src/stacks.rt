@@ -6,8 +6,8 @@ ghost use Rattle.model_loop.specs.Sound.{HasNoCircle};
 ghost use Rattle.law_parts.specs.Open.{OpenDown, AllLead, others, is_inner, room_of, id_of};
 ghost use Rattle.law_parts.specs.declared.walk.WalkFrame.{WalkFrame};
 
-/// Where nothing waits in a circle, no more futures are open than are tasks' own or stand for
-/// several; and what is open leads on to each future that is passed to.
+/// Where nothing waits in a circle, no more futures are open than are pending and are tasks' own or
+/// stand for several; and what is open leads on to each future that is passed to.
 pub fn stays_shallow()
     ensures count { (p : Parts) (frames : List WalkFrame) → HasNoCircle p → OpenDown p frames
         → length frames + others (is_inner p) (length p.futures) (map id_of frames) ≡ room_of p }
