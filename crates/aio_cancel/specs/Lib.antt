@@ -1,4 +1,5 @@
 pub mod Code
+pub mod Waits
 pub mod Seen
 pub mod Awaitables
 pub mod Noted

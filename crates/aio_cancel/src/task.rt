@@ -1,6 +1,7 @@
 //! One task.
 ghost use Rattle.std.specs.Prelude.{◌≡◌, ◌-◌, true, false, None};
 ghost use Rattle.model_loop.specs.Tasks.{one_more};
+ghost use Rattle.aio_cancel.specs.Waits.{waiter_in, is_marked_in};
 
 use aio_future::FutureId;
 use std::marker::Model;
@@ -8,14 +9,21 @@ use std::marker::Model;
 // A count of cancels stays at the greatest number of a script.
 const MOST: u64 = 0x7FFF_FFFF_FFFF_FFFF;
 
-/// A task: its future, what it waits for, how often its cancel was asked for, and whether a cancel
+/// What a task waits for, if it waits, and whether a cancel waits for its next step: in one, which
+/// takes the fewest bytes.
+#[derive(Clone, Copy)]
+enum Wait {
+    Nothing { must_cancel: bool },
+    Future { must_cancel: bool, on: FutureId },
+}
+
+/// A task: its future, how often its cancel was asked for, what it waits for, and whether a cancel
 /// waits for its next step.
 #[derive(Drop)]
 pub struct Task {
     future: FutureId,
-    waiter: Option<FutureId>,
     cancels: u64,
-    must_cancel: bool,
+    wait: Wait,
 }
 
 impl Model for Task {
@@ -26,11 +34,13 @@ impl Model for Task {
 
     ghost coded = { coded_task };
 
+    ghost use Rattle.aio_cancel.specs.Waits.{waiter_in, is_marked_in};
+
     ghost view = { λ a. record {
       future = a.future;
-      waiter = a.waiter;
+      waiter = waiter_in a.wait;
       cancels = a.cancels;
-      must_cancel = a.must_cancel;
+      must_cancel = is_marked_in a.wait;
     } };
 }
 
@@ -42,9 +52,8 @@ impl Task {
     {
         Task {
             future,
-            waiter: None,
             cancels: 0,
-            must_cancel: false,
+            wait: Wait::Nothing { must_cancel: false },
         }
     }
 
@@ -59,7 +68,10 @@ impl Task {
     pub fn waiter(&self) -> Option<FutureId>
         ensures { result ≡ self.now.waiter }
     {
-        self.waiter
+        match self.wait {
+            Wait::Nothing { must_cancel: _ } => None,
+            Wait::Future { must_cancel: _, on } => Some(on),
+        }
     }
 
     /// How many cancel requests are counted (`cancelling` of `tasks.py`).
@@ -73,14 +85,18 @@ impl Task {
     pub fn is_marked(&self) -> bool
         ensures { result ≡ self.now.must_cancel }
     {
-        self.must_cancel
+        match self.wait {
+            Wait::Nothing { must_cancel } => must_cancel,
+            Wait::Future { must_cancel, on: _ } => must_cancel,
+        }
     }
 
     /// Sets what the task waits for, or that it waits for nothing.
     pub fn set_waiter(&mut self, waiter: Option<FutureId>)
         ensures { self.new ≡ record self.old { waiter = waiter } }
     {
-        self.waiter = waiter;
+        let must_cancel = self.is_marked();
+        self.wait = wait_with(must_cancel, waiter);
     }
 
     /// Counts one cancel request more; at 9,223,372,036,854,775,807 the count stays.
@@ -103,13 +119,25 @@ impl Task {
     pub fn mark(&mut self)
         ensures { self.new ≡ record self.old { must_cancel = true } }
     {
-        self.must_cancel = true;
+        let waiter = self.waiter();
+        self.wait = wait_with(true, waiter);
     }
 
     /// No cancel waits for the next step any more.
     pub fn unmark(&mut self)
         ensures { self.new ≡ record self.old { must_cancel = false } }
     {
-        self.must_cancel = false;
+        let waiter = self.waiter();
+        self.wait = wait_with(false, waiter);
+    }
+}
+
+fn wait_with(must_cancel: bool, waiter: Option<FutureId>) -> Wait
+    ensures waiter { waiter_in result ≡ waiter }
+    ensures mark { is_marked_in result ≡ must_cancel }
+{
+    match waiter {
+        None => Wait::Nothing { must_cancel },
+        Some(on) => Wait::Future { must_cancel, on },
     }
 }
