@@ -1,3 +1,5 @@
+pub mod Near
+pub mod Held
 pub mod Stands
 pub mod Asked
 pub mod Asking

@@ -1,5 +1,5 @@
 //! What the kernel keeps of a run that goes on.
-use crate::standing::Slot;
+use crate::held::HeldSlot;
 use aio_flat::Code;
 use aio_group::Groups;
 use aio_task::{FutureId, Parts};
@@ -13,7 +13,7 @@ use aio_wire::Events;
 pub struct Body<X> {
     pub code: Code,
     pub parts: Parts,
-    pub slots: Vec<Slot>,
+    pub slots: Vec<HeldSlot>,
     pub timeouts: Timeouts,
     pub groups: Groups,
     /// The listeners, the connections and the children.

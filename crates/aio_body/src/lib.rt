@@ -4,6 +4,7 @@
 mod arguments;
 mod body;
 mod delay;
+mod held;
 mod reply;
 mod slots;
 mod standing;
@@ -11,8 +12,9 @@ mod standing;
 pub use arguments::{as_failure, as_group, as_int, as_task, as_timeout, is_list, is_program};
 pub use body::Body;
 pub use delay::{Delay, as_delay};
+pub use held::HeldSlot;
 pub use reply::{
     MOST_IDS, RequestReply, bad_argument, cancelled_error, input_of, or_stop, out_of_range, raises,
     replied, reply_of,
 };
-pub use standing::{Slot, Standing};
+pub use standing::{Near, Slot, Standing};

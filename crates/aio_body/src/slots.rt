@@ -1,10 +1,12 @@
 //! What tasks run and stand at.
 ghost use Rattle.std.specs.Prelude.{◌≡◌, ◌<◌, None, Some, IfOk, OnOk, length, slice_get, slice_set};
 ghost use Rattle.aio_body.specs.GivingUp.{IsNoTasks, given_up_in};
+ghost use Rattle.aio_body.specs.Near.{standing_of};
 ghost use Rattle.aio_body.specs.Slots.{HoldsMore, no_slot, put_back, standing_at};
 
 use crate::body::Body;
-use crate::standing::{Slot, Standing};
+use crate::held::HeldSlot;
+use crate::standing::{Near, Slot, Standing};
 use aio_base::{Memory, Value, ValueList};
 use aio_gen::Gen;
 use std::alloc::Global;
@@ -21,10 +23,7 @@ impl<X> Body<X> {
     {
         let arguments = copies(alloc, arguments.items())?;
         let coroutine = Gen::start(alloc, &self.code, coroutine, arguments)?;
-        self.slots.push(Slot {
-            coroutine: Some(coroutine),
-            standing: Standing::Asked,
-        })?;
+        self.slots.push(HeldSlot::starting(coroutine))?;
         Ok(())
     }
 
@@ -36,13 +35,7 @@ impl<X> Body<X> {
         ensures slots { self.new.slots.items ≡ slice_set self.old.slots.items task no_slot }
     {
         let slot = &mut self.slots[task as usize];
-        std::mem::replace(
-            slot,
-            Slot {
-                coroutine: None,
-                standing: Standing::Asked,
-            },
-        )
+        slot.take()
     }
 
     /// The coroutine of a task is put back.
@@ -52,17 +45,30 @@ impl<X> Body<X> {
         ensures slots { self.new.slots.items ≡ put_back task coroutine self.old.slots.items }
     {
         let slot = &mut self.slots[task as usize];
-        slot.coroutine = Some(coroutine);
+        slot.put_back(coroutine);
     }
 
-    /// The request at which a task stands.
-    pub fn stand(&mut self, task: u32, standing: Standing)
+    /// The request at which a task stands, where that takes no memory of its own.
+    pub fn stand(&mut self, task: u32, near: Near)
         requires { task < length self.old.slots.items }
         ensures beside { self.new ≡ record self.old { slots = self.new.slots } }
-        ensures slots { self.new.slots.items ≡ standing_at task standing self.old.slots.items }
+        ensures slots { self.new.slots.items
+            ≡ standing_at task (standing_of near) self.old.slots.items }
     {
         let slot = &mut self.slots[task as usize];
-        slot.standing = standing;
+        slot.stand(near);
+    }
+
+    /// The request at which a task stands, in memory of its own until the task is resumed.
+    pub fn stand_far(&mut self, task: u32, standing: Standing) -> Result<(), Memory>
+        requires { task < length self.old.slots.items }
+        ensures beside { self.new ≡ record self.old { slots = self.new.slots } }
+        ensures slots { OnOk result
+            (self.new.slots.items ≡ standing_at task standing self.old.slots.items) }
+    {
+        let alloc = *self.slots.allocator();
+        let slot = &mut self.slots[task as usize];
+        slot.stand_far(alloc, standing)
     }
 
     /// The timer of a sleep is given up as its task is resumed, and its future is let go.

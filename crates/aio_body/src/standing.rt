@@ -38,6 +38,17 @@ pub enum Standing {
     },
 }
 
+/// What takes no memory of its own, among what a task stands at.
+#[derive(Clone, Copy)]
+pub enum Near {
+    /// The exit of a group, which waits for the tasks that are left.
+    Leaving(u32),
+    /// A connect, whose connection is being made.
+    Connecting(u32),
+    /// The bare `yield` of a drain.
+    Yielding(Handed),
+}
+
 /// The coroutine of a task, and the request at which it stands. While its step goes on the
 /// coroutine is taken out, and once the task is done there is none.
 #[derive(Drop)]

@@ -221,7 +221,7 @@ fn wait<X: Extra>(
 {
     let Some(outcome) = body.parts.outcome(on) else {
         let _suspension = body.parts.suspend(task, on);
-        body.stand(task, Standing::Serving(key));
+        body.stand_far(task, Standing::Serving(key))?;
         return Ok(Answered::Replies(RequestReply::Rests));
     };
     let input = input_of(outcome)?;

@@ -13,7 +13,7 @@ ghost use Rattle.aio_body.specs.Taken.{IsTaken, IsAfterCallback};
 ghost use Rattle.aio_serve.specs.GoneOn.{GoneOn};
 
 use aio_base::{Exc, Input, Memory, Value, ValueList};
-use aio_body::{Body, MOST_IDS, RequestReply, Standing, as_group, bad_argument, out_of_range};
+use aio_body::{Body, MOST_IDS, Near, RequestReply, as_group, bad_argument, out_of_range};
 use aio_extra::Extra;
 use aio_group::GroupExit;
 use std::alloc::Global;
@@ -65,7 +65,7 @@ fn go_on<X: Extra>(body: &mut Body<X>, task: u32, group: u32, exit: GroupExit) -
     match exit {
         GroupExit::Waits(future) => {
             let _suspension = body.parts.suspend(task, future);
-            body.stand(task, Standing::Leaving(group));
+            body.stand(task, Near::Leaving(group));
             RequestReply::Rests
         }
         GroupExit::Passes => RequestReply::Answers(Value::nothing()),

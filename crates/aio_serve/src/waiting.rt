@@ -72,7 +72,7 @@ fn sleep_for<X: Extra>(
 {
     let (timer, future) = alarm(body, alloc, task, delay)?;
     let _suspension = body.parts.suspend(task, future);
-    body.stand(task, Standing::Sleeping { timer, future });
+    body.stand_far(task, Standing::Sleeping { timer, future })?;
     Ok(RequestReply::Rests)
 }
 

@@ -17,7 +17,9 @@ ghost use Rattle.aio_streaming.specs.Answered.{AnsweredAs, listened_as};
 ghost use Rattle.aio_streaming.specs.Ports.{port_in};
 
 use aio_base::{Kind, Memory, Value};
-use aio_body::{Body, RequestReply, Standing, as_int, bad_argument, or_stop, out_of_range, raises};
+use aio_body::{
+    Body, Near, RequestReply, Standing, as_int, bad_argument, or_stop, out_of_range, raises,
+};
 use aio_extra::Extra;
 use aio_listener::Connecting;
 use aio_wire::{Port, Stop, Wire};
@@ -152,7 +154,7 @@ fn waits<X: Extra>(body: &mut Body<X>, task: u32, connecting: Connecting) -> Req
         ≡ standing_at task (Standing.Connecting connecting.0) body.old.slots.items }
 {
     let _suspension = body.parts.suspend(task, connecting.on());
-    body.stand(task, Standing::Connecting(connecting.conn()));
+    body.stand(task, Near::Connecting(connecting.conn()));
     RequestReply::Rests
 }
 

@@ -126,7 +126,7 @@ pub fn reads<X: Extra>(
         }
         Ok(StreamGot::Waits(on)) => {
             let _suspension = body.parts.suspend(task, on);
-            body.stand(task, Standing::Reading { from, op, on });
+            body.stand_far(task, Standing::Reading { from, op, on })?;
             Ok(RequestReply::Rests)
         }
         Err(Memory) => {
@@ -165,7 +165,7 @@ pub fn reads_all<X: Extra>(
             StreamGot::Waits(on) => match joined(taken, more) {
                 Ok(taken) => {
                     let _suspension = body.parts.suspend(task, on);
-                    body.stand(task, Standing::ReadingAll { from, taken, on });
+                    body.stand_far(task, Standing::ReadingAll { from, taken, on })?;
                     Ok(RequestReply::Rests)
                 }
                 Err(Memory) => Err(Memory),

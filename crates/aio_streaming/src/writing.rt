@@ -16,7 +16,7 @@ ghost use Rattle.aio_streaming.specs.Written.{AwaitsKept, KeepsFuture};
 
 use crate::answers::{done, limited, wrote};
 use aio_base::{Memory, Value};
-use aio_body::{Body, RequestReply, Standing, as_delay, bad_argument, or_stop, replied};
+use aio_body::{Body, Near, RequestReply, as_delay, bad_argument, or_stop, replied};
 use aio_connection::Drain;
 use aio_extra::Extra;
 use aio_opened::{Closable, as_bytes, as_closable, as_conn, as_writer};
@@ -223,7 +223,7 @@ pub fn drains<X: Extra>(
         Ok(Drain::Goes) => Ok(RequestReply::Answers(Value::nothing())),
         Ok(Drain::Yields) => {
             body.parts.pause(task);
-            body.stand(task, Standing::Yielding(whom));
+            body.stand(task, Near::Yielding(whom));
             Ok(RequestReply::Rests)
         }
         Ok(Drain::Waits(on)) => {

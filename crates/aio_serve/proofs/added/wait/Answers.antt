@@ -18,17 +18,17 @@ pub suspend-suspension-requires-clause-pending : goal.suspend-suspension-require
 suspend-suspension-requires-clause-pending g c =
     waits_may c.args.task c.args.on c.args.key c.args.body.now c.requires (sym c.outcome.ensures ∙ ap option_copied c.in_default.is)
 
-pub stand-requires : goal.stand-requires
-stand-requires g c = answers_there c.args.task (Wait c.args.on c.args.key) c.args.body.now c.requires
+pub stand_far-requires : goal.stand_far-requires
+stand_far-requires g c = answers_there c.args.task (Wait c.args.on c.args.key) c.args.body.now c.requires
 
 pub returns-in_default-clause-answers : goal.returns-in_default-clause-answers
 returns-in_default-clause-answers g c at s it h =
     let body = c.args.body.now in
-    waits_as c.args.task at body s (λ k. Says c.args.task at c.stand.new.self Rests (answered g.X.Extra.added.meaning c.args.task k s)) c.args.on
+    waits_as c.args.task at body s (λ k. Says c.args.task at c.stand_far.new.self Rests (answered g.X.Extra.added.meaning c.args.task k s)) c.args.on
     c.args.key it h
-    (λ w. rests_so c.args.task c.args.on c.args.key at body s w c.stand.new.self c.suspend-suspension.new.self
+    (λ w. rests_so c.args.task c.args.on c.args.key at body s w c.stand_far.new.self c.suspend-suspension.new.self
     (sym c.outcome.ensures ∙ ap option_copied c.in_default.is) c.suspend-suspension.ensures.after c.suspend-suspension.ensures.queue
-    c.suspend-suspension.ensures.beside c.stand.ensures.beside c.stand.ensures.slots)
+    c.suspend-suspension.ensures.beside c.in_ok-stand_far.ensures.beside c.in_ok-stand_far.ensures.slots)
 
 pub wake-requires-clause-runs : goal.wake-requires-clause-runs
 wake-requires-clause-runs g c = ap is_some (answers_run c.args.task (Wait c.args.on c.args.key) c.args.body.now c.requires)

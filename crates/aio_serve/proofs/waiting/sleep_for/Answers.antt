@@ -30,8 +30,8 @@ suspend-suspension-requires-clause-pending g c =
     ∙ ap (λ n. is_pending_at (slice_get (old.parts.futures ++ made ∷ []) n)) c.in_ok-timer.ensures.number
     ∙ ap is_pending_at (get-push_last old.parts.futures made)
 
-pub stand-requires : goal.stand-requires
-stand-requires g c =
+pub stand_far-requires : goal.stand_far-requires
+stand_far-requires g c =
     subst (λ (b : Body _). c.args.task < length b.slots.items) (sym c.in_ok-timer.ensures.after)
     (slot_there c.args.task c.args.body.now c.requires)
 
@@ -52,9 +52,9 @@ returns g c at s h =
       futures = old.parts.futures ++ record { kind = Plain; outcome = None; callbacks = [] } ∷ [];
       schedule = record { live = placed_after (timer id (SleepDone task n)) old.parts.schedule.live; next = old.parts.schedule.next + 1 };
     }) made.number in
-    sleeps_so task c.args.delay at old c.stand.new.self s v w id future h.in_step h.sound.others.loop.parts.owns
+    sleeps_so task c.args.delay at old c.stand_far.new.self s v w id future h.in_step h.sound.others.loop.parts.owns
     (plain_named g.X.Extra.added.meaning task s h.sound) h.sound.others.streams
     h.sound.others.loop.parts.waits_made (within_going task at old s h) made.number made.id (next_kept stands.ties old.parts p stands.keeps) alarm
     c.suspend-suspension.ensures.after c.suspend-suspension.ensures.queue c.suspend-suspension.ensures.beside
-    (c.stand.ensures.beside ∙ ap (λ (b : Body _). record b { parts = w; slots = c.stand.new.self.slots }) made.after)
-    (c.stand.ensures.slots ∙ ap (λ (b : Body _). standing_at task (Sleeping id future) b.slots.items) made.after)
+    (c.in_ok-stand_far.ensures.beside ∙ ap (λ (b : Body _). record b { parts = w; slots = c.stand_far.new.self.slots }) made.after)
+    (c.in_ok-stand_far.ensures.slots ∙ ap (λ (b : Body _). standing_at task (Sleeping id future) b.slots.items) made.after)

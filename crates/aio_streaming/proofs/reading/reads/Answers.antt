@@ -22,8 +22,8 @@ suspend-suspension-requires-clause-pending g c =
     c.in-Ok-Waits.field-0
     c.in-Ok-Waits.ensures.told c.in-Ok-Waits.on c.in-Ok-Waits.field-0-is
 
-pub stand-requires : goal.stand-requires
-stand-requires g c = on_within c.args.task c.args.body.now c.requires
+pub stand_far-requires : goal.stand_far-requires
+stand_far-requires g c = on_within c.args.task c.args.body.now c.requires
 
 pub returns-in-Ok-Bytes : goal.returns-in-Ok-Bytes
 returns-in-Ok-Bytes g c =
@@ -40,12 +40,12 @@ returns-in-Ok-Raises g c =
     c.in-Ok-Raises.field-0
     c.in-Ok-Raises.ensures.told c.in-Ok-Raises.fault c.in-Ok-Raises.field-0-is
 
-pub returns-in-Ok-Waits : goal.returns-in-Ok-Waits
-returns-in-Ok-Waits g c =
+pub returns-in_ok-stand_far-in-Ok-Waits : goal.returns-in_ok-stand_far-in-Ok-Waits
+returns-in_ok-stand_far-in-Ok-Waits g c =
     read_rests c.args.task c.args.body.now c.requires c.args.from c.read.new.parts c.read.new.self c.args.op c.in-Ok-Waits.field-0
-    c.in-Ok-Waits.ensures.told c.in-Ok-Waits.on c.in-Ok-Waits.field-0-is c.stand.new.self c.suspend-suspension.new.self
-    c.stand.ensures.beside
-    c.stand.ensures.slots
+    c.in-Ok-Waits.ensures.told c.in-Ok-Waits.on c.in-Ok-Waits.field-0-is c.stand_far.new.self c.suspend-suspension.new.self
+    c.in_ok-stand_far-in-Ok-Waits.ensures.beside
+    c.in_ok-stand_far-in-Ok-Waits.ensures.slots
     (record {
       after = c.suspend-suspension.ensures.after;
       queue = c.suspend-suspension.ensures.queue;

@@ -31,8 +31,8 @@ suspend-suspension-requires-clause-pending g c =
     (all_got c.in-Ok.field-0) c.in-Ok.ensures.told
     c.in-Waits.on is
 
-pub stand-requires : goal.stand-requires
-stand-requires g c = on_within c.args.task c.args.body.now c.requires
+pub stand_far-requires : goal.stand_far-requires
+stand_far-requires g c = on_within c.args.task c.args.body.now c.requires
 
 pub returns-in-Ok-joined : goal.returns-in-Ok-joined
 returns-in-Ok-joined g c =
@@ -58,14 +58,14 @@ returns-in-Raises g c =
     (all_got c.in-Ok.field-0) c.in-Ok.ensures.told
     c.in-Raises.fault is
 
-pub returns-in-Ok-joined-2 : goal.returns-in-Ok-joined-2
-returns-in-Ok-joined-2 g c =
+pub returns-in_ok-stand_far-in-Ok-joined-2 : goal.returns-in_ok-stand_far-in-Ok-joined-2
+returns-in_ok-stand_far-in-Ok-joined-2 g c =
     let is : c.in-Ok.field-0.got ≡ got.Waits c.in-Waits.on = cc (c.in-Waits.is) in
     let all : c.in-Ok-joined-2.taken ≡ c.args.taken ++ c.in-Ok.field-0.taken = cc (c.in-Ok-joined-2.ensures) in
     all_rests c.args.task c.args.body.now c.requires c.args.from c.read_all.new.parts c.read_all.new.self c.args.taken
     (all_got c.in-Ok.field-0) c.in-Ok.ensures.told
-    c.in-Waits.on is c.stand.new.self c.suspend-suspension.new.self c.stand.ensures.beside
-    (c.stand.ensures.slots
+    c.in-Waits.on is c.stand_far.new.self c.suspend-suspension.new.self c.in_ok-stand_far-in-Ok-joined-2.ensures.beside
+    (c.in_ok-stand_far-in-Ok-joined-2.ensures.slots
     ∙ ap (λ (bytes : List ℕ). standing_at c.args.task (ReadingAll c.args.from bytes c.in-Waits.on) c.args.body.now.slots.items)
     all)
     (record {
