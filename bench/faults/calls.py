@@ -1,5 +1,5 @@
 #!/usr/bin/env python3
-"""How many calls of the outside each script of crates/try_faults makes, as that program must print it.
+"""How many calls of the outside each script makes that `try_rows --faults` runs, as it must print it.
 
 Counted from the journals and the transcripts alone; no program of the repository is asked.
 
@@ -9,13 +9,14 @@ one more call was made, which found no answer. A turn begins with its select, wh
 for each turn that had answers. A sink is written to once a turn, since the trace has a line at least for its select; and once
 more where the last line stands alone, in a turn that has no answer: one that is over or stalled.
 
-    python3 bench/faults/calls.py | diff - crates/try_faults/stdout
+    python3 bench/faults/calls.py | diff - <(grep calls crates/try_rows/stdout)
 """
 
+import itertools
 import os
 
 HERE = os.path.dirname(os.path.abspath(__file__))
-CRATE = os.path.join(HERE, "..", "..", "crates", "try_faults")
+CRATE = os.path.join(HERE, "..", "..", "crates", "try_rows")
 
 
 def lines(name):
@@ -34,7 +35,9 @@ def calls(name):
 
 
 def main():
-    names = lines("args")
+    words = lines("args")
+    begun = words.index("--faults") + 1
+    names = list(itertools.takewhile(lambda word: not word.startswith("--"), words[begun:]))
     total = 0
     for name in names:
         for part, count in calls(name).items():

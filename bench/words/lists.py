@@ -1,10 +1,10 @@
 #!/usr/bin/env python3
-"""Three hundred lists of words with the command that each asks for, as crates/try_words reads them.
+"""Three hundred lists of words with the command that each asks for, as `try_rows --words` reads them.
 
 The answers come from the rules below alone, which are those of README.md ("Commands and statuses"), read word by word;
 no program of the repository is asked.
 
-    python3 bench/words/lists.py > crates/try_words/data/lists
+    python3 bench/words/lists.py > crates/try_rows/data/lists
 """
 import itertools
 import re

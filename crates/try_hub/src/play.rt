@@ -54,44 +54,67 @@ pub fn plays<N: InboxName, R: Wait + Copy>(
 ) -> bool
     requires { table_of unnamed ≡ N.table }
 {
-    match (poller_of(alloc, row), launcher_of(rt, alloc, row)) {
-        (Ok(poller), Ok(launcher)) => {
-            match Hub::<N, R, MemPoller, MemLauncher<R>>::make(
-                rt, alloc, poller, launcher, unnamed,
-            ) {
-                Ok(hub) => plays_on(alloc, hub, row),
-                Err(_) => false,
-            }
-        }
-        _ => false,
+    match hub_of::<N, R>(rt, alloc, unnamed, row) {
+        Ok(hub) => plays_on(alloc, hub, row),
+        Err(_) => false,
     }
 }
 
-fn plays_on<N: InboxName, R: Wait + Copy>(
+/// A hub over a poller and a launcher in memory.
+type RowHub<N, R> = Hub<N, R, MemPoller, MemLauncher<R>>;
+
+fn hub_of<N: InboxName, R: Wait + Copy>(
+    rt: R,
     alloc: Global,
-    hub: Hub<N, R, MemPoller, MemLauncher<R>>,
+    unnamed: UnnamedInbox,
     row: &HubRow,
-) -> bool {
-    let mut wire = hub;
-    let mut told = Vec::new(alloc);
-    let done = row.does_steps(alloc, &mut wire, &mut told);
-    done.is_ok() && told.as_slice() == row.told.as_bytes() && ends(alloc, wire, row.ends)
+) -> Result<RowHub<N, R>, Memory>
+    requires { table_of unnamed ≡ N.table }
+{
+    let poller = poller_of(alloc, row)?;
+    match launcher_of(rt, alloc, row) {
+        Ok(launcher) => Hub::<N, R, MemPoller, MemLauncher<R>>::make(
+            rt, alloc, poller, launcher, unnamed,
+        ),
+        Err(Memory) => {
+            forget_poller(poller);
+            Err(Memory)
+        }
+    }
 }
 
-// Whether the close tells of so many pumps.
+fn forget_poller(_poller: MemPoller) {}
+
+fn plays_on<N: InboxName, R: Wait + Copy>(alloc: Global, hub: RowHub<N, R>, row: &HubRow) -> bool {
+    let mut wire = hub;
+    let right = row.is_told(alloc, &mut wire);
+    let wanted = if right { row.ends } else { None };
+    ends(alloc, wire, wanted) && right
+}
+
+// Whether the close tells of so many pumps. Where that isn't asked, nothing is closed.
 fn ends<N: InboxName, R: Wait + Copy>(
     alloc: Global,
-    hub: Hub<N, R, MemPoller, MemLauncher<R>>,
+    hub: RowHub<N, R>,
     wanted: Option<usize>,
 ) -> bool {
-    let Some(count) = wanted else {
-        return true;
-    };
+    match wanted {
+        Some(count) => closes(alloc, hub, count),
+        None => {
+            forget_hub(hub);
+            true
+        }
+    }
+}
+
+fn closes<N: InboxName, R: Wait + Copy>(alloc: Global, hub: RowHub<N, R>, count: usize) -> bool {
     match hub.close(alloc) {
         Ok(told) => told.len() == count,
         Err(_) => false,
     }
 }
+
+fn forget_hub<N: InboxName, R: Wait + Copy>(_hub: RowHub<N, R>) {}
 
 fn turn_of(alloc: Global, now: u64) -> Answer {
     Answer::Turn {
@@ -116,6 +139,13 @@ fn launcher_of<R: Copy>(rt: R, alloc: Global, row: &HubRow) -> Result<MemLaunche
 }
 
 impl HubRow {
+    /// Whether what is replied to the steps is what must be.
+    fn is_told<W: Wire>(&self, alloc: Global, wire: &mut W) -> bool {
+        let mut told = Vec::new(alloc);
+        let done = self.does_steps(alloc, wire, &mut told);
+        done.is_ok() && told.as_slice() == self.told.as_bytes()
+    }
+
     /// Does all steps, one after the other, and tells what is replied.
     fn does_steps<W: Wire>(
         &self,

@@ -1,7 +1,7 @@
 //! A plan for a course.
 use crate::ahead::Course;
 use crate::fed::Fed;
-use crate::plan::{Cause, ChildPost, Plan, Planned, Posts};
+use crate::plan::{Cause, ChildPost, Plan, Posts};
 use crate::turns::{behind_stdin, bytes_of, copies_of, sockets_first};
 use aio_base::Memory;
 use aio_wire::{
@@ -15,61 +15,60 @@ const MOST_BYTES: u64 = 196_608;
 
 /// The plan so far, what is known of the children's standard inputs, and how many launches were asked.
 #[derive(Drop)]
-struct Planner {
-    plan: Plan,
+struct Planner<'a> {
+    plan: &'a mut Plan,
     children: Vec<Fed>,
     launches: u64,
 }
 
-/// What poller and pumps do so that a hub answers these calls so.
-pub fn plan_of(alloc: Global, course: Course<'_>) -> Result<Planned, Memory> {
+/// Plans what poller and pumps do so that a hub answers these calls so; why no hub does.
+pub fn make_plan(
+    alloc: Global,
+    course: Course<'_>,
+    plan: &mut Plan,
+) -> Result<Option<Cause>, Memory> {
     let mut planner = Planner {
-        plan: Plan::new(alloc),
+        plan,
         children: Vec::new(alloc),
         launches: 0,
     };
-    let mut calls = course.calls;
-    let mut answers = course.answers;
-    for _ in 0..u64::MAX {
-        let Some((call, later)) = calls.split_first() else {
-            break;
-        };
-        let Some((answer, others)) = answers.split_first() else {
-            return Ok(planner.cut(call));
-        };
-        if !fits(alloc, call, answer)? {
-            return Ok(planner.cut(call));
-        }
-        calls = later;
-        answers = others;
-        let rest = Course { calls, answers };
-        if let Some(cause) = planner.add(alloc, call, answer, rest)? {
-            return Ok(Planned::Never(cause));
-        }
-    }
-    Ok(Planned::Plays(planner.end()))
+    let cause = planner.follow(alloc, course)?;
+    planner.plan.children = planner.children.len() as u64;
+    Ok(cause)
 }
 
-impl Planner {
-    // The whole plan.
-    fn end(self) -> Plan {
-        let Planner {
-            mut plan,
-            children,
-            launches: _,
-        } = self;
-        plan.children = children.len() as u64;
-        plan
+impl<'a> Planner<'a> {
+    // Adds each call with its answer, up to one that has none that fits.
+    fn follow(&mut self, alloc: Global, course: Course<'_>) -> Result<Option<Cause>, Memory> {
+        let mut calls = course.calls;
+        let mut answers = course.answers;
+        for _ in 0..u64::MAX {
+            let Some((call, later)) = calls.split_first() else {
+                break;
+            };
+            let Some((answer, others)) = answers.split_first() else {
+                return Ok(self.cut(call));
+            };
+            if !fits(alloc, call, answer)? {
+                return Ok(self.cut(call));
+            }
+            calls = later;
+            answers = others;
+            let rest = Course { calls, answers };
+            if let Some(cause) = self.add(alloc, call, answer, rest)? {
+                return Ok(Some(cause));
+            }
+        }
+        Ok(None)
     }
 
-    // The plan up to a call for which there is no answer that fits: the poller fails there, if it is asked.
-    fn cut(self, call: &Call) -> Planned {
-        let mut plan = self.end();
-        plan.is_cut = true;
+    // Ends the plan before a call for which there is no answer that fits: the poller fails there, if it is asked.
+    fn cut(&mut self, call: &Call) -> Option<Cause> {
+        self.plan.is_cut = true;
         if asks_poller(call) {
-            Planned::Plays(plan)
+            None
         } else {
-            Planned::Never(Cause::Ends)
+            Some(Cause::Ends)
         }
     }
 
@@ -138,8 +137,21 @@ impl Planner {
             return Ok(Some(Cause::Order));
         };
         self.polls(*now, copies_of(alloc, sockets)?)?;
-        let posts = self.rooms(alloc, later)?;
-        self.posts(alloc, bytes_of(sockets), news, posts)
+        let mut posts = VecDeque::new(alloc);
+        match self.add_posts(alloc, bytes_of(sockets), news, later, &mut posts) {
+            Ok(None) => {
+                self.plan.polls.push_back(posts)?;
+                Ok(None)
+            }
+            Ok(Some(cause)) => {
+                forget_posts(posts);
+                Ok(Some(cause))
+            }
+            Err(Memory) => {
+                forget_posts(posts);
+                Err(Memory)
+            }
+        }
     }
 
     // What the poller answers to a poll.
@@ -148,9 +160,21 @@ impl Planner {
         Ok(())
     }
 
-    // The Rooms that are due before what comes later.
-    fn rooms(&mut self, alloc: Global, later: Course<'_>) -> Result<Posts, Memory> {
-        let mut posts = VecDeque::new(alloc);
+    // Adds what the pumps post at a poll, behind so many bytes.
+    fn add_posts(
+        &mut self,
+        alloc: Global,
+        before: u64,
+        news: &[Item],
+        later: Course<'_>,
+        posts: &mut Posts,
+    ) -> Result<Option<Cause>, Memory> {
+        self.add_rooms(later, posts)?;
+        self.add_news(alloc, before, news, posts)
+    }
+
+    // Adds the Rooms that are due before what comes later.
+    fn add_rooms(&mut self, later: Course<'_>, posts: &mut Posts) -> Result<(), Memory> {
         let mut child = 0u32;
         for _ in 0..self.children.len() {
             let due = self.rooms_due(child, later);
@@ -159,7 +183,7 @@ impl Planner {
             }
             child = child.saturating_add(1);
         }
-        Ok(posts)
+        Ok(())
     }
 
     // How many Rooms of a child are due, which it has from then on.
@@ -172,15 +196,13 @@ impl Planner {
         due
     }
 
-    // What the pumps post at a poll, behind so many bytes.
-    fn posts(
+    fn add_news(
         &mut self,
         alloc: Global,
         before: u64,
         news: &[Item],
-        rooms: Posts,
+        posts: &mut Posts,
     ) -> Result<Option<Cause>, Memory> {
-        let mut posts = rooms;
         let mut bytes = before;
         for came in news {
             let Item::Child { child, item } = came else {
@@ -196,7 +218,6 @@ impl Planner {
                 news: copy_of_news(alloc, item)?,
             })?;
         }
-        self.plan.polls.push_back(posts)?;
         Ok(None)
     }
 
@@ -207,6 +228,8 @@ impl Planner {
         }
     }
 }
+
+fn forget_posts(_posts: Posts) {}
 
 // Whether a hub asks its poller for this call.
 fn asks_poller(call: &Call) -> bool {

@@ -3,7 +3,7 @@ ghost use Rattle.std.specs.Prelude.{◌≡◌};
 ghost use Rattle.aio_inbox.specs.Naming.{table_of};
 
 use crate::launcher::PlayLauncher;
-use crate::plan::Plan;
+use crate::plan::{Plan, forget_plan};
 use crate::poller::PlayPoller;
 use crate::replay::{Outcome, run_over, words_of};
 use crate::stage::Stage;
@@ -17,6 +17,9 @@ use try_row::Row;
 
 /// Where the answers of the hub are recorded.
 pub const PLAYED: &str = "p";
+
+/// Where the pumps of the children stand.
+type StageOf<N> = Arc<Stage<N>, Global>;
 
 /// A hub whose poller and launcher play a plan.
 type PlayHub<N, R> = Hub<N, R, PlayPoller<N, R, MemPoller>, PlayLauncher<N, R>>;
@@ -63,16 +66,52 @@ fn hub_of<N: InboxName, R: Wait + Copy>(
 ) -> Result<PlayHub<N, R>, Memory>
     requires { table_of unnamed ≡ N.table }
 {
+    let made = stages::<N>(alloc);
+    let failing = failing_of(alloc, plan.answers.len() as u64, plan.is_cut);
+    match (made, failing) {
+        (Ok((stage, other)), Ok(failing)) => {
+            let (poller, launcher) = sides(rt, alloc, stage, other, plan, failing);
+            Hub::<N, R, PlayPoller<N, R, MemPoller>, PlayLauncher<N, R>>::make(
+                rt, alloc, poller, launcher, unnamed,
+            )
+        }
+        _ => {
+            forget_plan(plan);
+            Err(Memory)
+        }
+    }
+}
+
+// The stage, for the poller and for the launcher.
+fn stages<N: InboxName>(alloc: Global) -> Result<(StageOf<N>, StageOf<N>), Memory> {
     let stage = Arc::new(alloc, Stage::<N>::new(alloc))?;
-    let other = Arc::try_clone(&stage)?;
+    match Arc::try_clone(&stage) {
+        Ok(other) => Ok((stage, other)),
+        Err(_) => {
+            forget_stage(stage);
+            Err(Memory)
+        }
+    }
+}
+
+fn forget_stage<N: InboxName>(_stage: StageOf<N>) {}
+
+// The poller and the launcher that play a plan.
+fn sides<N: InboxName, R: Copy>(
+    rt: R,
+    alloc: Global,
+    stage: StageOf<N>,
+    other: StageOf<N>,
+    plan: Plan,
+    failing: Vec<u64>,
+) -> (PlayPoller<N, R, MemPoller>, PlayLauncher<N, R>) {
     let Plan {
         answers,
         polls,
         refused,
         children: _,
-        is_cut,
+        is_cut: _,
     } = plan;
-    let failing = failing_of(alloc, answers.len() as u64, is_cut)?;
     let poller = PlayPoller {
         rt,
         stage,
@@ -86,9 +125,7 @@ fn hub_of<N: InboxName, R: Wait + Copy>(
         made: 0,
         faults: 0,
     };
-    Hub::<N, R, PlayPoller<N, R, MemPoller>, PlayLauncher<N, R>>::make(
-        rt, alloc, poller, launcher, unnamed,
-    )
+    (poller, launcher)
 }
 
 // Which call of the poller fails, counted from 1: the one after so many, or none.

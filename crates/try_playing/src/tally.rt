@@ -1,62 +1,40 @@
-//! How many rows were played, how many came out otherwise, and how many no hub plays.
-use crate::plan::Cause;
-use crate::verdict::{Verdict, judge};
-use std::alloc::Global;
-use std::io;
-use std::sync::Wait;
-use try_row::{Row, RowsStopped};
+//! How many rows were played, how many came out otherwise, and how many no hub plays, by cause.
+ghost use Rattle.std.specs.Prelude.{◌<◌};
 
-/// How many rows no hub plays, by cause.
-#[derive(Clone, Copy)]
-struct Causes {
-    ends: u64,
-    part: u64,
-    room: u64,
-    breaks: u64,
-    order: u64,
-    full: u64,
-    extra: u64,
+use crate::plan::Cause;
+use crate::verdict::Verdict;
+use std::io;
+
+/// How many causes there are.
+const CAUSES: usize = 7;
+
+/// How each is told, by its place.
+const TOLD: [&str; CAUSES] = [
+    "no answer that fits",
+    "a feed of a part",
+    "room, or none",
+    "a break, or none",
+    "another order",
+    "too many bytes",
+    "an added request",
+];
+
+fn place_of(cause: Cause) -> usize
+    ensures { result < 7 }
+{
+    match cause {
+        Cause::Ends => 0,
+        Cause::Part => 1,
+        Cause::Room => 2,
+        Cause::Break => 3,
+        Cause::Order => 4,
+        Cause::Full => 5,
+        Cause::Extra => 6,
+    }
 }
 
 fn add(count: &mut u64, more: u64) {
     *count = count.saturating_add(more);
-}
-
-impl Causes {
-    fn none() -> Causes {
-        Causes {
-            ends: 0,
-            part: 0,
-            room: 0,
-            breaks: 0,
-            order: 0,
-            full: 0,
-            extra: 0,
-        }
-    }
-
-    fn count(&mut self, cause: Cause) {
-        match cause {
-            Cause::Ends => add(&mut self.ends, 1),
-            Cause::Part => add(&mut self.part, 1),
-            Cause::Room => add(&mut self.room, 1),
-            Cause::Break => add(&mut self.breaks, 1),
-            Cause::Order => add(&mut self.order, 1),
-            Cause::Full => add(&mut self.full, 1),
-            Cause::Extra => add(&mut self.extra, 1),
-        }
-    }
-
-    // Prints each cause with its number, which may be 0.
-    fn print<R: Print>(&self, rt: &R) -> Result<(), io::Error> {
-        println!(rt; "no answer that fits: {}", self.ends)?;
-        println!(rt; "a feed of a part: {}", self.part)?;
-        println!(rt; "room, or none: {}", self.room)?;
-        println!(rt; "a break, or none: {}", self.breaks)?;
-        println!(rt; "another order: {}", self.order)?;
-        println!(rt; "too many bytes: {}", self.full)?;
-        println!(rt; "an added request: {}", self.extra)
-    }
 }
 
 /// How many rows there were, how many were played, with how many children those that came out as they must, how many
@@ -67,7 +45,7 @@ pub struct Tally {
     played: u64,
     children: u64,
     pub differ: u64,
-    causes: Causes,
+    causes: [u64; CAUSES],
 }
 
 impl Tally {
@@ -78,27 +56,22 @@ impl Tally {
             played: 0,
             children: 0,
             differ: 0,
-            causes: Causes::none(),
+            causes: [0; CAUSES],
         }
     }
 
-    /// Plays a row, counts it, and prints a line where it came out otherwise.
-    pub fn play<R: Print + Wait + Copy>(
+    /// Counts a row, and prints a line where it came out otherwise.
+    pub fn count<R: Print>(
         &mut self,
-        rt: R,
-        alloc: Global,
-        mut row: Row,
-    ) -> Result<(), RowsStopped> {
-        let verdict = judge(rt, alloc, &mut row)?;
-        self.count(&rt, row.name.as_str(), verdict)?;
-        Ok(())
-    }
-
-    fn count<R: Print>(&mut self, rt: &R, name: &str, verdict: Verdict) -> Result<(), io::Error> {
+        rt: &R,
+        name: &str,
+        verdict: Verdict,
+    ) -> Result<(), io::Error> {
         add(&mut self.rows, 1);
         match verdict {
             Verdict::Never(cause) => {
-                self.causes.count(cause);
+                let place = place_of(cause);
+                add(&mut self.causes[place], 1);
                 Ok(())
             }
             Verdict::Right(children) => {
@@ -132,6 +105,9 @@ impl Tally {
             "{} rows: {} played with {} children, {} differ",
             self.rows, self.played, self.children, self.differ
         )?;
-        self.causes.print(rt)
+        for place in 0..CAUSES {
+            println!(rt; "{}: {}", TOLD[place], self.causes[place])?;
+        }
+        Ok(())
     }
 }

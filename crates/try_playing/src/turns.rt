@@ -20,13 +20,25 @@ fn is_childs(item: &Item) -> bool {
 /// Copies of items of sockets.
 pub fn copies_of(alloc: Global, sockets: &[Item]) -> Result<ItemList, Memory> {
     let mut copies = Vec::new(alloc);
+    match add_copies(alloc, sockets, &mut copies) {
+        Ok(()) => Ok(ItemList::of(copies)),
+        Err(Memory) => {
+            forget_items(copies);
+            Err(Memory)
+        }
+    }
+}
+
+fn add_copies(alloc: Global, sockets: &[Item], copies: &mut Vec<Item>) -> Result<(), Memory> {
     for item in sockets {
         if let Some(copy) = copy_of(alloc, item)? {
             copies.push(copy)?;
         }
     }
-    Ok(ItemList::of(copies))
+    Ok(())
 }
+
+fn forget_items(_items: Vec<Item>) {}
 
 // A copy of an item; nothing where it is a child's.
 fn copy_of(alloc: Global, item: &Item) -> Result<Option<Item>, Memory> {

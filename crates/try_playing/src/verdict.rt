@@ -1,9 +1,7 @@
 //! What came of a row.
-use crate::ahead::Course;
-use crate::plan::{Cause, Plan, Planned};
-use crate::planner::plan_of;
+use crate::plan::{Cause, Plan, forget_plan};
 use crate::playing::{PLAYED, play};
-use crate::replay::{Outcome, answers_of, calls_of, journal_of};
+use crate::replay::{Outcome, plan_row};
 use crate::wanted::Wanted;
 use aio_base::Memory;
 use aio_inbox::UnnamedInbox;
@@ -32,26 +30,30 @@ pub enum Verdict {
 
 /// Plays a row, if a hub can.
 pub fn judge<R: Wait + Copy>(rt: R, alloc: Global, row: &mut Row) -> Result<Verdict, Memory> {
-    match planned(alloc, row)? {
-        Planned::Never(cause) => Ok(Verdict::Never(cause)),
-        Planned::Plays(plan) => {
-            let children = plan.children;
-            let wanted = Wanted::of(alloc, row, plan.is_cut)?;
-            let outcome = played(rt, alloc, row, plan)?;
-            Ok(verdict_of(row, &wanted, &outcome, children))
+    let mut plan = Plan::new(alloc);
+    match plan_row(alloc, row, REPLAYED, &mut plan) {
+        Ok(None) => judge_played(rt, alloc, row, plan),
+        Ok(Some(cause)) => {
+            forget_plan(plan);
+            Ok(Verdict::Never(cause))
+        }
+        Err(Memory) => {
+            forget_plan(plan);
+            Err(Memory)
         }
     }
 }
 
-// What poller and pumps do so that a hub answers as the row's journal does.
-fn planned(alloc: Global, row: &mut Row) -> Result<Planned, Memory> {
-    let calls = calls_of(alloc, row, REPLAYED)?;
-    let answers = answers_of(alloc, journal_of(row))?;
-    let course = Course {
-        calls: calls.as_slice(),
-        answers: answers.as_slice(),
-    };
-    plan_of(alloc, course)
+fn judge_played<R: Wait + Copy>(
+    rt: R,
+    alloc: Global,
+    row: &mut Row,
+    plan: Plan,
+) -> Result<Verdict, Memory> {
+    let (children, is_cut) = (plan.children, plan.is_cut);
+    let outcome = played(rt, alloc, row, plan)?;
+    let wanted = Wanted::of(alloc, row, is_cut)?;
+    Ok(verdict_of(row, &wanted, &outcome, children))
 }
 
 fn played<R: Wait + Copy>(
@@ -60,8 +62,13 @@ fn played<R: Wait + Copy>(
     row: &mut Row,
     plan: Plan,
 ) -> Result<Outcome, Memory> {
-    let unnamed = UnnamedInbox::new(alloc)?;
-    play::<Brand, R>(rt, alloc, unnamed, row, plan)
+    match UnnamedInbox::new(alloc) {
+        Ok(unnamed) => play::<Brand, R>(rt, alloc, unnamed, row, plan),
+        Err(_) => {
+            forget_plan(plan);
+            Err(Memory)
+        }
+    }
 }
 
 fn verdict_of(row: &Row, wanted: &Wanted, outcome: &Outcome, children: u64) -> Verdict {

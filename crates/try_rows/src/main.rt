@@ -1,52 +1,35 @@
-//! Runs worked rows through the program, over files in memory: each word names a file of rows. For each row that comes
-//! out otherwise it prints a line, and at the end how many rows there were.
+//! Runs worked cases of every kind, in memory, on threads and over the system's own sockets. Its words name the suites
+//! that are run, each with its files. It prints a line for each case that comes out otherwise, and for each suite how many
+//! there were.
 #![tactic(auto)]
 
-mod running;
-mod tally;
+mod faults;
+mod over_journal;
+mod rows;
+mod suites;
+mod words;
 
-use std::alloc::Global;
+use std::env;
 use std::process::ExitCode;
-use std::rt::{Env, Files};
-use std::{env, fs};
-use tally::Tally;
-use try_row::{RowReader, RowsStopped};
+use std::rt::Env;
+use suites::run_suites;
+use try_row::RowsStopped;
+
+/// The status where cases were not run to their end.
+const STOPPED: u8 = 2;
 
 fn main(rt: HostRuntime) -> ExitCode {
-    match run_files(&rt, rt.alloc()) {
-        Ok(tally) if tally.differ == 0 => ExitCode::SUCCESS,
+    let Ok(words) = words_of(&rt) else {
+        return ExitCode::from(STOPPED);
+    };
+    match run_suites(rt, rt.alloc(), words.as_slice()) {
+        Ok(0) => ExitCode::SUCCESS,
         Ok(_) => ExitCode::FAILURE,
-        Err(RowsStopped) => ExitCode::from(2),
+        Err(RowsStopped) => ExitCode::from(STOPPED),
     }
 }
 
-/// Runs the rows of each file that the words name, and prints what came of them.
-fn run_files<R: Env + Files + Print + AllocGlobal>(
-    rt: &R,
-    alloc: Global,
-) -> Result<Tally, RowsStopped> {
-    let mut tally = Tally::new();
-    for path in env::args(rt)?.skip(1) {
-        let text = fs::read(rt, path.as_str())?;
-        run_rows(rt, alloc, &text, &mut tally)?;
-    }
-    println!(rt; "{} rows, {} differ", tally.rows, tally.differ)?;
-    Ok(tally)
-}
-
-/// Runs the rows of a text, one after another.
-fn run_rows<R: Print>(
-    rt: &R,
-    alloc: Global,
-    text: &[u8],
-    tally: &mut Tally,
-) -> Result<(), RowsStopped> {
-    let mut rows = RowReader::new(text);
-    for _ in 0..u64::MAX {
-        let Some(row) = rows.next(alloc)? else {
-            break;
-        };
-        tally.run(rt, alloc, row)?;
-    }
-    Ok(())
+/// The words behind the program's name.
+fn words_of<R: Env + AllocGlobal>(rt: &R) -> Result<Vec<String>, RowsStopped> {
+    Ok(env::args(rt)?.skip(1).collect(rt.alloc())?)
 }

@@ -25,67 +25,104 @@ const WAIT: u64 = 100;
 /// Longer than any case takes, in milliseconds.
 const LONG: u64 = 30_000;
 
+/// What a case does over the poller.
+#[derive(Clone, Copy)]
+enum Does {
+    Listen,
+    Accept,
+    Connect,
+    Recv(u32),
+    /// Sends `hello` from connection 0.
+    Hello,
+    Shut(u32),
+    Close(u32),
+    CloseServer,
+    /// Polls until a connection that is being made is up or down.
+    IsMade(u32),
+    /// Polls until the listener has a connection.
+    IsCalled,
+    Reads(u32),
+    ReadsOrWrites(u32),
+}
+
+/// Each case's name, and what it does: two connections of one listener, with bytes from one to the other; one side ends, and
+/// then the other closes; nobody listens.
+const STEPS: [(&str, Does); 23] = [
+    ("the same port", Does::Listen),
+    ("nobody came", Does::Accept),
+    ("a connection", Does::Connect),
+    ("it comes", Does::IsMade(0)),
+    ("the listener", Does::IsCalled),
+    ("it is taken", Does::Accept),
+    ("nobody else", Does::Accept),
+    ("nothing yet", Does::Recv(1)),
+    ("it may write", Does::ReadsOrWrites(0)),
+    ("hello", Does::Hello),
+    ("hello comes", Does::Reads(1)),
+    ("hello is read", Does::Recv(1)),
+    ("a side ends", Does::Shut(0)),
+    ("the end comes", Does::Reads(1)),
+    ("the end is read", Does::Recv(1)),
+    ("it closes", Does::Close(1)),
+    ("the other hears", Does::Reads(0)),
+    ("and reads", Does::Recv(0)),
+    ("and closes", Does::Close(0)),
+    ("no such connection", Does::Recv(0)),
+    ("the listener closes", Does::CloseServer),
+    ("another connection", Does::Connect),
+    ("nobody listens", Does::IsMade(2)),
+];
+
+/// Runs all cases, and prints a line for each: its name, and what was answered.
+pub fn run_cases<R: Net + Clock + Print + Copy>(rt: R, alloc: Global) -> io::Result<()> {
+    let poller = RealPoller::make(rt, alloc)?;
+    let mut cases = Cases {
+        poller,
+        alloc,
+        port: FIRST_PORT,
+    };
+    let ran = cases.run(&rt);
+    forget_cases(cases);
+    ran
+}
+
 #[derive(Drop)]
-pub struct Cases<R> {
+struct Cases<R> {
     poller: RealPoller<R>,
     alloc: Global,
     port: u16,
 }
 
-impl<R> Cases<R> {
-    pub fn new(poller: RealPoller<R>, alloc: Global) -> Cases<R> {
-        Cases {
-            poller,
-            alloc,
-            port: FIRST_PORT,
-        }
-    }
-}
+fn forget_cases<R: Drop>(_cases: Cases<R>) {}
 
 impl<R: Net + Clock> Cases<R> {
-    pub fn run<P: Print>(&mut self, rt: &P) -> io::Result<()> {
+    fn run<P: Print>(&mut self, rt: &P) -> io::Result<()> {
         println!(rt; "a port: {}", self.find_port()?)?;
-        self.there_and_back(rt)?;
-        self.ends(rt)?;
-        self.nobody_listens(rt)?;
+        for (name, does) in STEPS {
+            let came = self.does(does)?;
+            println!(rt; "{name}: {came}")?;
+        }
         println!(rt; "a bell: {}", self.bell()?)
     }
 
-    /// Two connections of one listener, and bytes from one to the other.
-    fn there_and_back<P: Print>(&mut self, rt: &P) -> io::Result<()> {
-        let port = self.port;
-        println!(rt; "the same port: {}", self.ask(Call::Listen(port))?)?;
-        println!(rt; "nobody came: {}", self.ask(Call::Accept(0))?)?;
-        println!(rt; "a connection: {}", self.ask(Call::Connect(port))?)?;
-        println!(rt; "it comes: {}", self.wait_for(Watch::Making(0))?)?;
-        println!(rt; "the listener: {}", self.wait_for(Watch::Server(0))?)?;
-        println!(rt; "it is taken: {}", self.ask(Call::Accept(0))?)?;
-        println!(rt; "nobody else: {}", self.ask(Call::Accept(0))?)?;
-        println!(rt; "nothing yet: {}", self.ask(Call::Recv(1))?)?;
-        println!(rt; "it may write: {}", self.wait_for(reads_and_writes(0))?)?;
-        let bytes = self.hello()?;
-        println!(rt; "hello: {}", self.ask(Call::Send { conn: 0, bytes })?)?;
-        println!(rt; "hello comes: {}", self.wait_for(reads(1))?)?;
-        println!(rt; "hello is read: {}", self.ask(Call::Recv(1))?)
-    }
-
-    /// One side ends, then the other closes.
-    fn ends<P: Print>(&mut self, rt: &P) -> io::Result<()> {
-        println!(rt; "a side ends: {}", self.ask(Call::Shut(0))?)?;
-        println!(rt; "the end comes: {}", self.wait_for(reads(1))?)?;
-        println!(rt; "the end is read: {}", self.ask(Call::Recv(1))?)?;
-        println!(rt; "it closes: {}", self.ask(Call::Close(1))?)?;
-        println!(rt; "the other hears: {}", self.wait_for(reads(0))?)?;
-        println!(rt; "and reads: {}", self.ask(Call::Recv(0))?)?;
-        println!(rt; "and closes: {}", self.ask(Call::Close(0))?)?;
-        println!(rt; "no such connection: {}", self.ask(Call::Recv(0))?)
-    }
-
-    fn nobody_listens<P: Print>(&mut self, rt: &P) -> io::Result<()> {
-        let port = self.port;
-        println!(rt; "the listener closes: {}", self.ask(Call::CloseServer(0))?)?;
-        println!(rt; "another connection: {}", self.ask(Call::Connect(port))?)?;
-        println!(rt; "nobody listens: {}", self.wait_for(Watch::Making(2))?)
+    fn does(&mut self, does: Does) -> io::Result<&'static str> {
+        match does {
+            Does::Listen => self.ask(Call::Listen(self.port)),
+            Does::Accept => self.ask(Call::Accept(0)),
+            Does::Connect => self.ask(Call::Connect(self.port)),
+            Does::Recv(conn) => self.ask(Call::Recv(conn)),
+            Does::Hello => {
+                let bytes = self.hello()?;
+                self.ask(Call::Send { conn: 0, bytes })
+            }
+            Does::Shut(conn) => self.ask(Call::Shut(conn)),
+            Does::Close(conn) => self.ask(Call::Close(conn)),
+            Does::CloseServer => self.ask(Call::CloseServer(0)),
+            Does::IsMade(conn) => self.wait_for(Watch::Making(conn)),
+            Does::IsCalled => self.wait_for(Watch::Server(0)),
+            Does::Reads(conn) => self.wait_for(watch_of(conn, false)),
+            Does::ReadsOrWrites(conn) => self.wait_for(watch_of(conn, true)),
+        }
     }
 
     /// Listens at the first port that is free.
@@ -103,18 +140,22 @@ impl<R: Net + Clock> Cases<R> {
     fn ask(&mut self, call: Call) -> io::Result<&'static str>
         requires { is_socket call ≡ true }
     {
-        let reply = self.poller.net(self.alloc, &call).map_err(no_memory)?;
-        Ok(match reply {
-            Reply::Got(answer) => name(&answer),
-            Reply::Over | Reply::Bad(_) => "an end",
-            Reply::Failed => "failed",
-        })
+        let replied = self.poller.net(self.alloc, &call);
+        forget_call(call);
+        match replied {
+            Ok(reply) => {
+                let said = reply_name(&reply);
+                forget_reply(reply);
+                Ok(said)
+            }
+            Err(cause) => Err(no_memory(cause)),
+        }
     }
 
     /// Polls until an item comes.
     fn wait_for(&mut self, entry: Watch) -> io::Result<&'static str> {
         for _ in 0..POLLS {
-            let came = self.poll(entry)?;
+            let came = self.look_for(entry)?;
             if came != "nothing" {
                 return Ok(came);
             }
@@ -122,28 +163,25 @@ impl<R: Net + Clock> Cases<R> {
         Ok("nothing")
     }
 
-    fn poll(&mut self, entry: Watch) -> io::Result<&'static str> {
+    fn look_for(&mut self, entry: Watch) -> io::Result<&'static str> {
         let mut entries = Vec::new(self.alloc);
         entries.push(entry)?;
-        let watch = WatchList::of(entries);
-        let polled = self
-            .poller
-            .poll(self.alloc, Some(WAIT), &watch)
-            .map_err(no_memory)?;
-        Ok(match polled {
-            Polled::Ready { items, .. } => match items.items().first() {
-                Some(item) => item_name(item),
-                None => "nothing",
-            },
-            Polled::Failed => "failed",
-        })
+        let polled = self.poll(WAIT, WatchList::of(entries))?;
+        let came = first_name(&polled);
+        forget_polled(polled);
+        Ok(came)
+    }
+
+    fn poll(&mut self, wait: u64, watch: WatchList) -> io::Result<Polled> {
+        let polled = self.poller.poll(self.alloc, Some(wait), &watch);
+        forget_watch(watch);
+        polled.map_err(no_memory)
     }
 
     /// A poll that waits long, and whose bell was rung.
     fn bell(&mut self) -> io::Result<&'static str> {
-        let mut bell = self.poller.bell().map_err(no_memory)?;
         let before = self.time(0)?;
-        aio_pump::Bell::ring(&mut bell);
+        self.ring()?;
         let after = self.time(LONG)?;
         Ok(if after.saturating_sub(before) < LONG {
             "rings"
@@ -152,17 +190,18 @@ impl<R: Net + Clock> Cases<R> {
         })
     }
 
+    fn ring(&mut self) -> io::Result<()> {
+        let mut bell = self.poller.bell().map_err(no_memory)?;
+        aio_pump::Bell::ring(&mut bell);
+        Ok(())
+    }
+
     /// When a poll of nothing was done that waits so long.
     fn time(&mut self, wait: u64) -> io::Result<u64> {
-        let nothing = WatchList::of(Vec::new(self.alloc));
-        let polled = self
-            .poller
-            .poll(self.alloc, Some(wait), &nothing)
-            .map_err(no_memory)?;
-        Ok(match polled {
-            Polled::Ready { now, .. } => now,
-            Polled::Failed => u64::MAX,
-        })
+        let polled = self.poll(wait, WatchList::of(Vec::new(self.alloc)))?;
+        let now = now_of(&polled);
+        forget_polled(polled);
+        Ok(now)
     }
 
     fn hello(&self) -> io::Result<Blob> {
@@ -170,23 +209,48 @@ impl<R: Net + Clock> Cases<R> {
     }
 }
 
+fn forget_call(_call: Call) {}
+
+fn forget_reply(_reply: Reply) {}
+
+fn forget_watch(_watch: WatchList) {}
+
+fn forget_polled(_polled: Polled) {}
+
 fn no_memory(_cause: Memory) -> io::Error {
     io::Error::from(io::ErrorKind::OutOfMemory)
 }
 
-const fn reads(conn: u32) -> Watch {
+fn watch_of(conn: u32, writes: bool) -> Watch {
     Watch::Conn {
         conn,
         reads: true,
-        writes: false,
+        writes,
     }
 }
 
-const fn reads_and_writes(conn: u32) -> Watch {
-    Watch::Conn {
-        conn,
-        reads: true,
-        writes: true,
+fn now_of(polled: &Polled) -> u64 {
+    match polled {
+        Polled::Ready { now, .. } => *now,
+        Polled::Failed => u64::MAX,
+    }
+}
+
+fn first_name(polled: &Polled) -> &'static str {
+    match polled {
+        Polled::Ready { items, .. } => match items.items().first() {
+            Some(item) => item_name(item),
+            None => "nothing",
+        },
+        Polled::Failed => "failed",
+    }
+}
+
+fn reply_name(reply: &Reply) -> &'static str {
+    match reply {
+        Reply::Got(answer) => name(answer),
+        Reply::Over | Reply::Bad(_) => "an end",
+        Reply::Failed => "failed",
     }
 }
 

@@ -8,19 +8,30 @@ use std::alloc::Global;
 /// are taken as the journal says.
 pub fn are_handed_on(alloc: Global) -> bool {
     let mut shelf = MemShelf::new(alloc);
+    let right = are_handed_over(alloc, &mut shelf);
+    forget_shelf(shelf);
+    right
+}
+
+/// Lets a shelf go.
+pub fn forget_shelf(_shelf: MemShelf) {}
+
+fn are_handed_over(alloc: Global, shelf: &mut MemShelf) -> bool {
     if shelf
         .append(alloc, "j", b"took 2\ntook 1\ntook 3\n")
         .is_err()
     {
         return false;
     }
-    let mut wire = JournalWire::new(alloc, &mut shelf, "j");
-    sends(alloc, &mut wire)
+    let mut wire = JournalWire::new(alloc, shelf, "j");
+    let right = sends(alloc, &mut wire)
         && sends(alloc, &mut wire)
         && feeds(alloc, &mut wire)
         && wire.handed(Handed::Conn(7)) == b"aba".as_slice()
         && wire.handed(Handed::Child(7)) == b"abc".as_slice()
-        && wire.handed(Handed::Conn(0)).is_empty()
+        && wire.handed(Handed::Conn(0)).is_empty();
+    drop(wire);
+    right
 }
 
 fn sends<W: Wire>(alloc: Global, wire: &mut W) -> bool {

@@ -1,3 +1,0 @@
-pub mod Asker
-pub mod NextTurn
-pub mod Wanted

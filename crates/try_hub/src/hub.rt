@@ -1,0 +1,30 @@
+//! The rows of a hub, one after another.
+ghost use Rattle.std.specs.Prelude.{◌≡◌};
+ghost use Rattle.aio_inbox.specs.Naming.{table_of};
+
+use crate::play::{HubRow, plays};
+use crate::rows::ROWS;
+use aio_inbox::UnnamedInbox;
+use std::alloc::Global;
+use std::io;
+use std::marker::Brand;
+use std::sync::Wait;
+use try_row::RowCount;
+
+/// Runs all rows, prints what came of them, and answers how many differed.
+pub fn run_hub<R: Print + Wait + Copy>(rt: R, alloc: Global) -> Result<u64, io::Error> {
+    let mut tally = RowCount::new();
+    for row in &ROWS {
+        let right = is_right(rt, alloc, row);
+        tally.count(&rt, row.name, right)?;
+    }
+    tally.print(&rt)
+}
+
+// Whether a row comes out as it must. Where memory is refused it doesn't.
+fn is_right<R: Wait + Copy>(rt: R, alloc: Global, row: &HubRow) -> bool {
+    match UnnamedInbox::new(alloc) {
+        Ok(unnamed) => plays::<Brand, R>(rt, alloc, unnamed, row),
+        Err(_) => false,
+    }
+}

@@ -1,0 +1,4 @@
+pub mod Asker
+pub mod NextTurn
+pub mod Still
+pub mod Wanted

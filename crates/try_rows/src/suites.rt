@@ -1,0 +1,158 @@
+//! The suites: cases of one kind each, with their files.
+use crate::faults::{fail_scripts, run_scripts};
+use crate::rows::run_rows;
+use crate::words::run_lists;
+use std::alloc::Global;
+use std::io;
+use std::net::Net;
+use std::rt::Files;
+use std::sync::Wait;
+use std::thread::Threads;
+use std::time::Clock;
+use try_row::RowsStopped;
+
+/// Cases of one kind.
+#[derive(Clone, Copy)]
+enum Suite {
+    Rows,
+    Tapes,
+    Words,
+    Faults,
+    Memory,
+    Playing,
+    Extra,
+    Parts,
+    Streams,
+    Children,
+    Inbox,
+    Hub,
+    Pumps,
+    Sockets,
+}
+
+/// The word that begins each.
+const SUITES: [(&str, Suite); 14] = [
+    ("--rows", Suite::Rows),
+    ("--tapes", Suite::Tapes),
+    ("--words", Suite::Words),
+    ("--faults", Suite::Faults),
+    ("--memory", Suite::Memory),
+    ("--playing", Suite::Playing),
+    ("--extra", Suite::Extra),
+    ("--parts", Suite::Parts),
+    ("--streams", Suite::Streams),
+    ("--children", Suite::Children),
+    ("--inbox", Suite::Inbox),
+    ("--hub", Suite::Hub),
+    ("--pumps", Suite::Pumps),
+    ("--sockets", Suite::Sockets),
+];
+
+fn suite_of(word: &str) -> Option<Suite> {
+    for (name, suite) in SUITES {
+        if word == name {
+            return Some(suite);
+        }
+    }
+    None
+}
+
+/// Runs each suite that the words name, with the words up to the next: how many cases came out otherwise.
+pub fn run_suites<R>(rt: R, alloc: Global, words: &[String]) -> Result<u64, RowsStopped>
+where
+    R: Files + Print + AllocGlobal + Net + Clock + Threads + Wait + Copy + Send + Sync + 'static,
+{
+    let mut rest = words;
+    let mut differ = 0u64;
+    for _ in 0..words.len() {
+        let Some((name, behind)) = rest.split_first() else {
+            break;
+        };
+        let Some(suite) = suite_of(name.as_str()) else {
+            return Err(RowsStopped);
+        };
+        let (own, others) = own_words(behind);
+        differ = differ.saturating_add(run_suite(rt, alloc, suite, own)?);
+        rest = others;
+    }
+    Ok(differ)
+}
+
+/// The words before the next suite, and those from there on.
+fn own_words(words: &[String]) -> (&[String], &[String]) {
+    match words
+        .iter()
+        .position(|word| suite_of(word.as_str()).is_some())
+    {
+        Some(at) => words.split_at(at),
+        None => words.split_at(words.len()),
+    }
+}
+
+fn run_suite<R>(rt: R, alloc: Global, suite: Suite, words: &[String]) -> Result<u64, RowsStopped>
+where
+    R: Files + Print + AllocGlobal + Net + Clock + Threads + Wait + Copy + Send + Sync + 'static,
+{
+    match suite {
+        Suite::Rows => run_rows(rt, alloc, words),
+        Suite::Tapes => try_loop::run_tapes(&rt, alloc, words),
+        Suite::Words => run_lists(&rt, alloc, words),
+        Suite::Faults => fail_scripts(&rt, alloc, words),
+        Suite::Memory => run_scripts(&rt, alloc, words),
+        Suite::Playing => try_playing::play_files(rt, alloc, words),
+        Suite::Extra => {
+            try_loop::run_extra(&rt, alloc)?;
+            Ok(0)
+        }
+        Suite::Parts => {
+            try_loop::run_parts(&rt, alloc)?;
+            Ok(0)
+        }
+        Suite::Streams => Ok(try_streams::run_streams(&rt, alloc)?),
+        Suite::Children => Ok(try_streams::run_children(&rt, alloc)?),
+        Suite::Inbox => Ok(run_inbox(rt, alloc, words)?),
+        Suite::Hub => Ok(try_hub::run_hub(rt, alloc)?),
+        Suite::Pumps => Ok(run_pumps(&rt, alloc, words)?),
+        Suite::Sockets => {
+            try_sockets::run_cases(rt, alloc)?;
+            Ok(0)
+        }
+    }
+}
+
+/// A number of posts and one of posters, where the words are two.
+fn load_of(words: &[String]) -> Option<(u32, u32)> {
+    let posts = words.first()?.as_str().parse::<u32>().ok()?;
+    let posters = words.get(1)?.as_str().parse::<u32>().ok()?;
+    Some((posts, posters))
+}
+
+fn run_inbox<R>(rt: R, alloc: Global, words: &[String]) -> Result<u64, io::Error>
+where
+    R: Print + Threads + Wait + Copy + Send + Sync + 'static,
+{
+    match load_of(words) {
+        Some((posts, posters)) => try_hub::run_load(&rt, alloc, posts, posters)?,
+        None => try_hub::run_inbox(&rt, alloc)?,
+    }
+    Ok(0)
+}
+
+fn run_pumps<R>(rt: &R, alloc: Global, words: &[String]) -> Result<u64, io::Error>
+where
+    R: Print + Threads + Wait + Clock + Sync,
+{
+    let Some(pieces) = pieces_of(words) else {
+        return try_pumps::run_rows(rt, alloc);
+    };
+    if try_pumps::carry_pieces(rt, alloc, pieces) {
+        Ok(0)
+    } else {
+        Ok(1)
+    }
+}
+
+/// A number of pieces, where a word tells one.
+fn pieces_of(words: &[String]) -> Option<u64> {
+    words.first()?.as_str().parse::<u64>().ok()
+}
