@@ -1,5 +1,6 @@
 -- Timers are kept as one is placed and as one leaves, and what the first place says.
-use Rattle.std.proofs.Common.{◌≡◌, ℕ, zero, ◌+◌, ◌<◌, ◌≤◌, ◌⊎◌, Bool, true, false, cond, not, ◌==◌, List, [], ◌∷◌, ◌++◌, get_or, length, Option, Some, None, refl, sym, ap, subst, subst₂, inl, inr, arith, ◌∙◌}
+use Rattle.std.proofs.Common.{◌≡◌, ℕ, zero, ◌+◌, ◌<◌, ◌≤◌, ◌⊎◌, Bool, true, false, cond, not, ◌==◌, List, [], ◌∷◌, ◌++◌, get_or, length, Option, Some}
+use Rattle.std.proofs.Common.{None, refl, sym, ap, subst, subst₂, inl, inr, arith, ◌∙◌}
 use Rattle.std.specs.BinaryHeap.{IsHeap, IsUpperBound, heap_items, lt_by_cmp}
 use Rattle.std.specs.List.{AllByRecursion, Contains, cons_option}
 use Rattle.std.specs.List.Sorted.{IsPermutation}
@@ -15,10 +16,13 @@ use Rattle.aio_timer.specs.declared.live.Live.{Live}
 use Rattle.aio_timer.specs.declared.live.TimerId.{TimerId}
 use Rattle.aio_timer.specs.declared.place.Place.{Place}
 use Rattle.aio_timer.specs.Schedule.{placed_after, is_of, lives, without, due_at, later_than}
-use Rattle.aio_timer.specs.Kept.{AreRising, Entry, IsFirst, IsKept, IsSame, IsSettled, IsThinned, KeepsStanding, NoneAt, begins_dead, has, is_numbered, later_cmp, place_of, sorted_onto, stands, timer_if, timer_of, timers_of, waiting}
+use Rattle.aio_timer.specs.Kept.{AreRising, Entry, IsFirst, IsKept, IsSame, IsSettled, IsThinned, KeepsStanding, NoneAt, begins_dead, has}
+use Rattle.aio_timer.specs.Kept.{is_numbered, later_cmp, place_of, sorted_onto, stands, timer_if, timer_of, timers_of, waiting}
 use Rattle.aio_timer.proofs.Comparing.{no_earlier, no_later}
-use Rattle.aio_timer.proofs.Sorting.{IsAscending, Precedes, all_filter, all_sorted, all_unsorted, ascending_sorted, filter_sorted, first_of, lives_none, lives_or_none, sorted_append, without_is, without_none}
-use Rattle.aio_timer.proofs.Waiting.{all_waiting, contains_filter, from_rising, is_own, one_slot, rising_filter, rising_push, waiting_has, waiting_left, waiting_put, waiting_thinned, was_there}
+use Rattle.aio_timer.proofs.Sorting.{IsAscending, Precedes, all_filter, all_sorted, all_unsorted, ascending_sorted, filter_sorted, first_of}
+use Rattle.aio_timer.proofs.Sorting.{lives_none, lives_or_none, sorted_append, without_is, without_none}
+use Rattle.aio_timer.proofs.Waiting.{all_waiting, contains_filter, from_rising, is_own, one_slot, rising_filter, rising_push, waiting_has}
+use Rattle.aio_timer.proofs.Waiting.{waiting_left, waiting_put, waiting_thinned, was_there}
 
 -- ---- what stands
 has_itself : (e : Entry) (o : Option Entry) → o ≡ Some e → has e.0 o ≡ true

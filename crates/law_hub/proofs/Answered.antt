@@ -14,7 +14,8 @@ use Rattle.model_hub.specs.declared.halt.Halt.{Halt}
 use Rattle.model_hub.specs.declared.halt.Halt.TheVariants.{Going, Faulted, Starving}
 use Rattle.model_hub.specs.Children.{waiting, runs, is_owed}
 use Rattle.model_hub.specs.Hub.{Hub, with_child}
-use Rattle.model_hub.specs.Others.{Lanes, OfWrite, Launching, Started, NotStarted, NoMemory, Others, Polled, Ready, PollFailed, PollStarved, Said, Got, Failed, Memory, is_given}
+use Rattle.model_hub.specs.Others.{Lanes, OfWrite, Launching, Started, NotStarted, NoMemory, Others, Polled, Ready, PollFailed, PollStarved, Said}
+use Rattle.model_hub.specs.Others.{Got, Failed, Memory, is_given}
 use Rattle.model_hub.specs.Lanes.{serve}
 use Rattle.model_hub.specs.Gathering.{begin, gather, most_waiting}
 use Rattle.model_hub.specs.Select.{said_at, after_poll}

@@ -1,5 +1,6 @@
 -- A hub fails only where its count rose.
-use Rattle.std.proofs.Common.{◌≡◌, ℕ, ◌+◌, ◌-◌, ◌^◌, ◌<◌, ◌≤◌, ⊎_elim, Bool, true, false, cond, ◌&&◌, List, [], ◌∷◌, ◌++◌, length, min, Option, Some, None, refl, sym, ap, ◌∙◌, subst, arith}
+use Rattle.std.proofs.Common.{◌≡◌, ℕ, ◌+◌, ◌-◌, ◌^◌, ◌<◌, ◌≤◌, ⊎_elim, Bool, true, false, cond, ◌&&◌, List, [], ◌∷◌, ◌++◌, length, min, Option, Some}
+use Rattle.std.proofs.Common.{None, refl, sym, ap, ◌∙◌, subst, arith}
 use Rattle.std.proofs.Math.Nat.{min-eq_left, min-eq_right, min-le_left, min-le_right, le-min}
 use Rattle.std.proofs.lemmas.Bool.{cases_lt}
 use Rattle.std.proofs.lemmas.List.{length-append}
@@ -20,9 +21,11 @@ use Rattle.model_hub.specs.declared.halt.Halt.{Halt}
 use Rattle.model_hub.specs.declared.halt.Halt.TheVariants.{Going, Faulted, Starving}
 use Rattle.model_hub.specs.Posts.{told_of}
 use Rattle.model_hub.specs.Hub.{Hub, with_child}
-use Rattle.model_hub.specs.Others.{Lanes, OfWrite, Launching, Started, NotStarted, NoMemory, Others, Polled, Ready, PollFailed, PollStarved, Said, Got, Failed, Memory, is_given}
+use Rattle.model_hub.specs.Others.{Lanes, OfWrite, Launching, Started, NotStarted, NoMemory, Others, Polled, Ready, PollFailed, PollStarved, Said}
+use Rattle.model_hub.specs.Others.{Got, Failed, Memory, is_given}
 use Rattle.model_hub.specs.Lanes.{serve}
-use Rattle.model_hub.specs.Gathering.{Gathering, goes_in, offer, offer_all, add, add_all, kept_of, stdin_items, start, begin, halt_at, note_in, after_post, gather}
+use Rattle.model_hub.specs.Gathering.{Gathering, goes_in, offer, offer_all, add, add_all, kept_of, stdin_items, start, begin, halt_at, note_in}
+use Rattle.model_hub.specs.Gathering.{after_post, gather}
 use Rattle.model_hub.specs.Select.{said_at, after_poll}
 use Rattle.model_hub.specs.Calls.{answer_to, socket, feed_child, offers_write, after_write, after_launching, launch_with, most_children}
 use Rattle.model_hub.specs.Asked.{HubSeen, Asks, PollKeeps, NetKeeps, Keeps, is_fault, faults_in, faults_of}
