@@ -133,7 +133,8 @@ impl<R: Net + Clock> Poller for RealPoller<R> {
     }
 
     fn net(&mut self, alloc: Global, call: &Call) -> Result<Reply, Memory>
-        ensures net { IfOk result (Nets call.now (untold self.old.faults) (untold self.new.faults)) }
+        ensures net { IfOk result
+            (Nets call.now (untold self.old.faults) (untold self.new.faults)) }
         ensures later { self.old.faults ≤ self.new.faults }
         ensures onward { self.old.time.told ≤ self.new.time.told }
     {
