@@ -1,6 +1,6 @@
 -- A connect, by the call that begins its connection.
 use Rattle.std.proofs.Common.{◌≡◌, ℕ, ◌<◌, true, List, Option, Some, None, length, slice_get, Result, Ok, Err, refl, sym, ap, subst, ◌∙◌}
-use Rattle.std.specs.Result.{IfOk}
+use Rattle.std.specs.Result.{IfOk, OnOk}
 use Rattle.model_value.specs.Request.{Request}
 use Rattle.model_stream.specs.Connections.{connect_refused}
 use Rattle.model_wire.specs.Journal.{Entry}
@@ -118,10 +118,22 @@ module _ {X W : Type 0} {a : Added X} (task number : ℕ) (request : Request) (o
       connect_there =
           subst (λ (b : Body X). task < length b.slots.items) (sym beside) (slot_there task old (going_of task request old possible))
 
-      pub connect_stands : (last : Body X) → Suspends task begun.1 new.parts last.parts → last ≡ record new { parts = last.parts; slots = last.slots }
-          → last.slots.items ≡ standing_at task (code.Connecting begun.0) new.slots.items
+      rests : (last : Body X) → Suspends task begun.1 new.parts last.parts → last ≡ record new { parts = last.parts; slots = last.slots }
+          → last.slots.items ≡ standing_at task (code.Connecting begun.0 begun.1) new.slots.items
           → Comes o (serving a task request old last) (ported wire old.events) (ported after last.events) (Ok said.Rests)
-      connect_stands last suspends same items =
+      rests last suspends same items =
           serving_stands task request old o possible new wire after (connect number) (connects_as task) means BegunWaits it call keeping beside last
-          begun.1 last.parts (code.Connecting begun.0) (state.Connecting begun.0) same items connect_there (λ t p named. refl) suspends made_it
+          begun.1 last.parts (code.Connecting begun.0 begun.1) (state.Connecting begun.0) same items connect_there alone suspends made_it
           (λ t. ap (λ k. connects_as task k t) is)
+
+      -- or memory is refused after it
+      pub connect_stands : (last : Body X) (result : Result RequestReply Memory) → IfOk result (λ it_. it_ ≡ said.Rests)
+          → Suspends task begun.1 new.parts last.parts → last ≡ record new { parts = last.parts; slots = last.slots }
+          → OnOk result (last.slots.items ≡ standing_at task (code.Connecting begun.0 begun.1) new.slots.items)
+          → Comes o (serving a task request old last) (ported wire old.events) (ported after last.events) (or_stop result)
+      connect_stands last (Ok reply_) answer suspends same items =
+          subst (λ r. Comes o (serving a task request old last) (ported wire old.events) (ported after last.events) (Ok r)) (sym answer)
+          (rests last suspends same items)
+      connect_stands last (Err memory) answer suspends same items =
+          serving_starves task request old o possible new wire after (connect number) (connects_as task) means BegunWaits it call keeping beside last
+          (connects_add task it)

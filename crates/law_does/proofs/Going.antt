@@ -115,6 +115,7 @@ module _ {X W A M R : Type 0} {a : Added X} (p : Piece a (State a.Kept) M R) (ca
       pending = pends;
       waiting = λ task on v was it_.
           stands_waiting out c old new s it.way (ends it.it) h.stands h.owns ended it.so.0 it.parts it.events beside task on v was.0 it_;
+      alone = alone;
     }
       where
         h : MayCall out (before (had_on it.way) c) old s
@@ -143,6 +144,34 @@ module _ {X W A M R : Type 0} {a : Added X} (p : Piece a (State a.Kept) M R) (ca
 
         on : Stands out c new (with_streams (ends it.it) t)
         on = stands_passed out c old new s it.way (ends it.it) h.stands h.owns ended it.so.0 it.parts it.events beside
+
+        alone : (task on_ : ℕ) → IsMade (next_future s.loop.parts) (next_future t.loop.parts) on_ → times_asked on_ (ends it.it) ≡ 0 → AreMade s
+            → IsOwnSleep (suspend task on_ t.loop.parts).parts (named_in a (waits task on_ (with_streams (ends it.it) t))) (Some task) on_
+        alone task on_ was none were = record {
+          plain = (leaves_suspend task on_ t.loop.parts).plain on_ (came.0.made on_ was.0 was.1).0;
+          unnamed = unnamed;
+          alone = λ other e. at other (leaves.waits other on_ e);
+        }
+          where
+            leaves : Leaves (Some (task, on_)) s.loop.parts (suspend task on_ t.loop.parts).parts
+            leaves =
+                leaves_on (Some (task, on_)) s.loop.parts t.loop.parts (suspend task on_ t.loop.parts).parts (tree_leaves s t came.0 h.owns)
+                (leaves_suspend task on_ t.loop.parts)
+
+            past : on_ < next_future s.loop.parts → ⊥
+            past within = let from = was.0 in omega (arith, within, from)
+
+            unnamed : named_in a (waits task on_ (with_streams (ends it.it) t)) on_ → ⊥
+            unnamed (inl found) =
+                past ((plain_within s.loop.parts on_
+                (were.scripts found.0 on_ (ap (λ (xs : List ℕ). slice_get xs found.0) (sym came.0.futures) ∙ found.1))).1)
+            unnamed (inr (inl mine)) =
+                past (a.made h.stands.ties s.loop.parts old.extra s.extra h.stands.extra on_ (subst (λ x. a.owns x on_) came.0.extra mine))
+            unnamed (inr (inr asked)) = omega (arith, none, asked)
+
+            at : (other : ℕ) → (waiter_of s.loop.parts other ≡ Some on_) ⊎ IsNew (Some (task, on_)) other on_ → Some task ≡ Some other
+            at other (inl e) = absurd (past (were.waiting other on_ e))
+            at other (inr new_) = ap Some (sym new_.0)
 
         pends : (on_ : ℕ) → IsMade (next_future s.loop.parts) (next_future t.loop.parts) on_
             → is_pending_at (slice_get new.parts.futures on_) ≡ true

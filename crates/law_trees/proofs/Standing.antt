@@ -29,7 +29,8 @@ use Rattle.model_stream.specs.Sending.{set_eof}
 use Rattle.model_stream.specs.Kept.{OneIs}
 use Rattle.law_trees.specs.Trees.{DrainWaits, ExitWaits, IsKnown, IsMade, IsOwn, Keeping}
 use Rattle.law_trees.proofs.Composing.{all_then, keeping_if, keeping_settles, keeping_then, made_first}
-use Rattle.law_trees.proofs.Fits.{ChildFits, ConnectionFits, Limits, ReceiverFits, SenderFits, both_grown, child_still, connection_still, grown, made_next, now_receiver}
+use Rattle.law_trees.proofs.Fits.{ChildFits, ConnectionFits, Limits, ReceiverFits, SenderFits, both_grown, child_still, connection_still, grown, made_next}
+use Rattle.law_trees.proofs.Fits.{now_receiver}
 use Rattle.law_trees.proofs.Fits.{now_sender, receiver_now, sender_now, sender_still, times_push}
 use Rattle.law_trees.proofs.Reading.{receive_end_keeps, receive_keeps, receive_loss_keeps}
 use Rattle.law_trees.proofs.Sending.{close_keeps, drain_keeps, fail_keeps, inlet_is, limits_keeps, lose_keeps, outlet_is, schedule_keeps}
