@@ -1,11 +1,15 @@
 -- A call of streams that does a tree, as a piece of what the machine does: the machine goes on with its result from a state that
 -- is stood for, or ends the run there.
-use Rattle.std.proofs.Common.{◌≡◌, ℕ, true, List, [], ◌++◌, Option, length, slice_get, Ok, Err, ◌∙◌, refl, sym, ap, subst}
+use Rattle.std.proofs.Common.{◌≡◌, ℕ, ◌<◌, ◌⊎◌, true, List, [], ◌++◌, Option, Some, length, slice_get, Ok, Err, ◌∙◌, refl, sym, ap, subst, inl, inr, arith}
 use Rattle.model_loop.specs.Futures.{is_pending_at, next_future}
 use Rattle.model_loop.specs.Owning.{is_plain}
+use Rattle.model_loop.specs.Suspend.{suspend}
+use Rattle.model_loop.specs.Tasks.{waiter_of}
 use Rattle.model_stream.specs.Doing.{Doing, Ends}
+use Rattle.model_stream.specs.Kept.{times_asked}
 use Rattle.model_stream.specs.Streams.{Streams}
 use Rattle.model_machine.specs.Does.{does}
+use Rattle.model_machine.specs.Replies.{waits}
 use Rattle.model_machine.specs.Sound.{AreStreamsFutures}
 use Rattle.model_machine.specs.State.{State, with_streams}
 use Rattle.aio_wire.specs.Outside.{Outside}
@@ -23,10 +27,10 @@ use Rattle.aio_task.specs.View.{View}
 use Rattle.aio_change.specs.Seen.{seen_changed}
 use Rattle.aio_transports.specs.Kept.{Kept as Transports}
 use Rattle.aio_transports.specs.Standing.{StandsFor as AreTransports}
-use Rattle.aio_extra.specs.Added.{Added}
+use Rattle.aio_extra.specs.Added.{Added, named_in}
 use Rattle.aio_body.specs.declared.body.Body.{Body}
 use Rattle.aio_body.specs.Asking.{Comes, Piece, before}
-use Rattle.aio_body.specs.Stands.{Setting, Stands}
+use Rattle.aio_body.specs.Stands.{IsOwnSleep, Setting, Stands}
 use Rattle.aio_body.proofs.Asking.{HasCome}
 use Rattle.law_ways.specs.Along.{along}
 use Rattle.law_ways.specs.Beside.{StaysBeside}
@@ -35,7 +39,11 @@ use Rattle.law_ways.proofs.Keeping.{way_beside}
 use Rattle.law_does.specs.Alike.{AddsEvents, AreAlike, ForgetsWritten, LeavesState}
 use Rattle.law_does.specs.Passed.{Begins, Call, Passed}
 use Rattle.law_does.specs.Streams.{HasStreams, streams_of}
-use Rattle.law_does.specs.Went.{HasGone, MayCall}
+use Rattle.law_does.specs.Went.{AreMade, HasGone, MayCall}
+use Rattle.law_settling.proofs.CancelSound.{plain_within}
+use Rattle.law_body.proofs.Leaving.{IsNew, Leaves, leaves_on}
+use Rattle.law_body.proofs.Left.{leaves_suspend}
+use Rattle.law_does.proofs.Leaving.{tree_leaves}
 use Rattle.law_does.proofs.Calling.{call_goes, call_stops}
 use Rattle.law_does.proofs.Standing.{stands_passed, stands_waiting}
 
