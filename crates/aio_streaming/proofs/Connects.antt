@@ -223,11 +223,13 @@ module _ {X W : Type 0} {a : Added X} (task number : ℕ) (request : Request) (o
           → (g : HasGone (Some task) (λ first now. BegunWaits (IsMade first now) it) (reply a.meaning task request s) (connects_as task it) c old new s)
           → (t : Ties) → StandsAt t (waits task begun.1 g.now).loop.parts (named_in a (waits task begun.1 g.now)) task
           (code.Connecting begun.0 begun.1) (state.Connecting begun.0)
-      alone c d s from g t =
-          (refl, g.alone task begun.1 (made_it _ _ g.made) (none d s from g.now.streams g.stands.transports) (record {
-            scripts = plain_named a.meaning task s from.going.sound;
-            waiting = from.going.sound.others.loop.parts.waits_made;
-          }))
+      alone c d s from g t = (
+        refl,
+        g.alone task begun.1 (made_it _ _ g.made) (none d s from g.now.streams g.stands.transports) (record {
+          scripts = plain_named a.meaning task s from.going.sound;
+          waiting = from.going.sound.others.loop.parts.waits_made;
+        }),
+      )
 
       rests : (last : Body X) → Suspends task begun.1 new.parts last.parts → last ≡ record new { parts = last.parts; slots = last.slots }
           → last.slots.items ≡ standing_at task (code.Connecting begun.0 begun.1) new.slots.items

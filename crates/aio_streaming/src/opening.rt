@@ -17,9 +17,7 @@ ghost use Rattle.aio_streaming.specs.Answered.{AnsweredAs, listened_as};
 ghost use Rattle.aio_streaming.specs.Ports.{port_in};
 
 use aio_base::{Kind, Memory, Value};
-use aio_body::{
-    Body, RequestReply, Standing, as_int, bad_argument, or_stop, out_of_range, raises,
-};
+use aio_body::{Body, RequestReply, Standing, as_int, bad_argument, or_stop, out_of_range, raises};
 use aio_extra::Extra;
 use aio_listener::Connecting;
 use aio_wire::{Port, Stop, Wire};
@@ -156,7 +154,7 @@ fn waits<X: Extra>(
     } }
     ensures slots { OnOk result (body.new.slots.items
         ≡ standing_at task (Standing.Connecting connecting.0 connecting.1)
-            body.old.slots.items) }
+        body.old.slots.items) }
 {
     let conn = connecting.conn();
     let future = connecting.on();
