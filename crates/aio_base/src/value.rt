@@ -387,7 +387,11 @@ fn push_copies(items: &mut Vec<Value>, from: &[Value]) -> Result<(), AllocError>
     ensures { OnOk result (items.new.items ≡ items.old.items ++ from.now) }
 {
     for item in from {
-        items.push(item.clone()?)?;
+        match &item.node {
+            // a number is copied at once
+            ValueNode::Int(number) => items.push(Value::int(*number))?,
+            _ => items.push(item.clone()?)?,
+        }
     }
     Ok(())
 }
