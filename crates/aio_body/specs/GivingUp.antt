@@ -1,4 +1,5 @@
--- What giving up a sleep leaves of the parts: its timer is cancelled, and its future is let go if it is done.
+-- What giving up a sleep or a connect leaves of the parts: the timer of a sleep is cancelled, and the future is let go if it is
+-- done.
 use Rattle.std.specs.Prelude.{◌≡◌, ℕ, Bool, true, false, None, length, is_some, nat_lt, slice_get, slice_set, if◌then◌else◌}
 use Rattle.model_loop.specs.Futures.{outcome_at}
 use Rattle.model_loop.specs.Owning.{owner_at}
@@ -24,24 +25,27 @@ abbrev pub let_go_if : Bool → ℕ → View → View
 let_go_if true id v = let_go_of id v
 let_go_if false id v = v
 
+abbrev pub let_go_done : ℕ → View → View
+let_go_done future v = let_go_if (is_some (outcome_at (slice_get v.futures future))) future v
+
 abbrev pub given_up_in : Standing → View → View
 given_up_in Asked v = v
 given_up_in (Sleeping timer future) v =
     let_go_if (is_some (outcome_at (slice_get v.futures future))) future (timer_cancelled timer v)
 given_up_in (Leaving group) v = v
 given_up_in (Serving key) v = v
-given_up_in (Connecting conn) v = v
+given_up_in (Connecting conn future) v = let_go_done future v
 given_up_in (Yielding whom) v = v
 given_up_in (Reading from op on) v = v
 given_up_in (ReadingAll from taken on) v = v
 
--- the future of a sleep is no task's
+-- the future of a sleep or of a connect is no task's
 abbrev pub IsNoTasks : Standing → View → Type 0
 IsNoTasks Asked v = Unit {0}
 IsNoTasks (Sleeping timer future) v = owner_at (slice_get v.futures future) ≡ None
 IsNoTasks (Leaving group) v = Unit {0}
 IsNoTasks (Serving key) v = Unit {0}
-IsNoTasks (Connecting conn) v = Unit {0}
+IsNoTasks (Connecting conn future) v = owner_at (slice_get v.futures future) ≡ None
 IsNoTasks (Yielding whom) v = Unit {0}
 IsNoTasks (Reading from op on) v = Unit {0}
 IsNoTasks (ReadingAll from taken on) v = Unit {0}

@@ -7,12 +7,11 @@ use Rattle.aio_body.specs.declared.held.Room.{Room}
 use Rattle.aio_body.specs.declared.held.Room.TheVariants as room
 use Rattle.aio_body.specs.declared.standing.Slot.{Slot}
 use Rattle.aio_body.specs.declared.standing.Standing.{Standing}
-use Rattle.aio_body.specs.declared.standing.Standing.TheVariants.{Asked, Leaving, Connecting, Yielding}
+use Rattle.aio_body.specs.declared.standing.Standing.TheVariants.{Asked, Leaving, Yielding}
 
 abbrev pub standing_in : Kind → ℕ → Standing
 standing_in kind.Asked number = Asked
 standing_in kind.Leaving number = Leaving number
-standing_in kind.Connecting number = Connecting number
 standing_in kind.YieldingConn number = Yielding (to.Conn number)
 standing_in kind.YieldingChild number = Yielding (to.Child number)
 

@@ -2,9 +2,8 @@
 use Rattle.aio_body.specs.declared.standing.Near.{Near}
 use Rattle.aio_body.specs.declared.standing.Near.TheVariants as near
 use Rattle.aio_body.specs.declared.standing.Standing.{Standing}
-use Rattle.aio_body.specs.declared.standing.Standing.TheVariants.{Leaving, Connecting, Yielding}
+use Rattle.aio_body.specs.declared.standing.Standing.TheVariants.{Leaving, Yielding}
 
 abbrev pub standing_of : Near → Standing
 standing_of (near.Leaving group) = Leaving group
-standing_of (near.Connecting conn) = Connecting conn
 standing_of (near.Yielding whom) = Yielding whom

@@ -35,8 +35,9 @@ use Rattle.aio_body.specs.declared.standing.Standing.TheVariants.{Asked, Sleepin
 abbrev pub profile_of : Program → ℕ
 profile_of program = min program.profile (2 ^ 8 - 1)
 
--- The future of a sleep, which nobody else waits for: no script names it, it is no own one of what is added, and no connection
--- and no child keeps it. `sleeper` is the task that sleeps, if it does still.
+-- The future of a sleep or of a connect, which nobody else waits for: no script names it, it is no own one of what is added, and
+-- no connection and no child keeps it, but for one that is being made by the connect. `sleeper` is the task that waits, if it
+-- does still.
 pub record IsOwnSleep (p : Parts) (named : ℕ → Type 0) (sleeper : Option ℕ) (id : ℕ) : Type 0 where
   pub plain : is_plain p id ≡ true
   pub unnamed : named id → ⊥
@@ -49,7 +50,7 @@ StandsAt ties p named task (Sleeping timer future) (plain.Sleeping tag) =
     Knows ties p tag (ByTimer timer) × IsOwnSleep p named (Some task) future
 StandsAt ties p named task (Leaving group) (plain.Leaving id) = group ≡ id
 StandsAt ties p named task (Serving key) (plain.Serving kept) = key ≡ kept
-StandsAt ties p named task (Connecting conn) (plain.Connecting id) = conn ≡ id
+StandsAt ties p named task (Connecting conn future) (plain.Connecting id) = (conn ≡ id) × IsOwnSleep p named (Some task) future
 StandsAt ties p named task (Yielding whom) (plain.Yielding drained) = whom ≡ drained
 StandsAt ties p named task (Reading from op on) (plain.Reading source asked future) =
     (reader_as from ≡ source) × (op ≡ asked) × (on ≡ future)
@@ -112,7 +113,7 @@ pub record Stands {X : Type 0} {a : Added X} (out : Option ℕ) (c : Setting a) 
   pub told : length s.generators ≡ next_task s.loop.parts
   pub few : length body.slots.items < 2 ^ 32
   pub held : (task : ℕ) → lives s.loop.parts task ≡ true → HasSlot a out c.coroutine ties body.code body.slots.items s task
-  -- what was let go was the future of a sleep that is over
+  -- what was let go was the future of a sleep or of a connect that is over
   pub gone : (id : ℕ) → ties.gone id ≡ true → IsOwnSleep s.loop.parts (named_in a s) None id
   pub futures : body.futures.items ≡ s.futures
   pub few_futures : length s.futures < 2 ^ 32

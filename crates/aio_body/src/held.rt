@@ -17,7 +17,6 @@ use std::mem;
 enum Kind {
     Asked,
     Leaving,
-    Connecting,
     YieldingConn,
     YieldingChild,
 }
@@ -71,10 +70,6 @@ fn brief_of(near: Near) -> Brief
             kind: Kind::Leaving,
             number,
         },
-        Near::Connecting(number) => Brief {
-            kind: Kind::Connecting,
-            number,
-        },
         Near::Yielding(Handed::Conn(number)) => Brief {
             kind: Kind::YieldingConn,
             number,
@@ -92,7 +87,6 @@ fn standing_at(kind: Kind, number: u32) -> Standing
     match kind {
         Kind::Asked => Standing::Asked,
         Kind::Leaving => Standing::Leaving(number),
-        Kind::Connecting => Standing::Connecting(number),
         Kind::YieldingConn => Standing::Yielding(Handed::Conn(number)),
         Kind::YieldingChild => Standing::Yielding(Handed::Child(number)),
     }

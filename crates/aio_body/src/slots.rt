@@ -1,6 +1,7 @@
 //! What tasks run and stand at.
 ghost use Rattle.std.specs.Prelude.{◌≡◌, ◌<◌, None, Some, IfOk, OnOk, length, slice_get, slice_set};
-ghost use Rattle.aio_body.specs.GivingUp.{IsNoTasks, given_up_in};
+ghost use Rattle.model_loop.specs.Owning.{owner_at};
+ghost use Rattle.aio_body.specs.GivingUp.{IsNoTasks, given_up_in, let_go_done};
 ghost use Rattle.aio_body.specs.Near.{standing_of};
 ghost use Rattle.aio_body.specs.Slots.{HoldsMore, no_slot, put_back, standing_at};
 
@@ -9,6 +10,7 @@ use crate::held::HeldSlot;
 use crate::standing::{Near, Slot, Standing};
 use aio_base::{Memory, Value, ValueList};
 use aio_gen::Gen;
+use aio_task::FutureId;
 use std::alloc::Global;
 
 impl<X> Body<X> {
@@ -71,7 +73,8 @@ impl<X> Body<X> {
         slot.stand_far(alloc, standing)
     }
 
-    /// The timer of a sleep is given up as its task is resumed, and its future is let go.
+    /// The timer of a sleep is given up as its task is resumed, and the future of a sleep or of a
+    /// connect is let go.
     pub fn give_up(&mut self, standing: &Standing)
         requires idle { self.old.parts.called ≡ None }
         requires no_task { IsNoTasks standing.now self.old.parts }
@@ -81,13 +84,11 @@ impl<X> Body<X> {
             Standing::Asked => {}
             Standing::Sleeping { timer, future } => {
                 self.parts.cancel_timer(*timer);
-                if self.parts.outcome(*future).is_some() {
-                    self.parts.release(*future);
-                }
+                self.let_go(*future);
             }
             Standing::Leaving(_) => {}
             Standing::Serving(_) => {}
-            Standing::Connecting(_) => {}
+            Standing::Connecting { conn: _, future } => self.let_go(*future),
             Standing::Yielding(_) => {}
             Standing::Reading {
                 from: _,
@@ -99,6 +100,17 @@ impl<X> Body<X> {
                 taken: _,
                 on: _,
             } => {}
+        }
+    }
+
+    // A future that nobody else asks for, if it is done.
+    fn let_go(&mut self, future: FutureId)
+        requires idle { self.old.parts.called ≡ None }
+        requires no_task { owner_at (slice_get self.old.parts.futures future) ≡ None }
+        ensures { self.new ≡ record self.old { parts = let_go_done future self.old.parts } }
+    {
+        if self.parts.outcome(future).is_some() {
+            self.parts.release(future);
         }
     }
 }

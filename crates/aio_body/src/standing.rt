@@ -20,8 +20,11 @@ pub enum Standing {
     Leaving(u32),
     /// A request that was added to the loop's own and waits, under its key.
     Serving(u64),
-    /// A connect, whose connection is being made.
-    Connecting(u32),
+    /// A connect, whose connection is being made, with the future that ends with it.
+    Connecting {
+        conn: u32,
+        future: FutureId,
+    },
     /// The bare `yield` of a drain.
     Yielding(Handed),
     /// A read that waits for data, on this future.
@@ -43,8 +46,6 @@ pub enum Standing {
 pub enum Near {
     /// The exit of a group, which waits for the tasks that are left.
     Leaving(u32),
-    /// A connect, whose connection is being made.
-    Connecting(u32),
     /// The bare `yield` of a drain.
     Yielding(Handed),
 }

@@ -3,7 +3,7 @@ use Rattle.std.specs.Prelude.{◌≡◌, ℕ, ◌<◌, ◌≤◌, ◌⊎◌, tru
 use Rattle.model_loop.specs.Futures.{next_future}
 use Rattle.model_loop.specs.Owning.{is_plain, owner_of}
 use Rattle.model_loop.specs.Parts.{Parts}
-use Rattle.model_stream.specs.Kept.{times_kept}
+use Rattle.model_stream.specs.Kept.{times_asked}
 use Rattle.model_machine.specs.Extra.{Extra, WakesFall}
 use Rattle.model_machine.specs.State.{State}
 use Rattle.law_extras.specs.Allowed.{MakesAllowedSteps}
@@ -43,9 +43,9 @@ pub record Added (X : Type 0) : Type 1 where
 abbrev pub IsNamed : (named : List ℕ) → (owned : ℕ → Type 0) → ℕ → Type 0
 IsNamed named owned id = ((place : ℕ) × (slice_get named place ≡ Some id)) ⊎ owned id
 
--- it is the own one of what is added, or a connection or a child keeps it
+-- it is the own one of what is added, or a connection or a child keeps it, but for what its connect waits on
 abbrev pub owned_in : {X : Type 0} → (a : Added X) → State a.Kept → ℕ → Type 0
-owned_in a s id = a.owns s.extra id ⊎ (0 < times_kept id s.streams)
+owned_in a s id = a.owns s.extra id ⊎ (0 < times_asked id s.streams)
 
 -- which futures of a state are named so
 abbrev pub named_in : {X : Type 0} → (a : Added X) → State a.Kept → ℕ → Type 0

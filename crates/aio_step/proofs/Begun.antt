@@ -97,7 +97,7 @@ given_calls Asked v = refl
 given_calls (Sleeping timer future) v = let_go_calls (is_some (outcome_at (slice_get v.futures future))) future (timer_cancelled timer v)
 given_calls (Leaving group) v = refl
 given_calls (Serving key) v = refl
-given_calls (Connecting conn) v = refl
+given_calls (Connecting conn future) v = let_go_calls (is_some (outcome_at (slice_get v.futures future))) future v
 given_calls (Yielding whom) v = refl
 given_calls (Reading from op on) v = refl
 given_calls (ReadingAll from taken on) v = refl
@@ -107,7 +107,7 @@ given_runs Asked v = refl
 given_runs (Sleeping timer future) v = let_go_runs (is_some (outcome_at (slice_get v.futures future))) future (timer_cancelled timer v)
 given_runs (Leaving group) v = refl
 given_runs (Serving key) v = refl
-given_runs (Connecting conn) v = refl
+given_runs (Connecting conn future) v = let_go_runs (is_some (outcome_at (slice_get v.futures future))) future v
 given_runs (Yielding whom) v = refl
 given_runs (Reading from op on) v = refl
 given_runs (ReadingAll from taken on) v = refl
@@ -116,6 +116,7 @@ given_runs (ReadingAll from taken on) v = refl
 pub stood_decides : (t : Ties) (p : Parts) (named : ℕ → Type 0) (task : ℕ) (code : Standing) (standing : plain.Standing)
     → StandsAt t p named task code standing → DecidesAs code standing
 stood_decides t p named task (Sleeping timer future) (plain.Sleeping tag) at = tt
+stood_decides t p named task (Connecting conn future) (plain.Connecting id) at = at.0
 stood_decides t p named task _ _ at = at
 
 module _ {X : Type 0} {a : Added X} (task : ℕ) (input : Input) (c : Setting a) (body : Body X) (s : State a.Kept) (h : IsCalled task c body s)

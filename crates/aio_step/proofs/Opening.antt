@@ -70,7 +70,6 @@ module _ {X : Type 0} {a : Added X} where
   gives_up c body s task Asked plain.Asked h owns at none = h
   gives_up c body s task (Leaving group) (plain.Leaving id) h owns at none = h
   gives_up c body s task (Serving key) (plain.Serving kept) h owns at none = h
-  gives_up c body s task (Connecting conn) (plain.Connecting id) h owns at none = h
   gives_up c body s task (Yielding whom) (plain.Yielding drained) h owns at none = h
   gives_up c body s task (Reading from op on) (plain.Reading source asked future) h owns at none = h
   gives_up c body s task (ReadingAll from taken on) (plain.ReadingAll source had future) h owns at none = h
@@ -95,4 +94,12 @@ module _ {X : Type 0} {a : Added X} where
           stands_released None c (record body { parts = cancelled }) (unbooked_in (revoke tag) s) task future revoked owns
           (own_on None p (revoke tag p) (named_in a s) (Some task) future (leaves_revoke tag p) (spares_none p (named_in a s)) at.1) none
           (sym (pending_kept h.ties body.parts p h.keeps future) ∙ done_at (slice_get body.parts.futures future) e)
+  gives_up c body s task (Connecting conn future) (plain.Connecting id) h owns at none = go (is_some (outcome_at (slice_get body.parts.futures future))) refl
+    where
+      go : (b : Bool) → is_some (outcome_at (slice_get body.parts.futures future)) ≡ b
+          → Stands None c (record body { parts = let_go_if b future body.parts }) s
+      go false e = h
+      go true e =
+          stands_released None c body s task future h owns at.1 none
+          (sym (pending_kept h.ties body.parts s.loop.parts h.keeps future) ∙ done_at (slice_get body.parts.futures future) e)
   gives_up c body s task _ _ h owns at none = absurd at

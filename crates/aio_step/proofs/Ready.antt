@@ -49,6 +49,28 @@ module _ {X : Type 0} {a : Added X} (task : ℕ) (body : Body X) (may : Possible
   at_sleep t p named timer future v k (plain.Reading from op on) at = absurd at
   at_sleep t p named timer future v k (plain.ReadingAll from had on) at = absurd at
 
+  -- nor is that of a connect
+  at_connect : (t : Ties) (p : Parts) (named : ℕ → Type 0) (conn future : ℕ) (v : View) → Keeps t v p → (standing : plain.Standing)
+      → StandsAt t p named task (Connecting conn future) standing → owner_at (slice_get v.futures future) ≡ None
+  at_connect t p named conn future v k (plain.Connecting id) at = owner_kept t v p k future (plain_within p future at.1.plain).0
+  at_connect t p named conn future v k plain.Asked at = absurd at
+  at_connect t p named conn future v k (plain.Sleeping tag) at = absurd at
+  at_connect t p named conn future v k (plain.Leaving id) at = absurd at
+  at_connect t p named conn future v k (plain.Serving key) at = absurd at
+  at_connect t p named conn future v k (plain.Yielding whom) at = absurd at
+  at_connect t p named conn future v k (plain.Reading from op on) at = absurd at
+  at_connect t p named conn future v k (plain.ReadingAll from had on) at = absurd at
+
+  of_connect : (conn future : ℕ) (slot : Slot) → slot.standing ≡ Connecting conn future → slice_get body.slots.items task ≡ Some slot
+      → owner_at (slice_get body.parts.futures future) ≡ None
+  of_connect conn future slot e there =
+      ∥∥₁_elim may (same_prop (owner_at (slice_get body.parts.futures future)) None) (λ w.
+      let h : IsCalled task w.0 body w.1.0 = w.1.1 in
+      let has = own_slot task w.0 body w.1.0 h in
+      at_connect h.stands.ties w.1.0.loop.parts (named_in a w.1.0) conn future body.parts h.stands.keeps (generator_of task w.1.0).standing
+      (subst (λ x. StandsAt h.stands.ties w.1.0.loop.parts (named_in a w.1.0) task x (generator_of task w.1.0).standing)
+      (sym (ap (λ (x : Slot). x.standing) (called_own task w.0 body w.1.0 h slot there)) ∙ e) has.right.standing))
+
   of_sleep : (timer : TimerId) (future : ℕ) (slot : Slot) → slot.standing ≡ Sleeping timer future → slice_get body.slots.items task ≡ Some slot
       → owner_at (slice_get body.parts.futures future) ≡ None
   of_sleep timer future slot e there =
@@ -67,11 +89,11 @@ module _ {X : Type 0} {a : Added X} (task : ℕ) (body : Body X) (may : Possible
       at Asked e = tt
       at (Leaving group) e = tt
       at (Serving key) e = tt
-      at (Connecting conn) e = tt
       at (Yielding whom) e = tt
       at (Reading from op on) e = tt
       at (ReadingAll from taken on) e = tt
       at (Sleeping timer future) e = ap (λ fs. owner_at (slice_get fs future)) same ∙ of_sleep timer future slot e there
+      at (Connecting conn future) e = ap (λ fs. owner_at (slice_get fs future)) same ∙ of_connect conn future slot e there
 
   -- there is a coroutine
   pub begin_held : (slot : Slot) → slice_get body.slots.items task ≡ Some slot → slot.coroutine ≡ None → ⊥

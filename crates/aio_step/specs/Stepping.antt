@@ -69,7 +69,7 @@ DecidesAs standing.Asked plain.Asked = Unit {0}
 DecidesAs (standing.Sleeping timer future) (plain.Sleeping tag) = Unit {0}
 DecidesAs (standing.Leaving group) (plain.Leaving id) = group ≡ id
 DecidesAs (standing.Serving key) (plain.Serving kept) = key ≡ kept
-DecidesAs (standing.Connecting conn) (plain.Connecting id) = conn ≡ id
+DecidesAs (standing.Connecting conn future) (plain.Connecting id) = conn ≡ id
 DecidesAs (standing.Yielding whom) (plain.Yielding drained) = whom ≡ drained
 DecidesAs (standing.Reading from op on) (plain.Reading source asked future) =
     (reader_as from ≡ source) × (op ≡ asked) × (on ≡ future)

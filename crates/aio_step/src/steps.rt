@@ -125,7 +125,9 @@ fn decide<W: Wire, X: Extra>(
         } => Ok(reply_of(input)),
         Standing::Leaving(group) => or_stop(leave_group(body, alloc, task, group, input)),
         Standing::Serving(key) => wake(body, alloc, wire, task, key, input),
-        Standing::Connecting(conn) => connected(body, alloc, wire, task, conn, input),
+        Standing::Connecting { conn, future: _ } => {
+            connected(body, alloc, wire, task, conn, input)
+        }
         Standing::Yielding(whom) => or_stop(yielded(body, alloc, task, whom, input)),
         Standing::Reading { from, op, on } => {
             or_stop(read_on(body, alloc, task, from, op, on, input))

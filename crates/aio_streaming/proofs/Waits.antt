@@ -19,7 +19,7 @@ use Rattle.model_loop.specs.Parts.{Future, Plain}
 use Rattle.model_loop.specs.Suspend.{suspend}
 use Rattle.model_stream.specs.Children.{Child}
 use Rattle.model_stream.specs.Connections.{Connection}
-use Rattle.model_stream.specs.Kept.{child_times, connection_times, one_time, sender_times, times_kept}
+use Rattle.model_stream.specs.Kept.{child_times, connection_asked, one_time, sender_times, times_asked}
 use Rattle.model_stream.specs.Requests.{closed_future}
 use Rattle.model_stream.specs.Senders.{Sender}
 use Rattle.model_stream.specs.Streams.{Streams}
@@ -37,7 +37,7 @@ use Rattle.aio_body.specs.declared.reply.RequestReply.TheVariants as said
 use Rattle.aio_body.specs.Asked.{IsAskingFor, IsInStep, Says}
 use Rattle.aio_body.specs.Outcomes.{RepliesAs, reply_of}
 use Rattle.aio_body.specs.Stands.{Possible, Setting}
-use Rattle.law_body.proofs.Asleep.{kept_within}
+use Rattle.law_body.proofs.Asleep.{asked_within}
 use Rattle.law_body.proofs.May.{same_prop}
 use Rattle.law_body.proofs.Rooms.{waits_so}
 use Rattle.law_body.proofs.Telling.{kept_stays, named_spares}
@@ -60,22 +60,22 @@ among : {A : Type 0} (w : A → ℕ) (xs : List A) (id : ℕ) (x : A) → slice_
 among w xs id x e =
     subst (λ y. w y ≤ sum_by w xs) (get_or_from_slice_get xs id x x e) (get_or-le-sum_by w xs id x (slice_get_within xs id x e))
 
-pub closed_kept : (whom : Handed) (s : Streams) (on : ℕ) → closed_future whom s ≡ Some on → 0 < times_kept on s
+pub closed_kept : (whom : Handed) (s : Streams) (on : ℕ) → closed_future whom s ≡ Some on → 0 < times_asked on s
 closed_kept (to.Conn id) s on e = at (slice_get s.connections id) refl e
   where
     at : (found : Option Connection) → slice_get s.connections id ≡ found
         → option_map (λ (sender : Sender). sender.closed_future) (option_map (λ (c : Connection). c.sender) found) ≡ Some on
-        → 0 < times_kept on s
+        → 0 < times_asked on s
     at None is none = absurd (cc)
     at (Some c) is same =
         let closed = closed_of on c.sender (some_is c.sender.closed_future on same) in
-        let all = among (connection_times on) s.connections id c is in
+        let all = among (connection_asked on) s.connections id c is in
         omega (arith, closed, all)
 closed_kept (to.Child id) s on e = at (slice_get s.children id) refl e
   where
     at : (found : Option Child) → slice_get s.children id ≡ found
         → option_map (λ (sender : Sender). sender.closed_future) (option_map (λ (p : Child). p.stdin) found) ≡ Some on
-        → 0 < times_kept on s
+        → 0 < times_asked on s
     at None is none = absurd (cc)
     at (Some p) is same =
         let closed = closed_of on p.stdin (some_is p.stdin.closed_future on same) in
@@ -93,7 +93,7 @@ pending_at xs on within none =
 module _ {X : Type 0} {a : Added X} (task on : ℕ) (body : Body X) where
   -- a request that was asked goes on in its step
   pub keeps_asked : (request : Request) (c : Setting a) (s : State a.Kept) → IsAskingFor task request c body s
-      → 0 < times_kept on s.streams
+      → 0 < times_asked on s.streams
       → KeepsFuture task on c body s
   keeps_asked request c s h kept = record {
     going = record { in_step = h.going.in_step; sound = h.going.sound.others.loop; streams = h.going.sound.others.streams };
@@ -122,7 +122,7 @@ module _ {X : Type 0} {a : Added X} (task on : ℕ) (body : Body X) where
         let h = w.1.1 in
         let stands = h.going.in_step.stands in
         pending_kept stands.ties body.parts s.loop.parts stands.keeps on
-        ∙ pending_at s.loop.parts.futures on (kept_within s h.going.streams on h.kept) (sym (outcome_is w.0 s h) ∙ none))
+        ∙ pending_at s.loop.parts.futures on (asked_within s h.going.streams on h.kept) (sym (outcome_is w.0 s h) ∙ none))
 
   -- what is done is told as it ended
   heard_so : (c : Setting a) (s : State a.Kept) (input : Input) → IsInStep task c body s

@@ -4,7 +4,7 @@ use Rattle.model_value.specs.declared.input.Input.TheVariants.{Send, Throw}
 use Rattle.model_value.specs.declared.kind.Kind.TheVariants.{ValueError}
 use Rattle.model_value.specs.Input.{Input}
 use Rattle.model_value.specs.Value.{Exc, Nothing, exception_of}
-use Rattle.model_stream.specs.Kept.{times_kept}
+use Rattle.model_stream.specs.Kept.{times_asked}
 use Rattle.model_stream.specs.declared.put.Limited.{Limited}
 use Rattle.model_stream.specs.declared.put.Limited.TheVariants as limited
 use Rattle.model_machine.specs.Replies.{awaits}
@@ -31,7 +31,7 @@ fault_in (Throw fault) = Some fault
 -- a step goes on, and this is a future that streams keep
 pub record KeepsFuture {X : Type 0} {a : Added X} (task on : ℕ) (c : Setting a) (body : Body X) (s : State a.Kept) : Type 0 where
   pub going : RunsOn task c body s
-  pub kept : 0 < times_kept on s.streams
+  pub kept : 0 < times_asked on s.streams
 
 -- A call comes to an await of a future that streams keep.
 abbrev pub AwaitsKept : {X : Type 0} → (a : Added X) → (task on : ℕ) → (old new : Body X) → Result RequestReply Memory → Type 0

@@ -1,5 +1,5 @@
 //! Requests that open listeners and connections.
-ghost use Rattle.std.specs.Prelude.{◌≡◌, ◌<◌, ◌^◌, IfOk, None, Some, length, slice_get, true};
+ghost use Rattle.std.specs.Prelude.{◌≡◌, ◌<◌, ◌^◌, IfOk, None, OnOk, Some, length, slice_get, true};
 ghost use Rattle.model_value.specs.declared.request.Request.TheVariants as request;
 ghost use Rattle.model_loop.specs.Futures.{is_pending_at};
 ghost use Rattle.model_stream.specs.Streams.{connect as plain_connect, listen as plain_listen};
@@ -17,9 +17,7 @@ ghost use Rattle.aio_streaming.specs.Answered.{AnsweredAs, listened_as};
 ghost use Rattle.aio_streaming.specs.Ports.{port_in};
 
 use aio_base::{Kind, Memory, Value};
-use aio_body::{
-    Body, Near, RequestReply, Standing, as_int, bad_argument, or_stop, out_of_range, raises,
-};
+use aio_body::{Body, RequestReply, Standing, as_int, bad_argument, or_stop, out_of_range, raises};
 use aio_extra::Extra;
 use aio_listener::Connecting;
 use aio_wire::{Port, Stop, Wire};
@@ -107,7 +105,7 @@ pub fn connect<W: Wire, X: Extra>(
         return or_stop(bad_port(alloc));
     };
     match begun(body, alloc, wire, number) {
-        Ok(Some(connecting)) => Ok(waits(body, task, connecting)),
+        Ok(Some(connecting)) => or_stop(waits(body, task, connecting)),
         Ok(None) => or_stop(raises(alloc, Kind::ConnectionRefusedError, "connect refused")),
         Err(stop) => Err(stop),
     }
@@ -139,23 +137,30 @@ fn begun<W: Wire, X: Extra>(
 }
 
 // The task waits till the connection stands.
-fn waits<X: Extra>(body: &mut Body<X>, task: u32, connecting: Connecting) -> RequestReply
+fn waits<X: Extra>(
+    body: &mut Body<X>,
+    task: u32,
+    connecting: Connecting,
+) -> Result<RequestReply, Memory>
     requires idle { body.old.parts.called ≡ None }
     requires running { body.old.parts.running ≡ Some task }
     requires pending { is_pending_at (slice_get body.old.parts.futures connecting.1) ≡ true }
     requires there { task < length body.old.slots.items }
-    ensures is { result ≡ RequestReply.Rests }
+    ensures is { IfOk result (λ said. said ≡ RequestReply.Rests) }
     ensures suspends { Suspends task connecting.1 body.old.parts body.new.parts }
     ensures beside { body.new ≡ record body.old {
       parts = body.new.parts;
       slots = body.new.slots;
     } }
-    ensures slots { body.new.slots.items
-        ≡ standing_at task (Standing.Connecting connecting.0) body.old.slots.items }
+    ensures slots { OnOk result (body.new.slots.items
+        ≡ standing_at task (Standing.Connecting connecting.0 connecting.1)
+        body.old.slots.items) }
 {
-    let _suspension = body.parts.suspend(task, connecting.on());
-    body.stand(task, Near::Connecting(connecting.conn()));
-    RequestReply::Rests
+    let conn = connecting.conn();
+    let future = connecting.on();
+    let _suspension = body.parts.suspend(task, future);
+    body.stand_far(task, Standing::Connecting { conn, future })?;
+    Ok(RequestReply::Rests)
 }
 
 // A port is a number from 1 to 65,535.

@@ -11,7 +11,7 @@ use Rattle.model_loop.specs.Owning.{OwnsFutures, is_plain}
 use Rattle.model_loop.specs.Parts.{Parts, Plain}
 use Rattle.model_loop.specs.Suspend.{suspend}
 use Rattle.model_loop.specs.Tasks.{next_task, waiter_of}
-use Rattle.model_stream.specs.Kept.{times_kept}
+use Rattle.model_stream.specs.Kept.{times_asked, times_kept}
 use Rattle.model_machine.specs.Replies.{alarmed, waits}
 use Rattle.model_machine.specs.Sound.{AreStreamsFutures}
 use Rattle.model_machine.specs.State as plain
@@ -22,7 +22,7 @@ use Rattle.law_handles.proofs.Scheduling as scheduling
 use Rattle.law_inside.proofs.Counts.{of_plain, own_there}
 use Rattle.law_kept.proofs.Calls.{kept_suspend}
 use Rattle.law_settling.proofs.CancelSound.{plain_within}
-use Rattle.law_trees.proofs.Fits.{kept_nowhere}
+use Rattle.law_trees.proofs.Fits.{asked_kept, kept_nowhere}
 use Rattle.aio_cancel.specs.Awaitables.{Appended}
 use Rattle.aio_timer.specs.declared.live.TimerId.{TimerId}
 use Rattle.aio_timer.specs.Schedule.{placed_after, timer}
@@ -139,6 +139,9 @@ kept_within s keep id kept = at (cases_lt id (next_future s.loop.parts))
         omega (arith, within, past)) s.streams keep in
         absurd (omega (arith, kept, nowhere))
 
+pub asked_within : {S : Type 0} (s : State S) → AreStreamsFutures s → (id : ℕ) → 0 < times_asked id s.streams → id < next_future s.loop.parts
+asked_within s keep id asked = kept_within s keep id (let most = asked_kept id s.streams in omega (arith, asked, most))
+
 module _ {X : Type 0} {a : Added X} where
   -- a sleep, up to what the task stands at
   pub sleeps_so : (task delay : ℕ) (c : Setting a) (old new : Body X) (s : State a.Kept) (v w : View) (id : TimerId) (future : ℕ)
@@ -219,7 +222,7 @@ module _ {X : Type 0} {a : Added X} where
       there : (it : ℕ) → named_in a s it → it < next_future p
       there it (inl found) = (plain_within p it (plains found.0 it found.1)).1
       there it (inr (inl own)) = a.made h.stands.ties p old.extra s.extra h.stands.extra it own
-      there it (inr (inr kept)) = kept_within s keep it kept
+      there it (inr (inr kept)) = asked_within s keep it kept
 
       at_it : Knows asleep.ties r p.next_tag (ByTimer id) × IsOwnSleep r (named_in a s) (Some task) future
       at_it = (knows, subst (IsOwnSleep r (named_in a s) (Some task)) (sym here) (own_sleep task delay p (named_in a s) there waiting leaves plain_on))

@@ -16,7 +16,7 @@ use Rattle.aio_group.specs.GoesOn.{GoesOn}
 use Rattle.aio_group.specs.Held.{Held}
 use Rattle.aio_body.specs.declared.body.Body.{Body}
 use Rattle.aio_body.specs.declared.standing.Standing.{Standing}
-use Rattle.aio_body.specs.declared.standing.Standing.TheVariants.{Sleeping}
+use Rattle.aio_body.specs.declared.standing.Standing.TheVariants.{Connecting, Sleeping}
 use Rattle.aio_body.specs.Stands.{AreBlocks, Setting, Stands, IsOwnSleep, StandsAt}
 use Rattle.law_body.proofs.Blocks.{blocks_on}
 use Rattle.law_body.proofs.Leaving.{IsNew, Leaves}
@@ -63,6 +63,7 @@ pub stands_at_by : (t u : Ties) (p q : Parts) (named names : ℕ → Type 0) (ta
     → ((id : ℕ) → IsOwnSleep p named (Some task) id → IsOwnSleep q names (Some task) id)
     → StandsAt t p named task code standing → StandsAt u q names task code standing
 stands_at_by t u p q named names task (Sleeping timer future) (plain.Sleeping tag) knows own h = (knows tag timer h.0, own future h.1)
+stands_at_by t u p q named names task (Connecting conn future) (plain.Connecting id) knows own h = (h.0, own future h.1)
 stands_at_by t u p q named names task _ _ knows own h = h
 
 -- what is added stands beside what an operation leaves

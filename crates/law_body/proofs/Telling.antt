@@ -6,7 +6,7 @@ use Rattle.model_value.specs.Value.{Value, Fut, Task as TaskId}
 use Rattle.model_loop.specs.Parts.{Parts, Task}
 use Rattle.model_loop.specs.Owning.{OwnsFutures, owner_of, own_future}
 use Rattle.model_loop.specs.Tasks.{future_of}
-use Rattle.model_stream.specs.Kept.{times_kept}
+use Rattle.model_stream.specs.Kept.{times_asked}
 use Rattle.model_machine.specs.Arguments.{as_future, as_awaited}
 use Rattle.model_machine.specs.State.{State}
 use Rattle.law_settling.proofs.CancelSound.{plain_within}
@@ -46,7 +46,7 @@ module _ {X : Type 0} {a : Added X} (out : Option ℕ) (c : Setting a) (body : B
   named_stays place id found = false_from_ne_true (h.ties.gone id) (λ e. (h.gone id e).unnamed (inl (place, found)))
 
   -- nor what a connection or a child keeps
-  pub kept_stays : (id : ℕ) → 0 < times_kept id s.streams → h.ties.gone id ≡ false
+  pub kept_stays : (id : ℕ) → 0 < times_asked id s.streams → h.ties.gone id ≡ false
   kept_stays id kept = false_from_ne_true (h.ties.gone id) (λ e. (h.gone id e).unnamed (inr (inr kept)))
 
   -- nor was a task's own future

@@ -74,18 +74,24 @@ callback_so action c d old new s h none Known machine next g = record {
 }
 
 -- ---- where a task's step ended
+-- What it stands at changes, to what stands so here.
+pub stands_at_it : {X : Type 0} {a : Added X} (task : ℕ) (c : Setting a) (old new : Body X) (s : State a.Kept) (code : Standing)
+    (standing : state.Standing) → (h : HasRested task c old s) → StandsAt h.stands.ties s.loop.parts (named_in a s) task code standing
+    → new ≡ record old { slots = new.slots } → new.slots.items ≡ standing_at task code old.slots.items → task < length old.slots.items
+    → HasRested task c new (stands standing task s)
+stands_at_it {X} {a} task c old new s code standing h at_it beside items within = record {
+  stands = stands_standing c old new s task code standing h.stands at_it beside items (subst (λ n. task < n) h.stands.made within);
+  called = ap (λ (b : Body X). b.parts.called) beside ∙ h.called;
+  running = ap (λ (b : Body X). b.parts.running) beside ∙ h.running;
+}
+
 -- What it stands at changes, to what stands so whatever the parts are.
 pub stands_so : {X : Type 0} {a : Added X} (task : ℕ) (c : Setting a) (old new : Body X) (s : State a.Kept) (code : Standing) (standing : state.Standing)
     → HasRested task c old s → ((t : Ties) (p : Parts) (named : ℕ → Type 0) → StandsAt t p named task code standing)
     → new ≡ record old { slots = new.slots } → new.slots.items ≡ standing_at task code old.slots.items → task < length old.slots.items
     → HasRested task c new (stands standing task s)
-stands_so {X} {a} task c old new s code standing h at_it beside items within = record {
-  stands =
-      stands_standing c old new s task code standing h.stands (at_it h.stands.ties s.loop.parts (named_in a s)) beside items
-      (subst (λ n. task < n) h.stands.made within);
-  called = ap (λ (b : Body X). b.parts.called) beside ∙ h.called;
-  running = ap (λ (b : Body X). b.parts.running) beside ∙ h.running;
-}
+stands_so {X} {a} task c old new s code standing h at_it beside items within =
+    stands_at_it task c old new s code standing h (at_it h.stands.ties s.loop.parts (named_in a s)) beside items within
 
 -- ---- a request of the task whose step goes on
 module _ {X : Type 0} {a : Added X} (task : ℕ) (c : Setting a) (old new : Body X) (s : State a.Kept) (h : IsInStep task c old s) where

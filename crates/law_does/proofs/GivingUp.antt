@@ -24,7 +24,7 @@ gives_up_so {X} {a} out c old new s on from h becomes beside = record {
       (streams_change out c old new.transports s (give_up_read on from s.streams) h.stands (becomes s.streams h.stands.transports).0
       (λ sleeper id own.
       fewer_kept s.loop.parts (next_future s.loop.parts) s.streams (give_up_read on from s.streams)
-      (gives_up (is_plain s.loop.parts) (next_future s.loop.parts) on from s.streams h.streams).times id own.plain));
+      (gives_up (is_plain s.loop.parts) (next_future s.loop.parts) on from s.streams h.streams).asked id own.plain));
   streams = gives_up_own (is_plain s.loop.parts) on from s.streams h.streams;
   owns = h.owns;
 }

@@ -1,11 +1,15 @@
 -- A call of streams that does a tree, as a piece of what the machine does: the machine goes on with its result from a state that
 -- is stood for, or ends the run there.
-use Rattle.std.proofs.Common.{◌≡◌, ℕ, true, List, [], ◌++◌, Option, length, slice_get, Ok, Err, ◌∙◌, refl, sym, ap, subst}
+use Rattle.std.proofs.Common.{◌≡◌, ℕ, ◌<◌, ◌⊎◌, true, List, [], ◌++◌, Option, Some, length, slice_get, Ok, Err, ◌∙◌, refl, sym, ap, subst, inl, inr, arith}
 use Rattle.model_loop.specs.Futures.{is_pending_at, next_future}
 use Rattle.model_loop.specs.Owning.{is_plain}
+use Rattle.model_loop.specs.Suspend.{suspend}
+use Rattle.model_loop.specs.Tasks.{waiter_of}
 use Rattle.model_stream.specs.Doing.{Doing, Ends}
+use Rattle.model_stream.specs.Kept.{times_asked}
 use Rattle.model_stream.specs.Streams.{Streams}
 use Rattle.model_machine.specs.Does.{does}
+use Rattle.model_machine.specs.Replies.{waits}
 use Rattle.model_machine.specs.Sound.{AreStreamsFutures}
 use Rattle.model_machine.specs.State.{State, with_streams}
 use Rattle.aio_wire.specs.Outside.{Outside}
@@ -23,10 +27,10 @@ use Rattle.aio_task.specs.View.{View}
 use Rattle.aio_change.specs.Seen.{seen_changed}
 use Rattle.aio_transports.specs.Kept.{Kept as Transports}
 use Rattle.aio_transports.specs.Standing.{StandsFor as AreTransports}
-use Rattle.aio_extra.specs.Added.{Added}
+use Rattle.aio_extra.specs.Added.{Added, named_in}
 use Rattle.aio_body.specs.declared.body.Body.{Body}
 use Rattle.aio_body.specs.Asking.{Comes, Piece, before}
-use Rattle.aio_body.specs.Stands.{Setting, Stands}
+use Rattle.aio_body.specs.Stands.{IsOwnSleep, Setting, Stands}
 use Rattle.aio_body.proofs.Asking.{HasCome}
 use Rattle.law_ways.specs.Along.{along}
 use Rattle.law_ways.specs.Beside.{StaysBeside}
@@ -35,7 +39,11 @@ use Rattle.law_ways.proofs.Keeping.{way_beside}
 use Rattle.law_does.specs.Alike.{AddsEvents, AreAlike, ForgetsWritten, LeavesState}
 use Rattle.law_does.specs.Passed.{Begins, Call, Passed}
 use Rattle.law_does.specs.Streams.{HasStreams, streams_of}
-use Rattle.law_does.specs.Went.{HasGone, MayCall}
+use Rattle.law_does.specs.Went.{AreMade, HasGone, MayCall}
+use Rattle.law_settling.proofs.CancelSound.{plain_within}
+use Rattle.law_body.proofs.Leaving.{IsNew, Leaves, leaves_on}
+use Rattle.law_body.proofs.Left.{leaves_suspend}
+use Rattle.law_does.proofs.Leaving.{tree_leaves}
 use Rattle.law_does.proofs.Calling.{call_goes, call_stops}
 use Rattle.law_does.proofs.Standing.{stands_passed, stands_waiting}
 
@@ -115,6 +123,7 @@ module _ {X W A M R : Type 0} {a : Added X} (p : Piece a (State a.Kept) M R) (ca
       pending = pends;
       waiting = λ task on v was it_.
           stands_waiting out c old new s it.way (ends it.it) h.stands h.owns ended it.so.0 it.parts it.events beside task on v was.0 it_;
+      alone = alone;
     }
       where
         h : MayCall out (before (had_on it.way) c) old s
@@ -143,6 +152,34 @@ module _ {X W A M R : Type 0} {a : Added X} (p : Piece a (State a.Kept) M R) (ca
 
         on : Stands out c new (with_streams (ends it.it) t)
         on = stands_passed out c old new s it.way (ends it.it) h.stands h.owns ended it.so.0 it.parts it.events beside
+
+        alone : (task on_ : ℕ) → IsMade (next_future s.loop.parts) (next_future t.loop.parts) on_ → times_asked on_ (ends it.it) ≡ 0 → AreMade s
+            → IsOwnSleep (suspend task on_ t.loop.parts).parts (named_in a (waits task on_ (with_streams (ends it.it) t))) (Some task) on_
+        alone task on_ was none were = record {
+          plain = (leaves_suspend task on_ t.loop.parts).plain on_ (came.0.made on_ was.0 was.1).0;
+          unnamed = unnamed;
+          alone = λ other e. at other (leaves.waits other on_ e);
+        }
+          where
+            leaves : Leaves (Some (task, on_)) s.loop.parts (suspend task on_ t.loop.parts).parts
+            leaves =
+                leaves_on (Some (task, on_)) s.loop.parts t.loop.parts (suspend task on_ t.loop.parts).parts (tree_leaves s t came.0 h.owns)
+                (leaves_suspend task on_ t.loop.parts)
+
+            past : on_ < next_future s.loop.parts → ⊥
+            past within = let from = was.0 in omega (arith, within, from)
+
+            unnamed : named_in a (waits task on_ (with_streams (ends it.it) t)) on_ → ⊥
+            unnamed (inl found) =
+                past ((plain_within s.loop.parts on_
+                (were.scripts found.0 on_ (ap (λ (xs : List ℕ). slice_get xs found.0) (sym came.0.futures) ∙ found.1))).1)
+            unnamed (inr (inl mine)) =
+                past (a.made h.stands.ties s.loop.parts old.extra s.extra h.stands.extra on_ (subst (λ x. a.owns x on_) came.0.extra mine))
+            unnamed (inr (inr asked)) = omega (arith, none, asked)
+
+            at : (other : ℕ) → (waiter_of s.loop.parts other ≡ Some on_) ⊎ IsNew (Some (task, on_)) other on_ → Some task ≡ Some other
+            at other (inl e) = absurd (past (were.waiting other on_ e))
+            at other (inr new_) = ap Some (sym new_.0)
 
         pends : (on_ : ℕ) → IsMade (next_future s.loop.parts) (next_future t.loop.parts) on_
             → is_pending_at (slice_get new.parts.futures on_) ≡ true

@@ -5,7 +5,7 @@ use Rattle.model_loop.specs.Handles.{soon}
 use Rattle.model_loop.specs.Owning.{OwnsFutures, is_plain}
 use Rattle.model_loop.specs.Parts.{Parts}
 use Rattle.model_loop.specs.Tasks.{future_of, next_task}
-use Rattle.model_stream.specs.Kept.{times_kept}
+use Rattle.model_stream.specs.Kept.{times_asked}
 use Rattle.model_stream.specs.Streams.{Streams}
 use Rattle.model_machine.specs.State.{State}
 use Rattle.law_changes.specs.Changes.{PartsChange, CallsSoon, MakesFuture, Settles, made_of_parts}
@@ -61,13 +61,13 @@ made_spares task on p named past other id new sleeper own =
 
 -- ---- what streams keep: of what was plain before nothing more
 pub fewer_kept : (p : Parts) (next : ℕ) (before after : Streams)
-    → ((future : ℕ) → times_kept future after ≤ times_kept future before + made_in (next_future p) next future)
-    → (id : ℕ) → is_plain p id ≡ true → times_kept id after ≤ times_kept id before
+    → ((future : ℕ) → times_asked future after ≤ times_asked future before + made_in (next_future p) next future)
+    → (id : ℕ) → is_plain p id ≡ true → times_asked id after ≤ times_asked id before
 fewer_kept p next before after times id plain =
     let none = made_before (next_future p) next id (plain_within p id plain).1 in
     let most = times id in
     omega (arith, none, most)
 
 pub kept_no_more : {S : Type 0} (s t : State S) (streams : Streams) → IsStreamsEnd s t streams → (id : ℕ) → is_plain s.loop.parts id ≡ true
-    → times_kept id streams ≤ times_kept id s.streams
-kept_no_more s t streams it = fewer_kept s.loop.parts (next_future t.loop.parts) s.streams streams it.times
+    → times_asked id streams ≤ times_asked id s.streams
+kept_no_more s t streams it = fewer_kept s.loop.parts (next_future t.loop.parts) s.streams streams it.asked

@@ -22,7 +22,7 @@ use Rattle.law_trees.specs.Trees.{AnswersStreams, IsMade, Keeping, KeepsStreams}
 use Rattle.aio_task.specs.Keeps.{Ties}
 use Rattle.aio_task.specs.View.{View}
 use Rattle.aio_transports.specs.Standing.{Answers, Comes as Changes}
-use Rattle.aio_extra.specs.Added.{Added}
+use Rattle.aio_extra.specs.Added.{Added, named_in}
 use Rattle.aio_body.specs.declared.body.Body.{Body}
 use Rattle.aio_body.specs.declared.reply.RequestReply.{RequestReply}
 use Rattle.aio_body.specs.declared.reply.RequestReply.TheVariants as said
@@ -35,7 +35,7 @@ use Rattle.aio_body.proofs.Asking.{HasCome}
 use Rattle.law_does.specs.Alike.{AddsEvents, ForgetsWritten}
 use Rattle.law_does.specs.Streams.{HasStreams}
 use Rattle.law_does.specs.Went.{HasGone, MayCall, Suspends}
-use Rattle.law_does.proofs.Answering.{answers_so, gone_ends, gone_starved, raises_so, rests_so, stands_so, waits_so}
+use Rattle.law_does.proofs.Answering.{answers_so, gone_ends, gone_starved, raises_so, rests_so, stands_at_it, waits_so}
 use Rattle.law_does.proofs.Nexts.{reply_leaves}
 use Rattle.law_does.proofs.Requests.{change_fails, change_goes, do_fails, do_goes}
 
@@ -76,10 +76,11 @@ module _ {X W : Type 0} {a : Added X} (o : Outside W) (task : ℕ) (old new last
         subst (λ (b : Body X). Says task c b said.Rests (next g.now)) (sym same)
         (rests_so task (before come.0 c) old new s (in_step (before come.0 c) s began) Known (replying.does s) next c g on v made suspends is))
 
-    -- and stands at this, whatever the parts are
+    -- and stands at this, by what is known where the call was made
     pub stands_go : (on : ℕ) (v : View) (code : Standing) (standing : state.Standing) → last ≡ record new { parts = v; slots = last.slots }
         → last.slots.items ≡ standing_at task code new.slots.items → task < length new.slots.items
-        → ((t : Ties) (p : Parts) (named : ℕ → Type 0) → StandsAt t p named task code standing) → Suspends task on new.parts v
+        → ((c d : Setting a) (s : State a.Kept) → from d s → (g : HasGone (Some task) Known (makes s) next c old new s) → (t : Ties)
+        → StandsAt t (waits task on g.now).loop.parts (named_in a (waits task on g.now)) task code standing) → Suspends task on new.parts v
         → ((first now : ℕ) → Known first now → IsMade first now on)
         → ((t : State a.Kept) → next t ≡ plain.Rests (stands standing task (waits task on t)))
         → Comes o replying (ported wire old.events) (ported after last.events) (Ok said.Rests)
@@ -87,9 +88,9 @@ module _ {X W : Type 0} {a : Added X} (o : Outside W) (task : ℕ) (old new last
         gone_ends o replying (Some task) old new wire after Known next come last said.Rests (ap (λ (b : Body X). b.events) beside)
         (λ c s began g.
         subst (Says task c last said.Rests) (sym (is g.now))
-        (stands_so task c (record new { parts = v }) last (waits task on g.now) code standing
-        (waits_so task (before come.0 c) old new s (in_step (before come.0 c) s began) Known (replying.does s) next c g on v made suspends) at_it beside items
-        within))
+        (let rested = waits_so task (before come.0 c) old new s (in_step (before come.0 c) s began) Known (replying.does s) next c g on v made suspends in
+        stands_at_it task c (record new { parts = v }) last (waits task on g.now) code standing rested
+        (at_it c (before come.0 c) s began g rested.stands.ties) beside items within))
 
     -- memory is refused after it
     pub starves_go : AddsEvents left_by next → Comes o replying (ported wire old.events) (ported after last.events) (Err stop.Memory)

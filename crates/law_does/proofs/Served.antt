@@ -112,7 +112,8 @@ module _ {X : Type 0} {a : Added X} (task : ℕ) (request : Request) (old : Body
           pub serving_stands : (on : ℕ) (v : View) (code : Standing) (standing : state.Standing)
               → last ≡ record new { parts = v; slots = last.slots } → last.slots.items ≡ standing_at task code new.slots.items
               → task < length new.slots.items
-              → ((t : Ties) (p : Parts) (named : ℕ → Type 0) → StandsAt t p named task code standing) → Suspends task on new.parts v
+              → ((c d : Setting a) (s : State a.Kept) → Asks d s → (g : HasGone (Some task) Known (makes s) (next it) c old new s) → (t : Ties)
+              → StandsAt t (waits task on g.now).loop.parts (named_in a (waits task on g.now)) task code standing) → Suspends task on new.parts v
               → ((first now : ℕ) → Known first now → IsMade first now on)
               → ((t : State a.Kept) → next it t ≡ plain.Rests (stands standing task (waits task on t)))
               → Comes o (serving a task request old last) (ported wire old.events) (ported after last.events) (Ok said.Rests)

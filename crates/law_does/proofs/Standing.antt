@@ -4,7 +4,7 @@ use Rattle.model_loop.specs.Futures.{next_future}
 use Rattle.model_loop.specs.Loop.{Loop, book, in_parts}
 use Rattle.model_loop.specs.Owning.{OwnsFutures}
 use Rattle.model_loop.specs.Suspend.{suspend}
-use Rattle.model_stream.specs.Kept.{times_kept}
+use Rattle.model_stream.specs.Kept.{times_asked}
 use Rattle.model_stream.specs.Streams.{Streams}
 use Rattle.model_machine.specs.Does.{changed}
 use Rattle.model_machine.specs.Replies.{waits}
@@ -43,7 +43,7 @@ heard_all had c s = record s { events = s.events ++ told_by had; answers = c.ans
 
 -- the future of a sleep is none that streams keep, of which they keep no more
 own_beside : {X : Type 0} (a : Added X) (s : State a.Kept) (after : Streams)
-    → ((sleeper : Option ℕ) (id : ℕ) → IsOwnSleep s.loop.parts (named_in a s) sleeper id → times_kept id after ≤ times_kept id s.streams)
+    → ((sleeper : Option ℕ) (id : ℕ) → IsOwnSleep s.loop.parts (named_in a s) sleeper id → times_asked id after ≤ times_asked id s.streams)
     → (sleeper : Option ℕ) (id : ℕ) → IsOwnSleep s.loop.parts (named_in a s) sleeper id
     → IsOwnSleep s.loop.parts (named_in a (with_streams after s)) sleeper id
 own_beside a s after fewer sleeper id own = record { plain = own.plain; unnamed = unnamed; alone = own.alone }
@@ -57,7 +57,7 @@ module _ {X : Type 0} {a : Added X} where
   -- The streams change, and what code keeps of them.
   pub streams_change : (out : Option ℕ) (c : Setting a) (old : Body X) (k : Transports) (s : State a.Kept) (after : Streams) → Stands out c old s
       → AreTransports k after
-      → ((sleeper : Option ℕ) (id : ℕ) → IsOwnSleep s.loop.parts (named_in a s) sleeper id → times_kept id after ≤ times_kept id s.streams)
+      → ((sleeper : Option ℕ) (id : ℕ) → IsOwnSleep s.loop.parts (named_in a s) sleeper id → times_asked id after ≤ times_asked id s.streams)
       → Stands out c (record old { transports = k }) (with_streams after s)
   streams_change out c old k s after h transports fewer = record {
     ties = h.ties;
@@ -113,7 +113,7 @@ module _ {X : Type 0} {a : Added X} where
   -- All together: the streams come to be others, and the parts by an operation that begins with the way.
   module _ (out : Option ℕ) (c : Setting a) (old new : Body X) (s : State a.Kept) (had : List Exchange) (after : Streams)
       (h : Stands out (before had c) old s) (transports : AreTransports new.transports after)
-      (fewer : (sleeper : Option ℕ) (id : ℕ) → IsOwnSleep s.loop.parts (named_in a s) sleeper id → times_kept id after ≤ times_kept id s.streams)
+      (fewer : (sleeper : Option ℕ) (id : ℕ) → IsOwnSleep s.loop.parts (named_in a s) sleeper id → times_asked id after ≤ times_asked id s.streams)
       (events : new.events ≡ noted_by had old.events)
       (beside : new ≡ record old { parts = new.parts; events = new.events; transports = new.transports }) where
     pub stands_through : (wait : Option (ℕ × ℕ)) (change : Loop → Loop)
@@ -141,7 +141,7 @@ module _ {X : Type 0} {a : Added X} (out : Option ℕ) (c : Setting a) (old new 
   abbrev t : State a.Kept
   t = along way c.answers s
 
-  fewer : (sleeper : Option ℕ) (id : ℕ) → IsOwnSleep s.loop.parts (named_in a s) sleeper id → times_kept id after ≤ times_kept id s.streams
+  fewer : (sleeper : Option ℕ) (id : ℕ) → IsOwnSleep s.loop.parts (named_in a s) sleeper id → times_asked id after ≤ times_asked id s.streams
   fewer sleeper id own = kept_no_more s t after ended id own.plain
 
   leaves : Leaves None s.loop.parts t.loop.parts

@@ -67,6 +67,7 @@ end_keeps s t streams it keeps = record {
   kept = streams_more (IsKnown (is_plain s.loop.parts) (next_future s.loop.parts) (next_future t.loop.parts))
       (λ future. is_plain t.loop.parts future ≡ true) plain streams keeps.kept;
   times = keeps.times;
+  asked = keeps.asked;
   connections = keeps.connections;
   children = keeps.children;
 }

@@ -4,7 +4,7 @@ use Rattle.std.specs.Prelude.{◌≡◌, ℕ, ◌+◌, ◌≤◌, ◌<◌, true,
 use Rattle.model_loop.specs.Futures.{is_pending, next_future}
 use Rattle.model_loop.specs.Owning.{is_plain}
 use Rattle.model_loop.specs.Parts.{Parts, Plain}
-use Rattle.model_stream.specs.Kept.{StreamsKeep, times_kept}
+use Rattle.model_stream.specs.Kept.{StreamsKeep, times_asked, times_kept}
 use Rattle.model_stream.specs.Streams.{Streams}
 use Rattle.model_machine.specs.State.{State}
 use Rattle.model_machine.specs.Told.{told_in}
@@ -41,5 +41,7 @@ pub record IsStreamsEnd {S : Type 0} (s t : State S) (streams : Streams) : Type 
   pub kept : StreamsKeep (λ future. is_plain t.loop.parts future ≡ true) streams
   pub times : (future : ℕ)
       → times_kept future streams ≤ times_kept future s.streams + made_in (next_future s.loop.parts) (next_future t.loop.parts) future
+  pub asked : (future : ℕ)
+      → times_asked future streams ≤ times_asked future s.streams + made_in (next_future s.loop.parts) (next_future t.loop.parts) future
   pub connections : length s.streams.connections ≤ length streams.connections
   pub children : length s.streams.children ≤ length streams.children

@@ -23,10 +23,10 @@ use Rattle.model_stream.specs.Requests.{StreamReader, OfConn, OfChild, asked_one
 use Rattle.model_stream.specs.Requests.{write_eof, close, drop_connect, read, read_as, read_all, give_up_read, wait, kill}
 use Rattle.model_stream.specs.Senders.{Sender}
 use Rattle.model_stream.specs.Streams.{Streams, its_children, its_connections}
-use Rattle.model_stream.specs.Kept.{ChildKeeps, StreamsKeep, child_times, connection_times}
+use Rattle.model_stream.specs.Kept.{ChildKeeps, StreamsKeep, child_times}
 use Rattle.law_trees.specs.Trees.{AllWaits, AnswersStreams, DrainWaits, ExitWaits, IsKnown, IsMade, IsOwn, Keeping, KeepsStreams, ReadWaits, WaitsNever}
 use Rattle.law_trees.proofs.Composing.{keeping_more, keeping_then, streams_more}
-use Rattle.law_trees.proofs.Fits.{ChildFits, ConnectionFits, ReceiverFits, child_still, connection_still, grown, now_receiver, receiver_now}
+use Rattle.law_trees.proofs.Fits.{ChildFits, ConnectionFits, Limits, ReceiverFits, both_grown, child_still, connection_still, grown, now_connection, now_receiver, receiver_now}
 use Rattle.law_trees.proofs.Opening.{child_now, child_set, connection_now, connection_set, one_child, one_connection, still}
 use Rattle.law_trees.proofs.Reading.{give_up_keeps, read_all_keeps, read_keeps}
 use Rattle.law_trees.proofs.Standing.{asked_pipe, asked_receiver, child_closes, child_drains, child_killed, child_limits, child_waits, child_writes}
@@ -47,8 +47,8 @@ gives_up own first on (OfConn id) s kept = at (slice_get s.connections id) refl
         let h = kept.connections id c e in
         let r = give_up_keeps (IsOwn own) (now_receiver c.receiver) on c.receiver (receiver_now (IsOwn own) c.receiver h.2) in
         connection_set own first first id s c (record c { receiver = receiver.give_up_read on c.receiver }) kept e
-        (connection_still own (λ future. connection_times future c) first first (record c { receiver = receiver.give_up_read on c.receiver })
-        (h.0, h.1, r.0, λ future. let a = r.1 future in omega (arith, a)))
+        (connection_still own (now_connection c) first first (record c { receiver = receiver.give_up_read on c.receiver })
+        (h.0, h.1, r.0, λ future. let a = r.1 future in (omega (arith, a), omega (arith, a))))
 gives_up own first on (OfChild pipe id) s kept = at (slice_get s.children id) refl
   where
     one : (pipe : Stream) (p : Child) → ChildKeeps (IsOwn own) p
@@ -84,8 +84,8 @@ module _ (own : ℕ → Bool) (first : ℕ) where
   -- ---- one of a kind changes, with an answer
   module _ {R : Type 0} (Waits : (ℕ → Type 0) → R → Type 0) (other : R) (none : (P : ℕ → Type 0) → Waits P other) where
     asked_connection : (id : ℕ) (change : Connection → Doing (Connection × R)) (s : Streams) → StreamsKeep (IsOwn own) s
-        → ((limit : ℕ → ℕ) (Rest : ℕ → Connection × R → Type 0)
-        → ((next : ℕ) (done : Connection × R) → ConnectionFits (IsKnown own first next) (grown limit first next) done.0
+        → ((limit : Limits) (Rest : ℕ → Connection × R → Type 0)
+        → ((next : ℕ) (done : Connection × R) → ConnectionFits (IsKnown own first next) (both_grown limit first next) done.0
         → Waits (IsMade first next) done.1 → Rest next done)
         → (c : Connection) → ConnectionFits (IsOwn own) limit c → Keeping Rest own first (change c))
         → Keeping (AnswersStreams Waits own first s) own first (asked_one its_connections other id change s)
@@ -100,7 +100,7 @@ module _ (own : ℕ → Bool) (first : ℕ) where
         at (Some c) e =
             keeping_then own (AnswersStreams Waits own first s) first (change c)
             (λ done. Ends (record s { connections = slice_set s.connections id done.0 }, done.1))
-            (here (λ future. connection_times future c)
+            (here (now_connection c)
             (λ next done. AnswersStreams Waits own first s next (record s { connections = slice_set s.connections id done.0 }, done.1))
             (λ next done h waits. (connection_set own first next id s c done.0 kept e h, waits)) c
             (connection_now (IsOwn own) c (kept.connections id c e)))
@@ -153,7 +153,7 @@ module _ (own : ℕ → Bool) (first : ℕ) where
       → AnswersStreams {R = Wrote} WaitsNever own first (noted whom piece s) next done → AnswersStreams {R = Wrote} WaitsNever own first s next done
   noted_keeps whom [] s next done h = h
   noted_keeps whom (byte ∷ bytes) s next done h =
-      (record { kept = h.0.kept; times = h.0.times; connections = h.0.connections; children = h.0.children }, tt)
+      (record { kept = h.0.kept; times = h.0.times; asked = h.0.asked; connections = h.0.connections; children = h.0.children }, tt)
 
   unnoted_keeps : (whom : Handed) (piece : List ℕ) (s : Streams) → StreamsKeep (IsOwn own) s
       → Keeping (AnswersStreams {R = Wrote} WaitsNever own first s) own first (write_unnoted whom piece s)

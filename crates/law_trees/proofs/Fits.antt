@@ -11,7 +11,7 @@ use Rattle.model_stream.specs.Receivers.{Receiver}
 use Rattle.model_stream.specs.Senders.{Sender}
 use Rattle.model_stream.specs.Streams.{Streams}
 use Rattle.model_stream.specs.Kept.{AllAre, OneIs, SenderKeeps, ReceiverKeeps, ConnectionKeeps, ChildKeeps, StreamsKeep, child_times, connection_times}
-use Rattle.model_stream.specs.Kept.{one_time, receiver_times, sender_times, times_kept}
+use Rattle.model_stream.specs.Kept.{connection_asked, one_time, receiver_times, sender_times, times_asked, times_kept}
 use Rattle.law_trees.specs.Trees.{IsKnown, IsOwn, made_in}
 use Rattle.law_trees.proofs.Composing.{all_more, known, one_more, receiver_more, sender_more}
 
@@ -21,9 +21,15 @@ SenderFits P limit s = P s.closed_future × AllAre P s.drains × ((future : ℕ)
 abbrev pub ReceiverFits : (ℕ → Type 0) → (ℕ → ℕ) → Receiver → Type 0
 ReceiverFits P limit r = OneIs P r.waiter × ((future : ℕ) → receiver_times future r ≤ limit future)
 
-abbrev pub ConnectionFits : (ℕ → Type 0) → (ℕ → ℕ) → Connection → Type 0
-ConnectionFits P limit c =
-    OneIs P c.making × SenderKeeps P c.sender × ReceiverKeeps P c.receiver × ((future : ℕ) → connection_times future c ≤ limit future)
+-- in all, and but for what its connect waits on
+abbrev pub Limits : Type 0
+Limits = (ℕ → ℕ) × (ℕ → ℕ)
+
+abbrev pub IsWithin : Limits → Connection → (future : ℕ) → Type 0
+IsWithin limit c future = (connection_times future c ≤ limit.0 future) × (connection_asked future c ≤ limit.1 future)
+
+abbrev pub ConnectionFits : (ℕ → Type 0) → Limits → Connection → Type 0
+ConnectionFits P limit c = OneIs P c.making × SenderKeeps P c.sender × ReceiverKeeps P c.receiver × ((future : ℕ) → IsWithin limit c future)
 
 abbrev pub ChildFits : (ℕ → Type 0) → (ℕ → ℕ) → Child → Type 0
 ChildFits P limit p =
@@ -33,9 +39,15 @@ ChildFits P limit p =
 abbrev pub grown : (ℕ → ℕ) → (first next : ℕ) → ℕ → ℕ
 grown limit first next future = limit future + made_in first next future
 
+abbrev pub both_grown : Limits → (first next : ℕ) → Limits
+both_grown limit first next = (grown limit.0 first next, grown limit.1 first next)
+
 -- as often as it is there
 abbrev pub now_sender : Sender → ℕ → ℕ
 now_sender s future = sender_times future s
+
+abbrev pub now_connection : Connection → Limits
+now_connection c = ((λ future. connection_times future c), (λ future. connection_asked future c))
 
 abbrev pub now_receiver : Receiver → ℕ → ℕ
 now_receiver r future = receiver_times future r
@@ -61,14 +73,6 @@ module _ (own : ℕ → Bool) (limit : ℕ → ℕ) (first next : ℕ) where
   pub receiver_still : (r : Receiver) → ReceiverFits (IsOwn own) limit r → ReceiverFits (IsKnown own first next) (grown limit first next) r
   receiver_still r kept = (one_more (IsOwn own) Known (known own first next) r.waiter kept.0, λ future. let a = kept.1 future in omega (arith, a))
 
-  pub connection_still : (c : Connection) → ConnectionFits (IsOwn own) limit c → ConnectionFits (IsKnown own first next) (grown limit first next) c
-  connection_still c kept = (
-    one_more (IsOwn own) Known (known own first next) c.making kept.0,
-    sender_more (IsOwn own) Known (known own first next) c.sender kept.1,
-    receiver_more (IsOwn own) Known (known own first next) c.receiver kept.2,
-    λ future. let a = kept.3 future in omega (arith, a),
-  )
-
   pub child_still : (p : Child) → ChildFits (IsOwn own) limit p → ChildFits (IsKnown own first next) (grown limit first next) p
   child_still p kept = (
     sender_more (IsOwn own) Known (known own first next) p.stdin kept.0,
@@ -77,6 +81,15 @@ module _ (own : ℕ → Bool) (limit : ℕ → ℕ) (first next : ℕ) where
     all_more (IsOwn own) Known (known own first next) p.waits kept.3,
     λ future. let a = kept.4 future in omega (arith, a),
   )
+
+pub connection_still : (own : ℕ → Bool) (limit : Limits) (first next : ℕ) (c : Connection) → ConnectionFits (IsOwn own) limit c
+    → ConnectionFits (IsKnown own first next) (both_grown limit first next) c
+connection_still own limit first next c kept = (
+  one_more (IsOwn own) (IsKnown own first next) (known own first next) c.making kept.0,
+  sender_more (IsOwn own) (IsKnown own first next) (known own first next) c.sender kept.1,
+  receiver_more (IsOwn own) (IsKnown own first next) (known own first next) c.receiver kept.2,
+  λ future. let a = kept.3 future in (omega (arith, a.0), omega (arith, a.1)),
+)
 
 -- ---- what is made
 pub made_before : (first next future : ℕ) → future < first → made_in first next future ≡ 0
@@ -147,6 +160,18 @@ sum_set w (h ∷ xs) (suc id) x y e =
 pub times_push : (future next : ℕ) (futures : List ℕ)
     → count_by (nat_eq future) (futures ++ next ∷ []) ≡ count_by (nat_eq future) futures + one_time future (Some next)
 times_push future next futures = sum_by_push (λ other. cond (nat_eq future other) 1 0) futures next
+
+-- what is kept otherwise than by a connect is kept
+asked_sum : (future : ℕ) (cs : List Connection) → sum_by (connection_asked future) cs ≤ sum_by (connection_times future) cs
+asked_sum future [] = omega arith
+asked_sum future (c ∷ cs) =
+    let a = sum_by-cons (connection_asked future) c cs in
+    let b = sum_by-cons (connection_times future) c cs in
+    let d = asked_sum future cs in
+    omega (arith, a, b, d)
+
+pub asked_kept : (future : ℕ) (s : Streams) → times_asked future s ≤ times_kept future s
+asked_kept future s = let a = asked_sum future s.connections in omega (arith, a)
 
 -- what is kept nowhere
 module _ (P : ℕ → Type 0) (future : ℕ) (not : P future → ⊥) where

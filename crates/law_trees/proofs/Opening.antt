@@ -14,10 +14,10 @@ use Rattle.model_stream.specs.Listeners.{Server}
 use Rattle.model_stream.specs.Streams.{Streams, act, add_connection, add_child, add_server, accept, accept_most, most_accepts}
 use Rattle.model_stream.specs.Streams.{its_connections, its_children, on_one, may_connect, listen, connect, launch}
 use Rattle.model_stream.specs.Streams.{close_server, closed_server}
-use Rattle.model_stream.specs.Kept.{ConnectionKeeps, ChildKeeps, StreamsKeep, child_times, connection_times, one_time}
+use Rattle.model_stream.specs.Kept.{ConnectionKeeps, ChildKeeps, StreamsKeep, child_times, connection_asked, connection_times, one_time}
 use Rattle.law_trees.specs.Trees.{AnswersStreams, ConnectsStreams, IsKnown, IsOwn, Keeping, KeepsStreams, WaitsNever}
 use Rattle.law_trees.proofs.Composing.{either_is, keeping_if, keeping_then, known, known_on, push_get, set_get, streams_more}
-use Rattle.law_trees.proofs.Fits.{ChildFits, ConnectionFits, child_still, connection_still, grown, made_next, sum_set}
+use Rattle.law_trees.proofs.Fits.{ChildFits, ConnectionFits, Limits, both_grown, child_still, connection_still, grown, made_next, now_connection, sum_set}
 use Rattle.law_trees.proofs.Standing.{conn_readable, conn_started, conn_up, conn_down, conn_handled, conn_loses, conn_writable}
 use Rattle.law_trees.proofs.Standing.{child_loses, child_told, child_feeds}
 
@@ -48,8 +48,8 @@ module _ (P : ℕ → Type 0) (s : Streams) (kept : StreamsKeep P s) where
   }
 
 -- of one that is there, as often as it is there
-pub connection_now : (P : ℕ → Type 0) (c : Connection) → ConnectionKeeps P c → ConnectionFits P (λ future. connection_times future c) c
-connection_now P c kept = (kept.0, kept.1, kept.2, λ future. le_refl _)
+pub connection_now : (P : ℕ → Type 0) (c : Connection) → ConnectionKeeps P c → ConnectionFits P (now_connection c) c
+connection_now P c kept = (kept.0, kept.1, kept.2, λ future. (le_refl _, le_refl _))
 
 pub child_now : (P : ℕ → Type 0) (p : Child) → ChildKeeps P p → ChildFits P (λ future. child_times future p) p
 child_now P p kept = (kept.0, kept.1, kept.2, kept.3, λ future. le_refl _)
@@ -78,6 +78,10 @@ module _ (own : ℕ → Bool) (first : ℕ) where
             let a = ap (sum_by (connection_times future)) connections in
             let b = ap (sum_by (child_times future)) children in
             omega (arith, a, b);
+        asked = λ future.
+            let a = ap (sum_by (connection_asked future)) connections in
+            let b = ap (sum_by (child_times future)) children in
+            omega (arith, a, b);
         connections = let a = ap length connections in omega (arith, a);
         children = let a = ap length children in omega (arith, a);
       }
@@ -87,13 +91,17 @@ module _ (own : ℕ → Bool) (first : ℕ) where
 
   -- ---- one of a kind changes
   pub connection_set : (next id : ℕ) (s : Streams) (c after : Connection) → StreamsKeep (IsOwn own) s → slice_get s.connections id ≡ Some c
-      → ConnectionFits (Known next) (grown (λ future. connection_times future c) first next) after
+      → ConnectionFits (Known next) (both_grown (now_connection c) first next) after
       → KeepsStreams own first s next (record s { connections = slice_set s.connections id after })
   connection_set next id s c after kept e h = record {
     kept = set_connection (Known next) s (known_still next s kept) id after (h.0, h.1, h.2);
     times = λ future.
         let a = sum_set (connection_times future) s.connections id c after e in
-        let b = h.3 future in
+        let b = (h.3 future).0 in
+        omega (arith, a, b);
+    asked = λ future.
+        let a = sum_set (connection_asked future) s.connections id c after e in
+        let b = (h.3 future).1 in
         omega (arith, a, b);
     connections = let a = length-set s.connections id after in omega (arith, a);
     children = le_refl _;
@@ -108,12 +116,16 @@ module _ (own : ℕ → Bool) (first : ℕ) where
         let a = sum_set (child_times future) s.children id p after e in
         let b = h.4 future in
         omega (arith, a, b);
+    asked = λ future.
+        let a = sum_set (child_times future) s.children id p after e in
+        let b = h.4 future in
+        omega (arith, a, b);
     connections = le_refl _;
     children = let a = length-set s.children id after in omega (arith, a);
   }
 
   pub one_connection : (id : ℕ) (change : Connection → Doing Connection) (s : Streams) → StreamsKeep (IsOwn own) s
-      → ((limit : ℕ → ℕ) (Left : ℕ → Connection → Type 0) (c : Connection) → ConnectionFits (IsOwn own) limit c
+      → ((limit : Limits) (Left : ℕ → Connection → Type 0) (c : Connection) → ConnectionFits (IsOwn own) limit c
       → ((after : Connection) → ConnectionFits (IsOwn own) limit after → Left first after) → Keeping Left own first (change c))
       → Keeping (KeepsStreams own first s) own first (on_one its_connections id change s)
   one_connection id change s kept here = at (slice_get s.connections id) refl
@@ -126,10 +138,10 @@ module _ (own : ℕ → Bool) (first : ℕ) where
       at None e = still first s kept
       at (Some c) e =
           keeping_then own (KeepsStreams own first s) first (change c) (λ after. Ends (record s { connections = slice_set s.connections id after }))
-          (here (λ future. connection_times future c)
+          (here (now_connection c)
           (λ next after. KeepsStreams own first s next (record s { connections = slice_set s.connections id after })) c
           (connection_now (IsOwn own) c (kept.connections id c e))
-          (λ after h. connection_set first id s c after kept e (connection_still own (λ future. connection_times future c) first first after h)))
+          (λ after h. connection_set first id s c after kept e (connection_still own (now_connection c) first first after h)))
 
   pub one_child : (id : ℕ) (change : Child → Doing Child) (s : Streams) → StreamsKeep (IsOwn own) s
       → ((limit : ℕ → ℕ) (Left : ℕ → Child → Type 0) (p : Child) → ChildFits (IsOwn own) limit p
@@ -159,6 +171,12 @@ module _ (own : ℕ → Bool) (first : ℕ) where
         let a = h.times future in
         let b = times future in
         let d = sum_by_push (connection_times future) now.connections c in
+        let e = made_next first next future on in
+        omega (arith, a, b, d, e);
+    asked = λ future.
+        let a = h.asked future in
+        let b = times future in
+        let d = sum_by_push (connection_asked future) now.connections c in
         let e = made_next first next future on in
         omega (arith, a, b, d, e);
     connections = let a = h.connections in let b = length-append now.connections (c ∷ []) in omega (arith, a, b);
@@ -275,6 +293,11 @@ module _ (own : ℕ → Bool) (first : ℕ) where
             let b = made_next first first future (le_refl first) in
             let c = made_next first (first + 1) future (omega arith) in
             omega (arith, a, b, c);
+        asked = λ future.
+            let a = sum_by_push (connection_asked future) s.connections (connecting first (first + 1)) in
+            let b = made_next first first future (le_refl first) in
+            let c = made_next first (first + 1) future (omega arith) in
+            omega (arith, a, b, c);
         connections = let a = length-append s.connections (connecting first (first + 1) ∷ []) in omega (arith, a);
         children = le_refl _;
       }
@@ -293,6 +316,10 @@ module _ (own : ℕ → Bool) (first : ℕ) where
       launched_one = record {
         kept = child_comes (Known (first + 1)) s (known_still (first + 1) s kept) (new_child first) ((inr (omega arith, omega arith), tt), tt, tt, tt);
         times = λ future.
+            let a = sum_by_push (child_times future) s.children (new_child first) in
+            let b = made_next first first future (le_refl first) in
+            omega (arith, a, b);
+        asked = λ future.
             let a = sum_by_push (child_times future) s.children (new_child first) in
             let b = made_next first first future (le_refl first) in
             omega (arith, a, b);

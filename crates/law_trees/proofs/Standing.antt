@@ -29,14 +29,15 @@ use Rattle.model_stream.specs.Sending.{set_eof}
 use Rattle.model_stream.specs.Kept.{OneIs}
 use Rattle.law_trees.specs.Trees.{DrainWaits, ExitWaits, IsKnown, IsMade, IsOwn, Keeping}
 use Rattle.law_trees.proofs.Composing.{all_then, keeping_if, keeping_settles, keeping_then, made_first}
-use Rattle.law_trees.proofs.Fits.{ChildFits, ConnectionFits, ReceiverFits, SenderFits, child_still, connection_still, grown, made_next, now_receiver}
+use Rattle.law_trees.proofs.Fits.{ChildFits, ConnectionFits, Limits, ReceiverFits, SenderFits, both_grown, child_still, connection_still, grown, made_next}
+use Rattle.law_trees.proofs.Fits.{now_receiver}
 use Rattle.law_trees.proofs.Fits.{now_sender, receiver_now, sender_now, sender_still, times_push}
 use Rattle.law_trees.proofs.Reading.{receive_end_keeps, receive_keeps, receive_loss_keeps}
 use Rattle.law_trees.proofs.Sending.{close_keeps, drain_keeps, fail_keeps, inlet_is, limits_keeps, lose_keeps, outlet_is, schedule_keeps}
 use Rattle.law_trees.proofs.Sending.{send_keeps, write_keeps}
 
 -- ---- a connection that makes no future
-module _ (own : ℕ → Bool) (limit : ℕ → ℕ) (Left : ℕ → Connection → Type 0) (next : ℕ)
+module _ (own : ℕ → Bool) (limit : Limits) (Left : ℕ → Connection → Type 0) (next : ℕ)
     (each : (after : Connection) → ConnectionFits (IsOwn own) limit after → Left next after) where
   on_sender : (c : Connection) → ConnectionFits (IsOwn own) limit c → (change : Sender → Doing Sender)
       → (SenderFits (IsOwn own) (now_sender c.sender) c.sender
@@ -46,7 +47,7 @@ module _ (own : ℕ → Bool) (limit : ℕ → ℕ) (Left : ℕ → Connection �
   on_sender c kept change here =
       keeping_then own Left next (change c.sender) (λ after. Ends (record c { sender = after }))
       (here (sender_now (IsOwn own) c.sender kept.1) (λ after h. each (record c { sender = after })
-      (kept.0, (h.0, h.1), kept.2, λ future. let a = h.2 future in let b = kept.3 future in omega (arith, a, b))))
+      (kept.0, (h.0, h.1), kept.2, λ future. let a = h.2 future in let b = kept.3 future in (omega (arith, a, b.0), omega (arith, a, b.1)))))
 
   on_receiver : (c : Connection) → ConnectionFits (IsOwn own) limit c → (change : Receiver → Doing Receiver)
       → (ReceiverFits (IsOwn own) (now_receiver c.receiver) c.receiver
@@ -56,7 +57,7 @@ module _ (own : ℕ → Bool) (limit : ℕ → ℕ) (Left : ℕ → Connection �
   on_receiver c kept change here =
       keeping_then own Left next (change c.receiver) (λ after. Ends (record c { receiver = after }))
       (here (receiver_now (IsOwn own) c.receiver kept.2) (λ after h. each (record c { receiver = after })
-      (kept.0, kept.1, h.0, λ future. let a = h.1 future in let b = kept.3 future in omega (arith, a, b))))
+      (kept.0, kept.1, h.0, λ future. let a = h.1 future in let b = kept.3 future in (omega (arith, a, b.0), omega (arith, a, b.1)))))
 
   pub conn_fails : (id : ℕ) (c : Connection) → ConnectionFits (IsOwn own) limit c → Keeping Left own next (fail id c)
   conn_fails id c kept =
@@ -98,7 +99,7 @@ module _ (own : ℕ → Bool) (limit : ℕ → ℕ) (Left : ℕ → Connection �
   conn_started c kept = each (start_read c) kept
 
   unmaking : (c : Connection) → ConnectionFits (IsOwn own) limit c → ConnectionFits (IsOwn own) limit (record c { making = None })
-  unmaking c kept = (tt, kept.1, kept.2, λ future. let a = kept.3 future in omega (arith, a))
+  unmaking c kept = (tt, kept.1, kept.2, λ future. let a = kept.3 future in (omega (arith, a.0), omega (arith, a.1)))
 
   up_keeps : (id : ℕ) (making : Option ℕ) (c : Connection) → OneIs (IsOwn own) making → ConnectionFits (IsOwn own) limit c
       → Keeping Left own next (elim making [ Some future ↦ stand_up id future c | None ↦ Ends c ])
@@ -134,7 +135,7 @@ module _ (own : ℕ → Bool) (limit : ℕ → ℕ) (Left : ℕ → Connection �
       (keeping_if own Left next (has_unsent c.sender) (Ends after) (asks (call.Shut id) (Ends after)) (each after kept) (refl, λ answer. each after kept))
 
 -- the loss: its reader is told first
-pub conn_loses : (own : ℕ → Bool) (limit : ℕ → ℕ) (Left : ℕ → Connection → Type 0) (next : ℕ)
+pub conn_loses : (own : ℕ → Bool) (limit : Limits) (Left : ℕ → Connection → Type 0) (next : ℕ)
     → ((after : Connection) → ConnectionFits (IsOwn own) limit after → Left next after) → (id : ℕ) (broken : Bool) (c : Connection)
     → ConnectionFits (IsOwn own) limit c → Keeping Left own next (lose id broken c)
 conn_loses own limit Left next each id broken c kept =
@@ -146,7 +147,7 @@ conn_loses own limit Left next each id broken c kept =
     (λ then_ after. Keeping Left own then_ (on its_sender (lose_sender (outlet id) broken) (record c { receiver = after }))) next left
     (loss_of (outlet id) broken) c.receiver mine))
 
-module _ (own : ℕ → Bool) (limit : ℕ → ℕ) (Left : ℕ → Connection → Type 0) (next : ℕ)
+module _ (own : ℕ → Bool) (limit : Limits) (Left : ℕ → Connection → Type 0) (next : ℕ)
     (each : (after : Connection) → ConnectionFits (IsOwn own) limit after → Left next after) where
   flushed_keeps : (id : ℕ) (c : Connection) → ConnectionFits (IsOwn own) limit c → Keeping Left own next (flushed id c)
   flushed_keeps id c kept =
@@ -165,8 +166,8 @@ module _ (own : ℕ → Bool) (limit : ℕ → ℕ) (Left : ℕ → Connection �
       (each c kept)
 
 -- ---- a connection, with an answer
-module _ {R : Type 0} (own : ℕ → Bool) (limit : ℕ → ℕ) (first : ℕ) (Waits : (ℕ → Type 0) → R → Type 0) (Left : ℕ → Connection × R → Type 0)
-    (each : (next : ℕ) (done : Connection × R) → ConnectionFits (IsKnown own first next) (grown limit first next) done.0
+module _ {R : Type 0} (own : ℕ → Bool) (limit : Limits) (first : ℕ) (Waits : (ℕ → Type 0) → R → Type 0) (Left : ℕ → Connection × R → Type 0)
+    (each : (next : ℕ) (done : Connection × R) → ConnectionFits (IsKnown own first next) (both_grown limit first next) done.0
     → Waits (IsMade first next) done.1 → Left next done) where
   pub asked_sender : (c : Connection) → ConnectionFits (IsOwn own) limit c → (change : Sender → Doing (Sender × R))
       → (SenderFits (IsOwn own) (now_sender c.sender) c.sender
@@ -178,7 +179,7 @@ module _ {R : Type 0} (own : ℕ → Bool) (limit : ℕ → ℕ) (first : ℕ) (
       keeping_then own Left first (change c.sender) (λ done. Ends (record c { sender = done.0 }, done.1))
       (here (sender_now (IsOwn own) c.sender kept.1) (λ next done h waits. let still = connection_still own limit first next c kept in
       each next (record c { sender = done.0 }, done.1)
-      (still.0, (h.0, h.1), still.2, λ future. let a = h.2 future in let b = kept.3 future in omega (arith, a, b)) waits))
+      (still.0, (h.0, h.1), still.2, λ future. let a = h.2 future in let b = kept.3 future in (omega (arith, a, b.0), omega (arith, a, b.1))) waits))
 
   pub asked_receiver : (c : Connection) → ConnectionFits (IsOwn own) limit c → (change : Receiver → Doing (Receiver × R))
       → (ReceiverFits (IsOwn own) (now_receiver c.receiver) c.receiver
@@ -190,12 +191,12 @@ module _ {R : Type 0} (own : ℕ → Bool) (limit : ℕ → ℕ) (first : ℕ) (
       keeping_then own Left first (change c.receiver) (λ done. Ends (record c { receiver = done.0 }, done.1))
       (here (receiver_now (IsOwn own) c.receiver kept.2) (λ next done h waits. let still = connection_still own limit first next c kept in
       each next (record c { receiver = done.0 }, done.1)
-      (still.0, still.1, h.0, λ future. let a = h.1 future in let b = kept.3 future in omega (arith, a, b)) waits))
+      (still.0, still.1, h.0, λ future. let a = h.1 future in let b = kept.3 future in (omega (arith, a, b.0), omega (arith, a, b.1))) waits))
 
 -- the requests on it
-module _ (own : ℕ → Bool) (limit : ℕ → ℕ) (first : ℕ) where
+module _ (own : ℕ → Bool) (limit : Limits) (first : ℕ) where
   pub conn_writes : (Left : ℕ → Connection × Wrote → Type 0)
-      → ((next : ℕ) (done : Connection × Wrote) → ConnectionFits (IsKnown own first next) (grown limit first next) done.0 → Unit {0} → Left next done)
+      → ((next : ℕ) (done : Connection × Wrote) → ConnectionFits (IsKnown own first next) (both_grown limit first next) done.0 → Unit {0} → Left next done)
       → (id : ℕ) (piece : List ℕ) (c : Connection) → ConnectionFits (IsOwn own) limit c → Keeping Left own first (write_to id piece c)
   conn_writes Left each id piece c kept =
       asked_sender own limit first (λ P answer. Unit {0}) Left each c kept (write (outlet id) piece)
@@ -204,7 +205,7 @@ module _ (own : ℕ → Bool) (limit : ℕ → ℕ) (first : ℕ) where
       (λ done h. left first done (sender_still own (now_sender c.sender) first first done.0 h) tt) piece c.sender mine)
 
   pub conn_limits : (Left : ℕ → Connection × Limited → Type 0)
-      → ((next : ℕ) (done : Connection × Limited) → ConnectionFits (IsKnown own first next) (grown limit first next) done.0 → Unit {0} → Left next done)
+      → ((next : ℕ) (done : Connection × Limited) → ConnectionFits (IsKnown own first next) (both_grown limit first next) done.0 → Unit {0} → Left next done)
       → (high low : Option ℤ) (c : Connection) → ConnectionFits (IsOwn own) limit c → Keeping Left own first (limits_of high low c)
   conn_limits Left each high low c kept =
       asked_sender own limit first (λ P answer. Unit {0}) Left each c kept (limits_sender high low)
@@ -213,7 +214,7 @@ module _ (own : ℕ → Bool) (limit : ℕ → ℕ) (first : ℕ) where
       (λ done h. left first done (sender_still own (now_sender c.sender) first first done.0 h) tt) high low c.sender mine)
 
   pub conn_drains : (Left : ℕ → Connection × Drain → Type 0)
-      → ((next : ℕ) (done : Connection × Drain) → ConnectionFits (IsKnown own first next) (grown limit first next) done.0
+      → ((next : ℕ) (done : Connection × Drain) → ConnectionFits (IsKnown own first next) (both_grown limit first next) done.0
       → DrainWaits (IsMade first next) done.1 → Left next done)
       → (yielded : Bool) (c : Connection) → ConnectionFits (IsOwn own) limit c → Keeping Left own first (drain_of yielded first c)
   conn_drains Left each yielded c kept = by c.receiver.reader.failed

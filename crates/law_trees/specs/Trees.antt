@@ -16,7 +16,7 @@ use Rattle.model_stream.specs.Doing.{Doing, Ends, Changes, Asks, MakeFuture, Cal
 use Rattle.model_stream.specs.Receivers.{StreamGot, AllGot}
 use Rattle.model_stream.specs.Senders.{Drain}
 use Rattle.model_stream.specs.Streams.{Streams}
-use Rattle.model_stream.specs.Kept.{StreamsKeep, times_kept}
+use Rattle.model_stream.specs.Kept.{StreamsKeep, times_asked, times_kept}
 
 -- a callback of a listener, a connection or a child
 abbrev pub is_of_streams : Action → Bool
@@ -76,6 +76,7 @@ made_in first next future = if nat_le first future && nat_lt future next then 1 
 pub record KeepsStreams (own : ℕ → Bool) (first : ℕ) (before : Streams) (next : ℕ) (after : Streams) : Type 0 where
   pub kept : StreamsKeep (IsKnown own first next) after
   pub times : (future : ℕ) → times_kept future after ≤ times_kept future before + made_in first next future
+  pub asked : (future : ℕ) → times_asked future after ≤ times_asked future before + made_in first next future
   pub connections : length before.connections ≤ length after.connections
   pub children : length before.children ≤ length after.children
 

@@ -51,5 +51,12 @@ abbrev pub child_times : (future : ℕ) → Child → ℕ
 child_times future p =
     sender_times future p.stdin + receiver_times future p.out + receiver_times future p.errs + count_by (nat_eq future) p.waits
 
+-- how often otherwise than by a connect that waits on it
+abbrev pub connection_asked : (future : ℕ) → Connection → ℕ
+connection_asked future c = sender_times future c.sender + receiver_times future c.receiver
+
+abbrev pub times_asked : (future : ℕ) → Streams → ℕ
+times_asked future s = sum_by (connection_asked future) s.connections + sum_by (child_times future) s.children
+
 abbrev pub times_kept : (future : ℕ) → Streams → ℕ
 times_kept future s = sum_by (connection_times future) s.connections + sum_by (child_times future) s.children

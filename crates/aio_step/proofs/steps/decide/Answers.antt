@@ -46,13 +46,13 @@ returns-in-Serving g c =
 
 pub connected-requires : goal.connected-requires
 connected-requires g c =
-    let code = Connecting c.in-Connecting.conn in
+    let code = Connecting c.in-Connecting.conn c.in-Connecting.future in
     stood_of c.args.task code (plain.Connecting c.in-Connecting.conn) (stood_is code) c.args.body.now
     (subst (λ x. Possible g.X.Extra.added (IsDecidingAs c.args.task x) c.args.body.now) c.in-Connecting.is c.requires)
 
 pub returns-in-Connecting : goal.returns-in-Connecting
 returns-in-Connecting g c =
-    let code = Connecting c.in-Connecting.conn in
+    let code = Connecting c.in-Connecting.conn c.in-Connecting.future in
     rw c.in-Connecting.is (heard_on g.X.Extra.added g.W.Wire.outside c.args.task c.args.input c.args.body.now c.args.wire.now code
     (plain.Connecting c.in-Connecting.conn) (stood_is code)
     c.connected.new.body c.connected.new.wire c.connected.result c.connected.ensures.comes)

@@ -112,10 +112,9 @@ returns-in-Ok-Some g c =
     let fits : SFits w64 c.in-Some.number = search rules in
     record {
       comes =
-          subst (λ r.
-          Comes g.W.Wire.outside
+          subst (Comes g.W.Wire.outside
           (serving g.X.Extra.added c.args.task (request.Connect c.args.port.now) c.args.body.now c.waits.new.body)
-          (ported c.args.wire.now c.args.body.now.events) (ported c.begun.new.wire c.waits.new.body.events) (Ok r)) (sym c.waits.ensures.is)
+          (ported c.args.wire.now c.args.body.now.events) (ported c.begun.new.wire c.waits.new.body.events)) (sym c.or_stop-in-Ok-Some.ensures)
           (connect_stands c.args.task c.in-Some-as_port.number (request.Connect c.args.port.now) c.args.body.now
           g.W.Wire.outside c.requires c.begun.new.body c.args.wire.now c.begun.new.wire
           (λ at s h.
@@ -123,7 +122,7 @@ returns-in-Ok-Some g c =
           (sym (c.may_connect.ensures.is s.streams h.going.in_step.stands.transports) ∙ c.if-not-may_connect.false)
           (ap port_in (sym (to_z-of_z w64 c.in-Some.number fits)) ∙ sym c.as_port.ensures ∙ c.in-Some-as_port.is))
           c.in-Ok-Some.field-0 c.in-Ok-Some.ensures.comes c.in-Ok-Some.ensures.beside c.in-Ok-Some.connecting
-          c.in-Ok-Some.field-0-is c.waits.new.body c.waits.ensures.suspends
+          c.in-Ok-Some.field-0-is c.waits.new.body c.waits.result c.waits.ensures.is c.waits.ensures.suspends
           c.waits.ensures.beside c.waits.ensures.slots);
     }
 
