@@ -15,7 +15,7 @@ use Rattle.aio_body.specs.declared.body.Body.{Body}
 use Rattle.aio_body.specs.declared.reply.RequestReply.{RequestReply}
 use Rattle.aio_body.specs.declared.reply.RequestReply.TheVariants.{Answers, Raises, Rests}
 use Rattle.aio_body.specs.Stands.{Setting, Stands}
-use Rattle.law_inside.specs.InStep.{IsAsked, IsStepSound}
+use Rattle.law_replies.specs.InStep.{IsAsked, IsStepSound}
 
 -- a task's step goes on, and its coroutine is taken out
 pub record IsInStep {X : Type 0} {a : Added X} (task : ℕ) (c : Setting a) (body : Body X) (s : State a.Kept) : Type 0 where

@@ -3,7 +3,7 @@
 use Rattle.std.specs.Prelude.{◌≡◌, ℕ, Bool, true, false, None, length, is_some, nat_lt, slice_get, slice_set, if◌then◌else◌}
 use Rattle.model_loop.specs.Futures.{outcome_at}
 use Rattle.model_loop.specs.Owning.{owner_at}
-use Rattle.law_parts.specs.Forgotten.{released}
+use Rattle.algorithm_parts.specs.Forgotten.{released}
 use Rattle.aio_ready.specs.Queue as queue
 use Rattle.aio_ready.specs.declared.handle.HandleName.TheVariants as name
 use Rattle.aio_timer.specs.Schedule as schedule

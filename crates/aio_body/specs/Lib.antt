@@ -10,3 +10,4 @@ pub mod GivingUp
 pub mod Taken
 pub mod Delay
 pub mod Words
+pub mod Answers

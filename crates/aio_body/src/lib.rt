@@ -5,6 +5,7 @@ mod arguments;
 mod body;
 mod delay;
 mod held;
+pub mod laws;
 mod reply;
 mod slots;
 mod standing;

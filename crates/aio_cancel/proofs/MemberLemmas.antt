@@ -3,14 +3,14 @@ use Rattle.std.proofs.Common.{◌≡◌, ℕ, ◌+◌, ◌<◌, ◌≤◌, ◌�
 use Rattle.std.proofs.Common.{refl, sym, subst, inl, inr}
 use Rattle.std.proofs.lemmas.Bool.{cases_lt}
 use Rattle.model_loop.specs.Parts.{Parts}
-use Rattle.law_parts.specs.Open.{CanWalk}
-use Rattle.law_parts.specs.Shape.{members_at}
-use Rattle.law_parts.specs.Weight.{weight}
-use Rattle.law_parts.specs.declared.walk.Go.{Go}
-use Rattle.law_parts.specs.declared.walk.Go.TheVariants.{Visit, Next}
-use Rattle.law_parts.specs.declared.walk.WalkFrame.TheVariants.{Members}
-use Rattle.law_parts.proofs.RoomLemmas.{room_for, walk_member, walk_skips}
-use Rattle.law_parts.proofs.WeightLemmas.{weigh_push, weigh_skip}
+use Rattle.algorithm_parts.specs.Open.{CanWalk}
+use Rattle.algorithm_parts.specs.Shape.{members_at}
+use Rattle.algorithm_parts.specs.Weight.{weight}
+use Rattle.algorithm_parts.specs.declared.walk.Go.{Go}
+use Rattle.algorithm_parts.specs.declared.walk.Go.TheVariants.{Visit, Next}
+use Rattle.algorithm_parts.specs.declared.walk.WalkFrame.TheVariants.{Members}
+use Rattle.algorithm_parts.proofs.RoomLemmas.{room_for, walk_member, walk_skips}
+use Rattle.algorithm_parts.proofs.WeightLemmas.{weigh_push, weigh_skip}
 use Rattle.aio_cancel.specs.Members.{TakesMember}
 use Rattle.aio_cancel.specs.Seen.{Stacked}
 

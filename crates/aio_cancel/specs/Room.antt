@@ -1,7 +1,7 @@
 -- With what a walk over futures begins: nothing is left to do, nothing is marked or noted, and there is room for all that
 -- it may come to.
 use Rattle.std.specs.Prelude.{◌≡◌, ◌≤◌, [], length}
-use Rattle.law_parts.specs.Open.{room_of}
+use Rattle.algorithm_parts.specs.Open.{room_of}
 use Rattle.aio_cancel.specs.Awaitables.{Awaitables, parts}
 use Rattle.aio_cancel.specs.Noted.{Noted, HasNoNotes}
 use Rattle.aio_cancel.specs.Seen.{Marked, Stacked}

@@ -2,7 +2,7 @@
 use Rattle.std.specs.Prelude.{◌≡◌, ℕ, ◌+◌, ◌≤◌, Bool, true, false, List, length, slice_index_or}
 use Rattle.model_loop.specs.Cancel.{has_seen}
 use Rattle.law_cancel.proofs.Seen.{left}
-use Rattle.law_parts.specs.declared.walk.WalkFrame.{WalkFrame}
+use Rattle.algorithm_parts.specs.declared.walk.WalkFrame.{WalkFrame}
 
 -- for how many tasks there are marks, and those that were visited, in order
 pub record Marked : Type 0 where

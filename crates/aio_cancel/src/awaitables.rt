@@ -3,8 +3,8 @@ ghost use Rattle.std.specs.Prelude.{◌≡◌, ◌+◌, ◌<◌, ◌^◌, false,
 ghost use Rattle.std.specs.Option.{option_copied};
 ghost use Rattle.model_loop.specs.Futures.{settle, mark_asked};
 ghost use Rattle.model_loop.specs.Tasks.{raise_count, mark as mark_task};
-ghost use Rattle.law_parts.specs.Shape.{stands_at, members_at};
-ghost use Rattle.law_parts.specs.Quiet.{asked_of, stage_at};
+ghost use Rattle.algorithm_parts.specs.Shape.{stands_at, members_at};
+ghost use Rattle.algorithm_parts.specs.Quiet.{asked_of, stage_at};
 ghost use Rattle.aio_ready.specs.Queue.{no_handles};
 ghost use Rattle.aio_future.specs.Awaited.{IsUnawaited};
 ghost use Rattle.aio_cancel.specs.Awaitables.{parts, Appended};
@@ -13,7 +13,7 @@ use crate::task::Task;
 use aio_base::{Memory, Outcome};
 use aio_future::{FutureId, Futures};
 use aio_ready::Ready;
-use law_parts::FutureState;
+use algorithm_parts::FutureState;
 use std::alloc::Global;
 use std::marker::Model;
 

@@ -3,13 +3,13 @@ ghost use Rattle.std.specs.Prelude.{◌≡◌, ◌<◌, ◌≤◌, ℕ, Bool, Li
 ghost use Rattle.model_loop.specs.Parts.{Parts};
 ghost use Rattle.model_loop.specs.Circles.{leads as leads_of};
 ghost use Rattle.model_loop.specs.Sound.{HasNoCircle};
-ghost use Rattle.law_parts.specs.declared.walk.WalkFrame.{WalkFrame as PlainFrame};
-ghost use Rattle.law_parts.specs.declared.walk.Go.TheVariants as go;
-ghost use Rattle.law_parts.specs.declared.walk.FutureState.TheVariants as stands;
-ghost use Rattle.law_parts.specs.Shape.{stands_at};
-ghost use Rattle.law_parts.specs.Weight.{weight};
-ghost use Rattle.law_parts.specs.Open.{CanWalk};
-ghost use Rattle.law_parts.specs.Seek.{CanSeek};
+ghost use Rattle.algorithm_parts.specs.declared.walk.WalkFrame.{WalkFrame as PlainFrame};
+ghost use Rattle.algorithm_parts.specs.declared.walk.Go.TheVariants as go;
+ghost use Rattle.algorithm_parts.specs.declared.walk.FutureState.TheVariants as stands;
+ghost use Rattle.algorithm_parts.specs.Shape.{stands_at};
+ghost use Rattle.algorithm_parts.specs.Weight.{weight};
+ghost use Rattle.algorithm_parts.specs.Open.{CanWalk};
+ghost use Rattle.algorithm_parts.specs.Seek.{CanSeek};
 ghost use Rattle.aio_cancel.specs.Awaitables.{parts};
 ghost use Rattle.aio_cancel.specs.Noted.{noted, HasNoNotes};
 ghost use Rattle.aio_cancel.specs.Room.{HasRoom};
@@ -19,7 +19,7 @@ use crate::marks::Marks;
 use crate::notes::Notes;
 use crate::stack::WalkStack;
 use aio_future::FutureId;
-use law_parts::{FutureState, Go, WalkFrame};
+use algorithm_parts::{FutureState, Go, WalkFrame};
 
 // What is looked at after a future that is not the one that is looked for.
 fn expand(id: FutureId, body: &Awaitables, seen: &mut Marks, notes: &mut Notes) -> Go

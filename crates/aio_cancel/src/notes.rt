@@ -1,6 +1,6 @@
 //! What a request notes of the futures that stand for several.
 ghost use Rattle.std.specs.Prelude.{◌≡◌, ℕ, Bool, Some, OnOk, OnErr};
-ghost use Rattle.law_parts.specs.Quiet.{OnlyAdds};
+ghost use Rattle.algorithm_parts.specs.Quiet.{OnlyAdds};
 ghost use Rattle.aio_cancel.specs.Noted.{noted, HasNoNotes};
 
 use aio_base::Memory;

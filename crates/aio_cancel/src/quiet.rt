@@ -1,8 +1,8 @@
 //! Which futures a request is done with.
 ghost use Rattle.std.specs.Prelude.{IfSome, slice_get};
 ghost use Rattle.model_loop.specs.Futures.{made_before};
-ghost use Rattle.law_parts.specs.Shape.{members_at};
-ghost use Rattle.law_parts.specs.Quiet.{Quiet, QuietAll, Sound};
+ghost use Rattle.algorithm_parts.specs.Shape.{members_at};
+ghost use Rattle.algorithm_parts.specs.Quiet.{Quiet, QuietAll, Sound};
 ghost use Rattle.aio_cancel.specs.Awaitables.{parts};
 ghost use Rattle.aio_cancel.specs.Noted.{noted};
 
@@ -10,7 +10,7 @@ use crate::awaitables::Awaitables;
 use crate::marks::Marks;
 use crate::notes::Notes;
 use aio_future::FutureId;
-use law_parts::FutureState;
+use algorithm_parts::FutureState;
 
 // What a future would answer again, where the request is known to be done with it.
 fn look(id: FutureId, body: &Awaitables, seen: &Marks, notes: &Notes) -> Option<bool>

@@ -4,7 +4,7 @@ ghost use Rattle.aio_cancel.specs.Members.{TakesMember};
 
 use aio_base::Memory;
 use aio_future::FutureId;
-use law_parts::{Go, WalkFrame};
+use algorithm_parts::{Go, WalkFrame};
 use std::alloc::Global;
 use std::marker::Model;
 

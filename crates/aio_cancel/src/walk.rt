@@ -2,15 +2,15 @@
 ghost use Rattle.std.specs.Prelude.{◌≡◌, ◌<◌, ℕ, List, [], ◌∷◌, ◌++◌};
 ghost use Rattle.model_loop.specs.Cancel.{cancel as cancel_of};
 ghost use Rattle.model_loop.specs.Sound.{HasNoCircle};
-ghost use Rattle.law_parts.specs.declared.walk.WalkFrame.{WalkFrame as PlainFrame};
-ghost use Rattle.law_parts.specs.declared.walk.Go.TheVariants as go;
-ghost use Rattle.law_parts.specs.Walk.{run, run_task};
-ghost use Rattle.law_parts.specs.Weight.{weight};
-ghost use Rattle.law_parts.specs.Open.{CanWalk};
-ghost use Rattle.law_parts.specs.Shape.{stands_at};
-ghost use Rattle.law_parts.specs.declared.walk.FutureState.TheVariants as stands;
+ghost use Rattle.algorithm_parts.specs.declared.walk.WalkFrame.{WalkFrame as PlainFrame};
+ghost use Rattle.algorithm_parts.specs.declared.walk.Go.TheVariants as go;
+ghost use Rattle.algorithm_parts.specs.Walk.{run, run_task};
+ghost use Rattle.algorithm_parts.specs.Weight.{weight};
+ghost use Rattle.algorithm_parts.specs.Open.{CanWalk};
+ghost use Rattle.algorithm_parts.specs.Shape.{stands_at};
+ghost use Rattle.algorithm_parts.specs.declared.walk.FutureState.TheVariants as stands;
 ghost use Rattle.std.specs.Prelude.{slice_get};
-ghost use Rattle.law_parts.specs.Quiet.{Sound, Later};
+ghost use Rattle.algorithm_parts.specs.Quiet.{Sound, Later};
 ghost use Rattle.aio_cancel.specs.Awaitables.{parts, Appended};
 ghost use Rattle.aio_cancel.specs.Noted.{noted, HasNoNotes};
 ghost use Rattle.aio_cancel.specs.Room.{HasRoom};
@@ -22,7 +22,7 @@ use crate::quiet::note;
 use crate::stack::WalkStack;
 use aio_base::Outcome;
 use aio_future::FutureId;
-use law_parts::{FutureState, Go, WalkFrame};
+use algorithm_parts::{FutureState, Go, WalkFrame};
 
 fn visit(
     id: FutureId,

@@ -6,10 +6,10 @@ use Rattle.aio_wire.specs.Outside.{Outside}
 use Rattle.aio_wire.specs.declared.stop.Stop.{Stop}
 use Rattle.aio_wire.specs.declared.stop.Stop.TheVariants as stop
 use Rattle.aio_exchange.specs.Exchanged.{AsksOne}
-use Rattle.law_doing.specs.Follows.{Follows, Reach}
-use Rattle.law_doing.specs.Tells.{Tells}
-use Rattle.law_doing.proofs.Following.{follows_asked, follows_met, follows_starved}
-use Rattle.law_doing.proofs.Telling.{tells_follow}
+use Rattle.aio_exchange.specs.Follows.{Follows, Reach}
+use Rattle.aio_exchange.specs.Tells.{Tells}
+use Rattle.aio_exchange.proofs.Following.{follows_asked, follows_met, follows_starved}
+use Rattle.aio_exchange.proofs.Telling.{tells_follow}
 use Rattle.aio_task.specs.View.{View}
 use Rattle.aio_change.specs.Seen.{seen_changed}
 

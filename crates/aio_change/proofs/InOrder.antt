@@ -5,12 +5,12 @@ use Rattle.model_value.specs.Value.{Outcome}
 use Rattle.model_stream.specs.Doing.{Change, Doing, Settle, settles}
 use Rattle.aio_wire.specs.Outside.{Outside}
 use Rattle.aio_wire.specs.declared.stop.Stop.{Stop}
-use Rattle.law_doing.specs.Follows.{Follows, Reach}
-use Rattle.law_doing.specs.Tells.{Tells}
-use Rattle.law_doing.specs.Ways.{Did, changed_on}
-use Rattle.law_doing.proofs.Following.{follows_changed}
-use Rattle.law_doing.proofs.Leading.{changed-append}
-use Rattle.law_doing.proofs.Telling.{tells_changed}
+use Rattle.aio_exchange.specs.Follows.{Follows, Reach}
+use Rattle.aio_exchange.specs.Tells.{Tells}
+use Rattle.aio_exchange.specs.Ways.{Did, changed_on}
+use Rattle.aio_exchange.proofs.Following.{follows_changed}
+use Rattle.aio_exchange.proofs.Leading.{changed-append}
+use Rattle.aio_exchange.proofs.Telling.{tells_changed}
 use Rattle.aio_task.specs.View.{View}
 use Rattle.aio_change.specs.Owned.{settled_way}
 use Rattle.aio_change.specs.Seen.{seen_changed}

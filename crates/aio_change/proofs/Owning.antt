@@ -10,9 +10,9 @@ use Rattle.aio_future.specs.Settled.{settled, settled_at, settled_until}
 use Rattle.aio_task.specs.View.{View}
 use Rattle.aio_wire.specs.Outside.{Outside}
 use Rattle.aio_exchange.specs.Exchanged.{Last, All, Met, Starved}
-use Rattle.law_doing.specs.Follows.{EndsBy, Follows, Reach, UnlessStarved}
-use Rattle.law_doing.specs.Tells.{Tells}
-use Rattle.law_doing.specs.Ways.{Move, Did, Heard, changed_on}
+use Rattle.aio_exchange.specs.Follows.{EndsBy, Follows, Reach, UnlessStarved}
+use Rattle.aio_exchange.specs.Tells.{Tells}
+use Rattle.aio_exchange.specs.Ways.{Move, Did, Heard, changed_on}
 use Rattle.aio_change.specs.Owned.{AreOwn, IsOwn, IsOwnIfAny, KeepsOwn}
 use Rattle.aio_change.specs.Seen.{seen_changed}
 

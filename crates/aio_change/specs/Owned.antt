@@ -5,7 +5,7 @@ use Rattle.model_loop.specs.Owning.{owner_at}
 use Rattle.model_value.specs.Value.{Outcome}
 use Rattle.model_stream.specs.Doing.{Settle}
 use Rattle.aio_task.specs.View.{View}
-use Rattle.law_doing.specs.Ways.{Move, Did}
+use Rattle.aio_exchange.specs.Ways.{Move, Did}
 
 -- this future is no task's
 abbrev pub IsOwn : View → ℕ → Type 0

@@ -2,7 +2,7 @@
 ghost use Rattle.std.specs.Prelude.{◌≡◌, ℕ, [], ◌∷◌, List, length};
 ghost use Rattle.model_stream.specs.Doing.{MakeFuture};
 ghost use Rattle.aio_task.specs.View.{View};
-ghost use Rattle.law_doing.specs.Ways.{Move, changed_on};
+ghost use Rattle.aio_exchange.specs.Ways.{Move, changed_on};
 ghost use Rattle.aio_change.specs.Owned.{AreOwn};
 ghost use Rattle.aio_change.specs.Seen.{seen_changed};
 

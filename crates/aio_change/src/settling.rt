@@ -1,6 +1,6 @@
 //! Futures that are settled in order.
 ghost use Rattle.std.specs.Prelude.{◌≡◌, None, IfOk, OnOk};
-ghost use Rattle.law_doing.specs.Ways.{changed_on};
+ghost use Rattle.aio_exchange.specs.Ways.{changed_on};
 ghost use Rattle.aio_change.specs.Owned.{AreOwn, settled_way};
 ghost use Rattle.aio_change.specs.Seen.{seen_changed};
 

@@ -16,11 +16,11 @@ use Rattle.model_stream.specs.Receivers.{Receiver, takes_more}
 use Rattle.model_stream.specs.Senders.{has_unsent, is_closing, is_flushed, schedule_loss, send_more, write}
 use Rattle.aio_wire.specs.Outside.{Outside}
 use Rattle.aio_wire.specs.declared.stop.Stop.{Stop}
-use Rattle.law_doing.specs.Follows.{Follows, Reach}
-use Rattle.law_doing.specs.Tells.{Tells}
-use Rattle.law_doing.specs.Ways.{changed_on}
-use Rattle.law_doing.proofs.Following.{follows_ends, follows_stopped, follows_then, follows_unless, follows_where}
-use Rattle.law_doing.proofs.Telling.{tells_changed, tells_end, tells_ends, tells_unless, tells_where}
+use Rattle.aio_exchange.specs.Follows.{Follows, Reach}
+use Rattle.aio_exchange.specs.Tells.{Tells}
+use Rattle.aio_exchange.specs.Ways.{changed_on}
+use Rattle.aio_exchange.proofs.Following.{follows_ends, follows_stopped, follows_then, follows_unless, follows_where}
+use Rattle.aio_exchange.proofs.Telling.{tells_changed, tells_end, tells_ends, tells_unless, tells_where}
 use Rattle.aio_task.specs.View.{View}
 use Rattle.aio_change.specs.Owned.{settled_way}
 use Rattle.aio_change.specs.Seen.{seen_changed}

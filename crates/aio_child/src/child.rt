@@ -6,7 +6,7 @@ ghost use Rattle.model_stream.specs.Children as plain;
 ghost use Rattle.model_stream.specs.Receivers as receivers;
 ghost use Rattle.model_stream.specs.Senders as senders;
 ghost use Rattle.model_stream.specs.Watching.{watched_child};
-ghost use Rattle.law_doing.specs.Ways.{changed_on};
+ghost use Rattle.aio_exchange.specs.Ways.{changed_on};
 ghost use Rattle.law_over.specs.Gone.{is_over_child};
 ghost use Rattle.aio_change.specs.Owned.{AreOwn, settled_way};
 ghost use Rattle.aio_change.specs.Seen.{seen_changed};

@@ -17,10 +17,10 @@ use Rattle.model_stream.specs.Sending.{set_eof}
 use Rattle.aio_wire.specs.Outside.{Outside}
 use Rattle.aio_wire.specs.declared.stop.Stop.{Stop}
 use Rattle.aio_exchange.specs.Exchanged.{AsksOne}
-use Rattle.law_doing.specs.Follows.{Follows, Reach}
-use Rattle.law_doing.specs.Tells.{Tells}
-use Rattle.law_doing.proofs.Following.{follows_changed, follows_end, follows_ends, follows_stopped, follows_then, follows_unless, follows_where}
-use Rattle.law_doing.proofs.Telling.{tells_changed, tells_end, tells_ends, tells_follow, tells_unless, tells_where}
+use Rattle.aio_exchange.specs.Follows.{Follows, Reach}
+use Rattle.aio_exchange.specs.Tells.{Tells}
+use Rattle.aio_exchange.proofs.Following.{follows_changed, follows_end, follows_ends, follows_stopped, follows_then, follows_unless, follows_where}
+use Rattle.aio_exchange.proofs.Telling.{tells_changed, tells_end, tells_ends, tells_follow, tells_unless, tells_where}
 use Rattle.aio_task.specs.View.{View}
 use Rattle.aio_change.specs.Seen.{seen_changed}
 use Rattle.aio_change.proofs.AfterAsking.{asks_met, asks_on, asks_starved, asks_told}

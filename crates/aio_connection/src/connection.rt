@@ -6,7 +6,7 @@ ghost use Rattle.model_stream.specs.Doing.{Ends, asked_on, on};
 ghost use Rattle.model_stream.specs.Receivers as receivers;
 ghost use Rattle.model_stream.specs.Senders as senders;
 ghost use Rattle.model_stream.specs.Sending as sending;
-ghost use Rattle.law_doing.specs.Tells.{Tells};
+ghost use Rattle.aio_exchange.specs.Tells.{Tells};
 ghost use Rattle.law_over.specs.Gone.{is_over};
 ghost use Rattle.aio_change.specs.Seen.{seen_changed};
 ghost use Rattle.aio_connection.specs.Lost.{connection_of};

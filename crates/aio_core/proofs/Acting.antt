@@ -24,12 +24,12 @@ use Rattle.model_machine.specs.State.{State, in_loop, noted, unbooked_in}
 use Rattle.model_machine.specs.Step.{step}
 use Rattle.model_machine.specs.Turn.{effect, ran}
 use Rattle.model_machine.specs.Went.{Went, Goes, Stops, state_of}
-use Rattle.law_inside.specs.InStep.{LeavesStateSound}
+use Rattle.law_replies.specs.InStep.{LeavesStateSound}
 use Rattle.law_runs.proofs.Callbacks.{callback_in}
-use Rattle.law_settling.proofs.CancelSound.{plain_within}
-use Rattle.law_timeouts.proofs.Quiet.{handles-first}
-use Rattle.law_kept.proofs.Calls.{kept_settle}
-use Rattle.law_kept.proofs.Telling.{owner_kept}
+use Rattle.law_steps.proofs.CancelSound.{plain_within}
+use Rattle.law_groups.proofs.Quiet.{handles-first}
+use Rattle.refine_parts.proofs.Calls.{kept_settle}
+use Rattle.refine_parts.proofs.Telling.{owner_kept}
 use Rattle.aio_ready.specs.Queue.{soon_all}
 use Rattle.aio_future.specs.Settled as settled
 use Rattle.aio_future.specs.Settled.{called}
@@ -41,15 +41,15 @@ use Rattle.aio_wire.specs.Port.{ported}
 use Rattle.aio_extra.specs.Added.{Added, named_in}
 use Rattle.model_loop.specs.Deadlines.{fires}
 use Rattle.model_machine.specs.Told.{told_by, told_in}
-use Rattle.law_settling.specs.Frames.{is_followed, taken}
+use Rattle.law_steps.specs.Frames.{is_followed, taken}
 use Rattle.law_sound.proofs.Steps.{idle_sound}
 use Rattle.law_turns.specs.SoundState.{HasSoundLoop}
 use Rattle.law_turns.proofs.Turning.{as_told, tells_none}
-use Rattle.law_extras.specs.Allowed.{AreAllowed}
+use Rattle.law_runs.specs.Allowed.{AreAllowed}
 use Rattle.model_machine.specs.Extra.{Extra, ExtraCall, called as called_after}
 use Rattle.aio_task.specs.Keeps.{Ties}
 use Rattle.aio_extra.specs.Called.{CallsAs, IsServed, MayServe}
-use Rattle.law_body.proofs.Adding.{served_of, stands_called}
+use Rattle.aio_body.proofs.Adding.{served_of, stands_called}
 use Rattle.aio_body.specs.declared.body.Body.{Body}
 use Rattle.aio_body.specs.Stands.{Setting, Stands, Possible}
 use Rattle.aio_body.specs.Taken.{IsNext, IsTaken, IsAfterCallback}
@@ -57,14 +57,14 @@ use Rattle.aio_step.specs.declared.steps.Stepped.{Stepped}
 use Rattle.aio_step.specs.declared.steps.Stepped.TheVariants as went
 use Rattle.aio_step.specs.Stepping.{HearsMade, IsCalled, Steps, stepping}
 use Rattle.std.specs.Prelude.{IfOk}
-use Rattle.law_going.proofs.Running.{effect_goes}
-use Rattle.law_machine.proofs.Counts.{goes_on_then}
+use Rattle.law_reach.proofs.Running.{effect_goes}
+use Rattle.law_runs.proofs.Counts.{goes_on_then}
 use Rattle.law_reach.proofs.Rows.{in_callback, in_turn}
 use Rattle.law_reach.specs.Asked.{WentAsks}
 use Rattle.law_reach.specs.Changes.{runner_of}
 use Rattle.law_reach.specs.Reaches.{InRun}
-use Rattle.law_body.proofs.Growing.{row_begins, row_on}
-use Rattle.law_body.proofs.Unasked.{even_told}
+use Rattle.aio_body.proofs.Growing.{row_begins, row_on}
+use Rattle.aio_body.proofs.Unasked.{even_told}
 use Rattle.aio_base.specs.declared.memory.Memory.{Memory}
 use Rattle.aio_wire.specs.declared.stop.Stop.{Stop}
 use Rattle.aio_wire.specs.declared.stop.Stop.TheVariants as stop
@@ -76,12 +76,12 @@ use Rattle.aio_body.specs.Asking.{Comes, ComesBy, WentBegins, before, or_stop}
 use Rattle.aio_streaming.specs.Acting as streaming
 use Rattle.aio_streaming.specs.Acting.{GoesOn}
 use Rattle.aio_core.specs.Running.{StepsBy, acting, goes_as, running_one}
-use Rattle.law_body.proofs.Lasting.{spares_none, stands_on}
-use Rattle.law_body.proofs.Left.{leaves_settle}
-use Rattle.law_body.proofs.May.{same_prop}
-use Rattle.law_body.proofs.Noting.{stands_noted, telling_changes}
-use Rattle.law_body.proofs.Rooms.{below_soon_all}
-use Rattle.law_body.proofs.Sound.{extra_sound}
+use Rattle.aio_body.proofs.Lasting.{spares_none, stands_on}
+use Rattle.aio_body.proofs.Left.{leaves_settle}
+use Rattle.aio_body.proofs.May.{same_prop}
+use Rattle.aio_body.proofs.Noting.{stands_noted, telling_changes}
+use Rattle.aio_body.proofs.Rooms.{below_soon_all}
+use Rattle.aio_body.proofs.Sound.{extra_sound}
 
 module _ {X : Type 0} {a : Added X} where
   -- ---- it is noted that it runs

@@ -14,7 +14,7 @@ use Rattle.model_machine.specs.Extra.{Extra}
 use Rattle.model_machine.specs.State.{State}
 use Rattle.model_machine.specs.Turn.{turn}
 use Rattle.model_machine.specs.Went.{Went, Goes, Stops, state_of}
-use Rattle.law_machine.proofs.Turns.{turn-grows}
+use Rattle.law_runs.proofs.Turns.{turn-grows}
 use Rattle.aio_wire.specs.EventList.{EventList}
 use Rattle.aio_wire.specs.Outside.{Outside}
 use Rattle.aio_wire.specs.Port.{Exchanges, StopsShort, outcome_of, ported}
@@ -32,8 +32,8 @@ use Rattle.aio_extra.specs.Added.{Added}
 use Rattle.aio_body.specs.declared.body.Body.{Body}
 use Rattle.aio_body.specs.Asking.{Comes, ComesBy, GoesOn, RestFits, StopsWith, before}
 use Rattle.aio_body.specs.Stands.{Setting, IsBetween}
-use Rattle.law_body.proofs.Answering.{between_again}
-use Rattle.law_body.specs.Answers.{with_answers}
+use Rattle.aio_body.proofs.Answering.{between_again}
+use Rattle.aio_body.specs.Answers.{with_answers}
 use Rattle.aio_core.specs.declared.went.Went as code
 use Rattle.aio_core.specs.declared.went.Went.TheVariants as went
 use Rattle.aio_core.specs.Asked.{Asks, AsksOnce}

@@ -34,8 +34,8 @@ use Rattle.aio_wire.specs.declared.wire.Reply.TheVariants as reply
 use Rattle.aio_extra.specs.Added.{Added}
 use Rattle.aio_body.specs.declared.body.Body.{Body}
 use Rattle.aio_body.specs.Stands.{Setting, IsBetween, Possible}
-use Rattle.law_body.proofs.Answering.{stands_again}
-use Rattle.law_body.proofs.Noting.{counted, stands_noted}
+use Rattle.aio_body.proofs.Answering.{stands_again}
+use Rattle.aio_body.proofs.Noting.{counted, stands_noted}
 use Rattle.aio_core.specs.declared.went.Went as code
 use Rattle.aio_core.specs.declared.went.Went.TheVariants as went
 use Rattle.aio_core.specs.Watched.{StandsOn}

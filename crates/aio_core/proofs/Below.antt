@@ -22,13 +22,13 @@ use Rattle.aio_extra.specs.Added.{Added, named_in}
 use Rattle.aio_body.specs.declared.body.Body.{Body}
 use Rattle.aio_body.specs.Stands.{Setting, IsBetween}
 use Rattle.aio_body.specs.Taken.{IsNext}
-use Rattle.law_handles.specs.Runs.{IsPastBar, Runs, Skips}
-use Rattle.law_handles.proofs.Running.{count_early}
-use Rattle.law_handles.proofs.Skipping.{keeps_next}
-use Rattle.law_body.proofs.Lasting.{spares_none, stands_left}
-use Rattle.law_body.proofs.Leaving.{Leaves}
-use Rattle.law_body.proofs.Left.{leaves_handles}
-use Rattle.law_body.proofs.Sound.{dead_sound, extra_sound}
+use Rattle.refine_parts.specs.Runs.{IsPastBar, Runs, Skips}
+use Rattle.refine_parts.proofs.Running.{count_early}
+use Rattle.refine_parts.proofs.Skipping.{keeps_next}
+use Rattle.aio_body.proofs.Lasting.{spares_none, stands_left}
+use Rattle.aio_body.proofs.Leaving.{Leaves}
+use Rattle.aio_body.proofs.Left.{leaves_handles}
+use Rattle.aio_body.proofs.Sound.{dead_sound, extra_sound}
 
 -- the state with these handles pending
 abbrev pub with_pending : {S : Type 0} → List Handle → State S → State S

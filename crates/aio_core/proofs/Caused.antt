@@ -22,7 +22,7 @@ use Rattle.aio_extra.specs.Added.{Added}
 use Rattle.aio_body.specs.declared.body.Body.{Body}
 use Rattle.aio_body.specs.Asking.{Comes, ComesBy}
 use Rattle.aio_body.specs.Stands.{Setting}
-use Rattle.law_body.specs.Answers.{with_answers}
+use Rattle.aio_body.specs.Answers.{with_answers}
 use Rattle.aio_core.specs.declared.went.Went as code
 use Rattle.aio_core.specs.declared.went.Went.TheVariants as went
 use Rattle.aio_core.specs.Turning.{HasCause, IsAtRest, Turned, resting, said_by, turning}

@@ -26,8 +26,8 @@ use Rattle.aio_extra.specs.Added.{Added}
 use Rattle.aio_body.specs.declared.body.Body.{Body}
 use Rattle.aio_body.specs.Asking.{Comes, ComesBy, EndsAs, RestFits, StopsWith, before}
 use Rattle.aio_body.specs.Stands.{Setting, IsBetween, Possible}
-use Rattle.law_body.proofs.Answering.{between_again}
-use Rattle.law_body.specs.Answers.{with_answers}
+use Rattle.aio_body.proofs.Answering.{between_again}
+use Rattle.aio_body.specs.Answers.{with_answers}
 use Rattle.aio_core.specs.declared.went.Went as code
 use Rattle.aio_core.specs.declared.went.Went.TheVariants as went
 use Rattle.aio_core.specs.Turning.{AliveIfWent, AnyLeft, ComesTo, EndsFrom, EndsTelling, Is, IsAtRest, IsFinished, IsMismatch, NextIs, NoneLeft, StallsAs}

@@ -10,7 +10,7 @@ use Rattle.model_machine.specs.State.{State, unbooked_in}
 use Rattle.model_machine.specs.Outcomes.{finished_as}
 use Rattle.model_machine.specs.Turn.{cancelled_if, finished_if, run_pending, turn_over, turned_by, woken_by}
 use Rattle.model_machine.specs.Went.{Went, Goes, Stops, state_of, went_on}
-use Rattle.law_going.proofs.Turning.{turned_row}
+use Rattle.law_reach.proofs.Turning.{turned_row}
 use Rattle.law_reach.proofs.Rows.{in_turn}
 use Rattle.aio_base.specs.declared.memory.Memory.{Memory}
 use Rattle.aio_wire.specs.Outside.{Outside}
@@ -28,10 +28,10 @@ use Rattle.aio_body.proofs.Asking.{comes_without}
 use Rattle.aio_body.specs.declared.body.Body.{Body}
 use Rattle.aio_body.specs.Asking.{Comes, ComesBy, Piece, WentBegins, before, or_stop}
 use Rattle.aio_body.specs.Stands.{Setting, IsBetween, Possible}
-use Rattle.law_body.proofs.Answering.{alive_come, between_again}
-use Rattle.law_body.proofs.Growing.{OnlyAdds, row_begins, went_begins}
-use Rattle.law_body.proofs.Unasked.{told_so}
-use Rattle.law_body.specs.Answers.{with_answers}
+use Rattle.aio_body.proofs.Answering.{alive_come, between_again}
+use Rattle.aio_body.proofs.Growing.{OnlyAdds, row_begins, went_begins}
+use Rattle.aio_body.proofs.Unasked.{told_so}
+use Rattle.aio_body.specs.Answers.{with_answers}
 use Rattle.aio_core.specs.declared.went.Went as Said
 use Rattle.aio_core.specs.declared.went.Went.TheVariants as went
 use Rattle.aio_core.specs.Running.{running}

@@ -15,7 +15,7 @@ use Rattle.model_machine.specs.Outcomes.{input_of, woken_with}
 use Rattle.model_machine.specs.Sound.{sends_made}
 use Rattle.model_machine.specs.State.{State, noted, unbooked_in}
 use Rattle.law_runs.proofs.Callbacks.{woken_made}
-use Rattle.law_kept.proofs.Telling.{outcome_kept}
+use Rattle.refine_parts.proofs.Telling.{outcome_kept}
 use Rattle.aio_task.specs.View.{parts}
 use Rattle.aio_extra.specs.Added.{Added}
 use Rattle.aio_body.specs.declared.body.Body.{Body}

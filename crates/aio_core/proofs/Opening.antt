@@ -17,8 +17,8 @@ use Rattle.model_loop.specs.Tasks.{cancelling, future_of, lives, spawn}
 use Rattle.model_machine.specs.Replies.{most_ids}
 use Rattle.model_machine.specs.State as machine
 use Rattle.model_machine.specs.State.{generator, start}
-use Rattle.law_kept.proofs.Calls.{kept_register, kept_spawn}
-use Rattle.law_machine.proofs.Beginning.{begins_sound}
+use Rattle.refine_parts.proofs.Calls.{kept_register, kept_spawn}
+use Rattle.law_runs.proofs.FirstState.{begins_sound}
 use Rattle.aio_ready.specs.Queue as queue
 use Rattle.aio_ready.specs.Queue.{no_handles}
 use Rattle.aio_future.specs.Settled.{registered, soon_if_done}

@@ -11,7 +11,7 @@ use Rattle.model_machine.specs.Extra.{Extra}
 use Rattle.model_machine.specs.State.{State, noted}
 use Rattle.model_machine.specs.Turn.{effect, next_below, run_below, run_first, run_if}
 use Rattle.model_machine.specs.Went.{Went, Goes, Stops, state_of, went_on}
-use Rattle.law_going.proofs.Turning.{first_turns}
+use Rattle.law_reach.proofs.Turning.{first_turns}
 use Rattle.law_reach.proofs.Rows.{in_turn}
 use Rattle.aio_ready.specs.Queue as queue
 use Rattle.aio_ready.specs.declared.handle.Handle.{Handle as QueueHandle}
@@ -30,10 +30,10 @@ use Rattle.aio_body.specs.declared.body.Body.{Body}
 use Rattle.aio_body.specs.Asking.{Comes, Piece, WentBegins, before}
 use Rattle.aio_body.specs.Stands.{Setting, IsBetween, Possible}
 use Rattle.aio_body.specs.Taken.{IsNext}
-use Rattle.law_body.proofs.Answering.{alive_come, between_again}
-use Rattle.law_body.proofs.Growing.{OnlyAdds, row_begins, went_begins}
-use Rattle.law_body.proofs.Over.{comes_over, over}
-use Rattle.law_body.specs.Answers.{with_answers}
+use Rattle.aio_body.proofs.Answering.{alive_come, between_again}
+use Rattle.aio_body.proofs.Growing.{OnlyAdds, row_begins, went_begins}
+use Rattle.aio_body.proofs.Over.{comes_over, over}
+use Rattle.aio_body.specs.Answers.{with_answers}
 use Rattle.aio_core.specs.Running.{running, running_one}
 use Rattle.aio_core.specs.Turning.{at_bar}
 use Rattle.aio_core.proofs.Below.{IsRunning, left_by, next_none, next_runs, skipped}

@@ -4,9 +4,9 @@ use Rattle.model_wire.specs.Event.{Event}
 use Rattle.model_wire.specs.Journal.{Entry}
 use Rattle.model_machine.specs.State.{State}
 use Rattle.law_runs.proofs.Turning.{mids_in}
-use Rattle.law_ends.proofs.Leaving.{turn_in}
+use Rattle.law_runs.proofs.Leaving.{turn_in}
 use Rattle.aio_extra.specs.Added.{Added}
-use Rattle.law_body.proofs.Sound.{extra_sound}
+use Rattle.aio_body.proofs.Sound.{extra_sound}
 use Rattle.aio_core.specs.declared.kernel.Kernel.{Kernel}
 use Rattle.aio_core.specs.Sound.{IsTurnSound}
 use Rattle.aio_core.specs.Turned.{StandsFor}

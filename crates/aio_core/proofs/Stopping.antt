@@ -19,24 +19,24 @@ use Rattle.model_machine.specs.Told.{told_in}
 use Rattle.model_machine.specs.State.{State, in_loop}
 use Rattle.model_machine.specs.Turn.{finished_if}
 use Rattle.law_sound.proofs.Steps.{end_of_run_sound}
-use Rattle.law_after.specs.After.{IsLoopAfter}
-use Rattle.law_after.proofs.Loops.{book_loop}
-use Rattle.law_after.proofs.Requests.{each_after}
-use Rattle.law_inside.proofs.Nobody.{nobody, over_as}
-use Rattle.law_kept.proofs.Calls.{kept_request}
-use Rattle.law_kept.proofs.Requesting.{each_one}
-use Rattle.law_kept.proofs.Telling.{future_of_kept, outcome_kept, pending_kept}
+use Rattle.law_turns.specs.After.{IsLoopAfter}
+use Rattle.law_turns.proofs.Loops.{book_loop}
+use Rattle.law_turns.proofs.Requests.{each_after}
+use Rattle.law_replies.proofs.Nobody.{nobody, over_as}
+use Rattle.refine_parts.proofs.Calls.{kept_request}
+use Rattle.refine_parts.proofs.Requesting.{each_one}
+use Rattle.refine_parts.proofs.Telling.{future_of_kept, outcome_kept, pending_kept}
 use Rattle.aio_cancel.specs.Awaitables.{Appended}
 use Rattle.aio_task.specs.View.{View, parts}
 use Rattle.aio_extra.specs.Added.{Added, named_in}
 use Rattle.aio_body.specs.declared.body.Body.{Body}
 use Rattle.aio_body.specs.Stands.{Setting, Stands, IsBetween, Possible}
 use Rattle.aio_body.specs.Taken.{IsAfterCallback}
-use Rattle.law_body.proofs.Lasting.{spares_none, stands_on}
-use Rattle.law_body.proofs.Left.{leaves_request}
-use Rattle.law_body.proofs.May.{same_prop}
-use Rattle.law_body.proofs.Rooms.{below_appended}
-use Rattle.law_body.proofs.Telling.{own_stays}
+use Rattle.aio_body.proofs.Lasting.{spares_none, stands_on}
+use Rattle.aio_body.proofs.Left.{leaves_request}
+use Rattle.aio_body.proofs.May.{same_prop}
+use Rattle.aio_body.proofs.Rooms.{below_appended}
+use Rattle.aio_body.proofs.Telling.{own_stays}
 use Rattle.aio_core.specs.declared.went.Went as Said
 use Rattle.aio_core.specs.declared.went.Went.TheVariants as went
 use Rattle.aio_core.specs.Turning.{Turned}

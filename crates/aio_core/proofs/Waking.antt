@@ -20,10 +20,10 @@ use Rattle.model_loop.specs.Parts.{Parts, Timer}
 use Rattle.model_machine.specs.Outside.{news_of, select, time_of}
 use Rattle.model_machine.specs.State.{State, unbooked_in}
 use Rattle.model_machine.specs.Turn.{is_stalled, longest_wait, wait_of, watched_by, woken_by}
-use Rattle.law_handles.proofs.Appending.{kept_soon_all, waiting_kept}
-use Rattle.law_handles.proofs.Running.{keeps_barred}
-use Rattle.law_handles.proofs.Scheduling.{due_ties, keeps_fallen, stall_kept, wait_kept}
-use Rattle.law_handles.specs.Waiting.{is_none_watched, stalls_by, wait_by}
+use Rattle.refine_parts.proofs.Appending.{kept_soon_all, waiting_kept}
+use Rattle.refine_parts.proofs.Running.{keeps_barred}
+use Rattle.refine_parts.proofs.Scheduling.{due_ties, keeps_fallen, stall_kept, wait_kept}
+use Rattle.refine_parts.specs.Waiting.{is_none_watched, stalls_by, wait_by}
 use Rattle.law_runs.proofs.Turning.{woken_in}
 use Rattle.aio_ready.specs.Queue as queue
 use Rattle.aio_timer.specs.Schedule as schedule
@@ -37,9 +37,9 @@ use Rattle.aio_task.specs.Keeps.{Ties, Keeps, Knows, ByTimer, handle_as}
 use Rattle.aio_extra.specs.Added.{Added, GoesBeside, named_in}
 use Rattle.aio_body.specs.declared.body.Body.{Body}
 use Rattle.aio_body.specs.Stands.{Setting, Stands, IsBetween, IsOwnSleep, Possible}
-use Rattle.law_body.proofs.Lasting.{parts_change, spares_none, stands_left}
-use Rattle.law_body.proofs.Left.{leaves_handles}
-use Rattle.law_body.proofs.May.{same_prop}
+use Rattle.aio_body.proofs.Lasting.{parts_change, spares_none, stands_left}
+use Rattle.aio_body.proofs.Left.{leaves_handles}
+use Rattle.aio_body.proofs.May.{same_prop}
 use Rattle.aio_core.specs.Turning.{IsTime, all_below}
 
 -- ---- what fits is a time

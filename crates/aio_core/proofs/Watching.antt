@@ -9,7 +9,7 @@ use Rattle.model_stream.specs.Watching.{entry_if, watch_list}
 use Rattle.model_machine.specs.Extra.{Extra}
 use Rattle.model_machine.specs.State.{State}
 use Rattle.model_machine.specs.Turn.{watched_by}
-use Rattle.law_handles.specs.Waiting.{is_none_watched}
+use Rattle.refine_parts.specs.Waiting.{is_none_watched}
 use Rattle.aio_transports.specs.Kept.{Kept}
 use Rattle.aio_transports.specs.Standing.{StandsFor as AreTransports}
 use Rattle.aio_extra.specs.Added.{Added}

@@ -3,8 +3,8 @@ use Rattle.model_says.specs.Says.{step_limit}
 use Rattle.model_machine.specs.Mids.{mids}
 use Rattle.model_machine.specs.State.{State}
 use Rattle.model_machine.specs.Turn.{turn}
-use Rattle.law_inside.specs.InStep.{AreStatesSound}
-use Rattle.law_ends.specs.Ends.{IsLeftSound}
+use Rattle.law_replies.specs.InStep.{AreStatesSound}
+use Rattle.law_runs.specs.Ends.{IsLeftSound}
 use Rattle.aio_extra.specs.Added.{Added}
 
 -- Of the machine's turn from this state: each state between two callbacks is sound, and so is the one after it, where the run

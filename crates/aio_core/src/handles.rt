@@ -6,7 +6,7 @@ ghost use Rattle.model_loop.specs.Circles.{circle_fault as plain_circle_fault};
 ghost use Rattle.model_machine.specs.Outcomes.{woken_with as plain_woken_with};
 ghost use Rattle.model_machine.specs.State.{State};
 ghost use Rattle.model_machine.specs.Turn.{effect as plain_effect};
-ghost use Rattle.law_trees.specs.Trees.{is_of_streams};
+ghost use Rattle.law_cases.specs.Trees.{is_of_streams};
 ghost use Rattle.law_reach.specs.Changes.{runner_of};
 ghost use Rattle.aio_wire.specs.Events.{pushed};
 ghost use Rattle.aio_wire.specs.Port.{ported};

@@ -8,7 +8,7 @@ ghost use Rattle.model_machine.specs.State.{State, in_loop, unbooked_in};
 ghost use Rattle.model_machine.specs.Turn.{cancelled_if, finished_if, turn_over, woken_by};
 ghost use Rattle.model_machine.specs.Turn.{call_of, is_stalled as plain_is_stalled, wait_of, watched_by};
 ghost use Rattle.model_stream.specs.Watching.{entry_if};
-ghost use Rattle.law_handles.specs.Waiting.{is_none_watched};
+ghost use Rattle.refine_parts.specs.Waiting.{is_none_watched};
 ghost use Rattle.aio_wire.specs.Port.{PortAsked, ported};
 ghost use Rattle.aio_body.specs.Asking.{Comes};
 ghost use Rattle.aio_body.specs.Stands.{Setting, IsBetween, Possible};

@@ -19,12 +19,12 @@ use Rattle.model_program.specs.Runs.{run}
 use Rattle.model_machine.specs.State.{State, start}
 use Rattle.model_machine.specs.Turn.{is_stalled, turn}
 use Rattle.model_machine.specs.Went.{Went, Goes, Stops, answers_in, state_of}
-use Rattle.law_machine.proofs.Turns.{run-grows}
+use Rattle.law_runs.proofs.Turns.{run-grows}
 use Rattle.aio_wire.specs.Told.{refused_of}
 use Rattle.aio_wire.specs.declared.stop.Stop.TheVariants as stop
 use Rattle.aio_extra.specs.Nothing.{nothing_added}
 use Rattle.aio_extra.specs.declared.nothing.NoExtra.{NoExtra}
-use Rattle.law_machine.specs.Growth as growth
+use Rattle.law_runs.specs.Growth as growth
 use Rattle.aio_core.specs.Turned.{Begins, Ends, EndsAs, GoesOn, StandsFor, TurnsTo, held_tasks, stood_for, untaken}
 use Rattle.aio_core.specs.Asked.{Asks}
 use Rattle.aio_core.specs.Turning.{AnyLeft, AsksBy, Is, IsFinished, IsMismatch, IsStarved, Takes, WireTurn}

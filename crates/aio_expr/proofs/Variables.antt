@@ -3,8 +3,8 @@ use Rattle.std.proofs.Common.{◌≡◌, ℕ, zero, suc, ◌+◌, true, false, L
 use Rattle.std.specs.Str.{bytes_eq}
 use Rattle.model_value.specs.Value.{Value}
 use Rattle.model_says.specs.Variables.{Binding, held, assigned}
-use Rattle.law_locals.specs.Numbered.{local, holding}
-use Rattle.law_locals.proofs.Environments.{chosen-same, same-local, other-local}
+use Rattle.algorithm_locals.specs.Numbered.{local, holding}
+use Rattle.algorithm_locals.proofs.Environments.{chosen-same, same-local, other-local}
 use Rattle.aio_expr.specs.Values.{value_in}
 
 held-from : (values : List Value) (number from : ℕ) → held (holding from values) (local (from + number)) ≡ value_in values number

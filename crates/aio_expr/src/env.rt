@@ -2,7 +2,7 @@
 ghost use Rattle.std.specs.Prelude.{◌≡◌, IfOk, IfSome, slice_set};
 ghost use Rattle.model_value.specs.Value.{Int};
 ghost use Rattle.model_says.specs.Variables.{held, assigned};
-ghost use Rattle.law_locals.specs.Numbered.{holding};
+ghost use Rattle.algorithm_locals.specs.Numbered.{holding};
 ghost use Rattle.aio_expr.specs.Values.{value_in};
 
 use crate::local::Local;
@@ -21,7 +21,7 @@ impl Model for Env {
     ghost use Rattle.std.specs.Prelude.{List};
     ghost use Rattle.model_says.specs.Variables as variables;
     ghost use Rattle.aio_expr.specs.BindingCode.{coded_env};
-    ghost use Rattle.law_locals.specs.Numbered.{holding};
+    ghost use Rattle.algorithm_locals.specs.Numbered.{holding};
 
     ghost Value = { List variables.Binding };
 

@@ -1,6 +1,6 @@
 //! Variables by their numbers.
 ghost use Rattle.std.specs.Prelude.{◌≡◌};
-ghost use Rattle.law_locals.specs.Numbered.{local};
+ghost use Rattle.algorithm_locals.specs.Numbered.{local};
 
 use std::marker::Model;
 
@@ -15,7 +15,7 @@ impl Model for Local {
     ghost use Rattle.std.specs.Prelude.{slice_index_or};
     ghost use Rattle.std.specs.Coded.{coded_list, coded_ℕ};
     ghost use Rattle.model_tree.specs.Syntax as plain;
-    ghost use Rattle.law_locals.specs.Numbered.{local};
+    ghost use Rattle.algorithm_locals.specs.Numbered.{local};
 
     ghost Value = { plain.Name };
 

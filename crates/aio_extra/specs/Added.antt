@@ -6,7 +6,7 @@ use Rattle.model_loop.specs.Parts.{Parts}
 use Rattle.model_stream.specs.Kept.{times_asked}
 use Rattle.model_machine.specs.Extra.{Extra, WakesFall}
 use Rattle.model_machine.specs.State.{State}
-use Rattle.law_extras.specs.Allowed.{MakesAllowedSteps}
+use Rattle.law_runs.specs.Allowed.{MakesAllowedSteps}
 use Rattle.aio_task.specs.Keeps.{Ties}
 
 -- The loop goes on beside what is added: tags are known as before, what it made stays what it was, and of its own futures

@@ -2,7 +2,7 @@
 use Rattle.std.specs.Prelude.{refl, Option, Some, None}
 use Rattle.std.proofs.Common.{subst}
 use Rattle.model_machine.specs.Extra.{WakesFall, no_extra}
-use Rattle.law_extras.specs.Allowed.{MakesAllowedSteps}
+use Rattle.law_runs.specs.Allowed.{MakesAllowedSteps}
 use Rattle.aio_extra.specs.Added.{Added}
 
 -- it makes no steps

@@ -4,10 +4,10 @@ use Rattle.std.proofs.lemmas.List.{length-set}
 use Rattle.model_tree.specs.Syntax.{Name, Expr, Target, Await, Call, Ask, SpawnTask, CreateTask, ListenAt, Manager, GroupBlock, TimeoutBlock, Statement, Assign}
 use Rattle.model_tree.specs.Syntax.{Yield, YieldFrom, Print, Raise, Return, Pass, If, While, Try, With, Statements, Branch, Handlers, Handler, statements}
 use Rattle.model_tree.specs.Syntax.{handlers, Program}
-use Rattle.law_flat.specs.declared.op.Op.TheVariants as op
-use Rattle.law_flat.specs.Ops.{Op, Clause, Range, CoroutineCode, Has, Covers}
-use Rattle.law_flat.specs.Laid.{target_op, enter_op, exit_op, LaidOne, Laid, LaidAll, LaidBranch, LaidHandlers}
-use Rattle.law_locals.specs.Numbered.{numbered_manager, numbered_statement, numbered_statements, numbered_handlers}
+use Rattle.algorithm_flat.specs.declared.op.Op.TheVariants as op
+use Rattle.algorithm_flat.specs.Ops.{Op, Clause, Range, CoroutineCode, Has, Covers}
+use Rattle.algorithm_flat.specs.Laid.{target_op, enter_op, exit_op, LaidOne, Laid, LaidAll, LaidBranch, LaidHandlers}
+use Rattle.algorithm_locals.specs.Numbered.{numbered_manager, numbered_statement, numbered_statements, numbered_handlers}
 use Rattle.aio_flat.specs.Grows.{Grows, with_op, with_range, put_op, jump_of, GoesForward}
 use Rattle.aio_flat.specs.Built.{single_op, LaidElse, LaidClause, numbered_handler}
 use Rattle.aio_flat.proofs.Grows.{length-push, some-is, grows-op, grows-range, grows-so, grows-then, grows-put}

@@ -4,12 +4,12 @@ use Rattle.std.proofs.lemmas.Option.{slice_get_within, slice_get_past}
 use Rattle.model_tree.specs.Syntax.{Coroutine, Program}
 use Rattle.model_says.specs.Variables.{variables_of}
 use Rattle.model_says.specs.Requests.{coroutine_or_none}
-use Rattle.law_locals.specs.Numbered.{locals, numbered_coroutine, numbered_program}
-use Rattle.law_locals.proofs.Coroutines.{variables-same}
-use Rattle.law_flat.specs.declared.op.Op.TheVariants as op
-use Rattle.law_flat.specs.Laid.{LaidAll}
-use Rattle.law_flat.specs.Nearer.{JumpsForward}
-use Rattle.law_flat.specs.Stands.{LaidOut}
+use Rattle.algorithm_locals.specs.Numbered.{locals, numbered_coroutine, numbered_program}
+use Rattle.algorithm_locals.proofs.Coroutines.{variables-same}
+use Rattle.algorithm_flat.specs.declared.op.Op.TheVariants as op
+use Rattle.algorithm_flat.specs.Laid.{LaidAll}
+use Rattle.algorithm_flat.specs.Nearer.{JumpsForward}
+use Rattle.algorithm_flat.specs.Stands.{LaidOut}
 use Rattle.aio_flat.specs.declared.code.FlatBody.{FlatBody}
 use Rattle.aio_flat.specs.Code.{codes_in, IsBodyOf, AreBodiesOf}
 

@@ -4,9 +4,9 @@ use Rattle.std.proofs.Common.{◌∙◌, ap, subst, arith, length-append}
 use Rattle.std.proofs.lemmas.Bool.{cases_lt}
 use Rattle.std.proofs.lemmas.List.{length-set}
 use Rattle.std.proofs.lemmas.Option.{slice_get_within}
-use Rattle.law_flat.specs.declared.op.Op.TheVariants as op
-use Rattle.law_flat.specs.Ops.{Op, Range, CoroutineCode, Has, Covers}
-use Rattle.law_flat.specs.Nearer.{JumpsForward}
+use Rattle.algorithm_flat.specs.declared.op.Op.TheVariants as op
+use Rattle.algorithm_flat.specs.Ops.{Op, Range, CoroutineCode, Has, Covers}
+use Rattle.algorithm_flat.specs.Nearer.{JumpsForward}
 use Rattle.aio_flat.specs.Grows.{Grows, with_op, with_range, put_op, jump_of, GoesForward}
 
 -- ---- lists

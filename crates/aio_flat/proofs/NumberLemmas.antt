@@ -7,7 +7,7 @@ use Rattle.std.specs.BTreeMap as tree
 use Rattle.std.proofs.lemmas.Map.Text.{btree_map_updates_str}
 use denote.Ref.{Bor}
 use Rattle.model_tree.specs.Syntax.{Name}
-use Rattle.law_locals.specs.Numbered.{number_of}
+use Rattle.algorithm_locals.specs.Numbered.{number_of}
 use Rattle.aio_flat.specs.Numbers.{HasNumbers}
 use Rattle.aio_flat.proofs.PlaceLemmas.{first-or-later}
 

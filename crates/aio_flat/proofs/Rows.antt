@@ -1,7 +1,7 @@
 -- Lists of expressions over numbers.
 use Rattle.std.proofs.Common.{◌≡◌, List, [], ◌∷◌, map, refl, ap}
 use Rattle.model_tree.specs.Syntax.{Name, Expr, Exprs, exprs, exprs_of, expr_then}
-use Rattle.law_locals.specs.Numbered.{numbered_expr, numbered_exprs}
+use Rattle.algorithm_locals.specs.Numbered.{numbered_expr, numbered_exprs}
 
 pub numbered_list : (names : List Name) (items : List Expr) → exprs_of (numbered_exprs names (exprs items)) ≡ map (numbered_expr names) items
 numbered_list names [] = refl

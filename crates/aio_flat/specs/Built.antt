@@ -1,10 +1,10 @@
 -- Code as it is laid, statement by statement. Its variables come last.
 use Rattle.std.specs.Prelude.{◌≡◌, ℕ, ◌+◌, List, [], length, Option, Some, None}
 use Rattle.model_tree.specs.Syntax.{Name, exprs_of, Statement, Assign, Yield, YieldFrom, Print, Raise, Return, Pass, Branch, Handler, Program}
-use Rattle.law_flat.specs.declared.op.Op.TheVariants as op
-use Rattle.law_flat.specs.Ops.{Op, Clause, CoroutineCode, Has}
-use Rattle.law_flat.specs.Laid.{target_op, LaidAll, LaidBranch}
-use Rattle.law_locals.specs.Numbered.{numbered_option, numbered_statements}
+use Rattle.algorithm_flat.specs.declared.op.Op.TheVariants as op
+use Rattle.algorithm_flat.specs.Ops.{Op, Clause, CoroutineCode, Has}
+use Rattle.algorithm_flat.specs.Laid.{target_op, LaidAll, LaidBranch}
+use Rattle.algorithm_locals.specs.Numbered.{numbered_option, numbered_statements}
 use Rattle.aio_flat.specs.declared.builder.BodyBuilder.{BodyBuilder}
 use Rattle.aio_flat.specs.Grows.{Grows}
 

@@ -2,10 +2,10 @@
 use Rattle.std.specs.Prelude.{◌≡◌, ℕ, List, [], ◌∷◌, Option, Some, None, length, map, slice_get}
 use Rattle.model_tree.specs.Syntax.{Coroutine, Program}
 use Rattle.model_says.specs.Variables.{variables_of}
-use Rattle.law_locals.specs.Numbered.{locals, numbered_coroutine, numbered_program}
-use Rattle.law_flat.specs.Ops.{CoroutineCode}
-use Rattle.law_flat.specs.Laid.{LaidAll}
-use Rattle.law_flat.specs.Stands.{AllLaidOut}
+use Rattle.algorithm_locals.specs.Numbered.{locals, numbered_coroutine, numbered_program}
+use Rattle.algorithm_flat.specs.Ops.{CoroutineCode}
+use Rattle.algorithm_flat.specs.Laid.{LaidAll}
+use Rattle.algorithm_flat.specs.Stands.{AllLaidOut}
 use Rattle.aio_flat.specs.declared.code.FlatBody.{FlatBody}
 use Rattle.aio_flat.specs.declared.code.Code.{Code}
 

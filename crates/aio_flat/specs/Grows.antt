@@ -1,8 +1,8 @@
 -- Code that is laid at the end of a body, and what is then known of every code that has these operations and ranges.
 use Rattle.std.specs.Prelude.{◌≡◌, ℕ, ◌<◌, ◌≤◌, List, [], ◌∷◌, ◌++◌, length, slice_get, slice_set, Option, Some, None}
-use Rattle.law_flat.specs.declared.op.Op.TheVariants as op
-use Rattle.law_flat.specs.Ops.{Op, Range, CoroutineCode}
-use Rattle.law_flat.specs.Nearer.{JumpsForward}
+use Rattle.algorithm_flat.specs.declared.op.Op.TheVariants as op
+use Rattle.algorithm_flat.specs.Ops.{Op, Range, CoroutineCode}
+use Rattle.algorithm_flat.specs.Nearer.{JumpsForward}
 
 -- the lists agree from one place up to another
 abbrev pub Agrees : {A : Type 0} → (whole part : List A) → (from upto : ℕ) → Type 0

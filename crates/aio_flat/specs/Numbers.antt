@@ -5,7 +5,7 @@ use Rattle.std.specs.Cmp.Lexicographic.{slice_cmp}
 use Rattle.std.specs.BTreeMap as tree
 use denote.Ref.{Bor}
 use Rattle.model_tree.specs.Syntax.{Name}
-use Rattle.law_locals.specs.Numbered.{number_of}
+use Rattle.algorithm_locals.specs.Numbered.{number_of}
 
 -- The map has the number of the first of each name among these, which are numbered from one on. A name that is missing
 -- has the number past the last.

@@ -1,18 +1,18 @@
-//! Code of bodies: the operations and ranges of `law_flat`, over types that own what they name.
-//! Variables go by their numbers.
+//! Code of bodies: the operations and ranges of `algorithm_flat`, over types that own what they
+//! name. Variables go by their numbers.
 ghost use Rattle.std.specs.Prelude.{◌≡◌};
 
 use aio_expr::{FlatExpr, FlatExprList, Local};
 use std::marker::Model;
 
 /// An operation of flat code.
-pub type Op = law_flat::Op<Local, FlatExpr, FlatExprList>;
+pub type Op = algorithm_flat::Op<Local, FlatExpr, FlatExprList>;
 
 /// An `except` clause.
-pub type Clause = law_flat::Clause<Local>;
+pub type Clause = algorithm_flat::Clause<Local>;
 
 /// What handles the ways out of a `try` or a `with`.
-pub type Range = law_flat::Range<ClauseList>;
+pub type Range = algorithm_flat::Range<ClauseList>;
 
 /// Clauses in order. Contracts see them as a list.
 #[derive(Drop)]
@@ -22,7 +22,7 @@ pub struct ClauseList {
 
 impl Model for ClauseList {
     ghost use Rattle.std.specs.Prelude.{List};
-    ghost use Rattle.law_flat.specs.Ops as plain;
+    ghost use Rattle.algorithm_flat.specs.Ops as plain;
 
     ghost Value = { List plain.Clause };
 

@@ -1,6 +1,6 @@
 //! The code of a program.
-ghost use Rattle.law_flat.specs.Nearer.{JumpsForward};
-ghost use Rattle.law_locals.specs.Numbered.{locals};
+ghost use Rattle.algorithm_flat.specs.Nearer.{JumpsForward};
+ghost use Rattle.algorithm_locals.specs.Numbered.{locals};
 
 use crate::body::{Op, Range};
 use crate::name::Name;

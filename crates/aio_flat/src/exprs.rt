@@ -1,7 +1,7 @@
 //! Expressions, whose variables get their numbers. Texts are shared with the program, and not
 //! copied.
 ghost use Rattle.std.specs.Prelude.{◌≡◌, IfOk, map};
-ghost use Rattle.law_locals.specs.Numbered.{numbered_expr};
+ghost use Rattle.algorithm_locals.specs.Numbered.{numbered_expr};
 ghost use Rattle.aio_syntax.specs.Constant.{constant_of};
 
 use crate::numbers::Numbers;

@@ -2,8 +2,8 @@
 //! it may stand there.
 ghost use Rattle.std.specs.Prelude.{◌≡◌, IfOk, OnOk, option_copied};
 ghost use Rattle.model_tree.specs.Syntax.{If, While, Try, With, statements, handlers};
-ghost use Rattle.law_flat.specs.Laid.{Laid, LaidAll, LaidBranch, LaidHandlers};
-ghost use Rattle.law_locals.specs.Numbered.{numbered_statement, numbered_statements, numbered_branch, numbered_handlers};
+ghost use Rattle.algorithm_flat.specs.Laid.{Laid, LaidAll, LaidBranch, LaidHandlers};
+ghost use Rattle.algorithm_locals.specs.Numbered.{numbered_statement, numbered_statements, numbered_branch, numbered_handlers};
 ghost use Rattle.aio_program.specs.Target.{plain_branch, plain_manager};
 ghost use Rattle.std.specs.Rc.{rc_str_bytes};
 ghost use Rattle.aio_flat.specs.Built.{built, Lays, LaidElse, LaidClause, single_op, numbered_handler};

@@ -1,6 +1,6 @@
 //! The variables of a coroutine by their names.
 ghost use Rattle.std.specs.Prelude.{◌≡◌, IfOk, length};
-ghost use Rattle.law_locals.specs.Numbered.{number_of, numbered_name};
+ghost use Rattle.algorithm_locals.specs.Numbered.{number_of, numbered_name};
 ghost use Rattle.aio_flat.specs.Numbers.{HasNumbers};
 
 use crate::name::Name;

@@ -1,7 +1,7 @@
 //! The coroutines of a program by their names.
 ghost use Rattle.std.specs.Prelude.{◌≡◌, IfOk, length};
 ghost use Rattle.model_says.specs.Requests.{place_of};
-ghost use Rattle.law_locals.specs.Numbered.{numbered_program};
+ghost use Rattle.algorithm_locals.specs.Numbered.{numbered_program};
 ghost use Rattle.aio_flat.specs.Places.{HasPlaces};
 
 use aio_base::Memory;
@@ -23,7 +23,7 @@ pub struct CoroutinePlaces<'p> {
 impl<'p> Model for CoroutinePlaces<'p> {
     ghost use Rattle.std.specs.Prelude.{◌≡◌, length};
     ghost use Rattle.model_tree.specs.Syntax as plain;
-    ghost use Rattle.law_locals.specs.Numbered.{numbered_program};
+    ghost use Rattle.algorithm_locals.specs.Numbered.{numbered_program};
     ghost use Rattle.aio_program.specs.StatementCode.{coded_program};
 
     ghost Value = { plain.Program };

@@ -1,7 +1,7 @@
 //! Statements that are a single operation, and the operations of a `with`.
 ghost use Rattle.std.specs.Prelude.{◌≡◌, IfOk};
-ghost use Rattle.law_flat.specs.Laid.{enter_op, exit_op};
-ghost use Rattle.law_locals.specs.Numbered.{numbered_statement, numbered_manager};
+ghost use Rattle.algorithm_flat.specs.Laid.{enter_op, exit_op};
+ghost use Rattle.algorithm_locals.specs.Numbered.{numbered_statement, numbered_manager};
 ghost use Rattle.aio_program.specs.Target.{plain_manager};
 ghost use Rattle.aio_flat.specs.Built.{single_op};
 

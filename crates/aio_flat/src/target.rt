@@ -1,7 +1,7 @@
 //! The operation of a `yield from`.
 ghost use Rattle.std.specs.Prelude.{◌≡◌, IfOk, option_copied};
-ghost use Rattle.law_flat.specs.Laid.{target_op};
-ghost use Rattle.law_locals.specs.Numbered.{numbered_option, numbered_target};
+ghost use Rattle.algorithm_flat.specs.Laid.{target_op};
+ghost use Rattle.algorithm_locals.specs.Numbered.{numbered_option, numbered_target};
 ghost use Rattle.aio_program.specs.Target.{plain_target, plain_name};
 
 use crate::body::Op;

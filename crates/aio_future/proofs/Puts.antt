@@ -6,7 +6,7 @@ use Rattle.std.specs.Option.{IsSome, option_copied_mut}
 use Rattle.std.proofs.lemmas.Bool.{cases_lt, eq-eqb, ne_eqb, lt-ltb, le-ltb}
 use Rattle.model_loop.specs.Parts.{Future}
 use Rattle.model_loop.specs.Futures.{is_pending_at, asked_kind}
-use Rattle.law_parts.specs.Forgotten.{released}
+use Rattle.algorithm_parts.specs.Forgotten.{released}
 use Rattle.aio_future.specs.Table.{table, held_in, IsBelow}
 use Rattle.aio_future.proofs.TableLemmas.{set-table, push-table, at_held, at_released, table-same, get-table_past, held_below, length-table}
 

@@ -10,8 +10,8 @@ use Rattle.model_value.specs.Action.{Action}
 use Rattle.model_loop.specs.Parts.{FutureKind, Plain, OfTask, Many, Future}
 use Rattle.model_loop.specs.Futures.{asked_kind, made_before}
 use Rattle.model_loop.specs.Totals.{callbacks_at}
-use Rattle.law_parts.specs.Forgotten.{released}
-use Rattle.law_parts.specs.Shape.{members_of, members_at}
+use Rattle.algorithm_parts.specs.Forgotten.{released}
+use Rattle.algorithm_parts.specs.Shape.{members_of, members_at}
 use Rattle.aio_future.specs.Table.{table, held_in, IsBelow}
 use Rattle.aio_future.specs.Awaited.{is_step, WakesNone, HasNoMembersFrom, alone_after, IsUnawaited}
 use Rattle.aio_future.proofs.TableLemmas.{get-table, get-table_past, held_below, at_held}

@@ -8,7 +8,7 @@ use Rattle.model_loop.specs.Parts as plain
 use Rattle.model_loop.specs.Parts.{FutureKind, Future}
 use Rattle.model_loop.specs.Futures.{made_before}
 use Rattle.model_loop.specs.Totals.{callbacks_at}
-use Rattle.law_parts.specs.Shape.{members_at}
+use Rattle.algorithm_parts.specs.Shape.{members_at}
 use Rattle.aio_future.specs.Table.{held_in}
 
 -- whether an action is a step or a wakeup of a task

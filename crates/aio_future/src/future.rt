@@ -3,7 +3,7 @@ ghost use Rattle.std.specs.Prelude.{◌≡◌, ◌+◌, ◌<◌, ◌^◌, IfSome
 ghost use Rattle.std.specs.List.{list_any};
 ghost use Rattle.std.specs.Option.{option_copied};
 ghost use Rattle.model_loop.specs.Futures.{asked_kind};
-ghost use Rattle.law_parts.specs.Shape.{stands_of, members_of};
+ghost use Rattle.algorithm_parts.specs.Shape.{stands_of, members_of};
 ghost use Rattle.aio_ready.specs.Queue.{soon_all};
 ghost use Rattle.aio_future.specs.Kinds.{kind_of, is_asked_kind};
 ghost use Rattle.aio_future.specs.Awaited.{is_step, alone_after};
@@ -12,7 +12,7 @@ ghost use Rattle.aio_future.specs.Bare.{future_of};
 use crate::bare::Bare;
 use aio_base::{Action, Outcome};
 use aio_ready::{Callbacks, Ready, Ticket};
-use law_parts::FutureState;
+use algorithm_parts::FutureState;
 use std::marker::Model;
 
 /// A future's number. It is given once.

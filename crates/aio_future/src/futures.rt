@@ -4,8 +4,8 @@ ghost use Rattle.std.specs.Option.{option_copied};
 ghost use Rattle.model_loop.specs.Parts as plain;
 ghost use Rattle.model_loop.specs.Futures.{outcome_at, is_pending_at, asked_kind};
 ghost use Rattle.law_cancel.proofs.Effects.{done_as};
-ghost use Rattle.law_parts.specs.Shape.{stands_at, members_at};
-ghost use Rattle.law_parts.specs.Forgotten.{released};
+ghost use Rattle.algorithm_parts.specs.Shape.{stands_at, members_at};
+ghost use Rattle.algorithm_parts.specs.Forgotten.{released};
 ghost use Rattle.aio_ready.specs.Queue as queue;
 ghost use Rattle.aio_future.specs.Kinds.{kind_of, is_asked};
 ghost use Rattle.aio_future.specs.Settled.{settled, called, registered, soon_if_done, asked};
@@ -16,8 +16,8 @@ use crate::future::{FutureId, FutureKind, alone_after};
 use crate::held::HeldFuture;
 use aio_base::{Action, Memory, Outcome};
 use aio_ready::{Ready, Ticket};
+use algorithm_parts::FutureState;
 use indexmap::IndexMap;
-use law_parts::FutureState;
 use std::alloc::Global;
 use std::marker::Model;
 
@@ -39,7 +39,7 @@ impl Model for Futures {
     ghost use Rattle.std.specs.Prelude.{◌≡◌, List};
     ghost use Rattle.std.specs.Coded.{coded_list};
     ghost use Rattle.model_loop.specs.Parts as plain;
-    ghost use Rattle.law_parts.specs.Forgotten.{released};
+    ghost use Rattle.algorithm_parts.specs.Forgotten.{released};
     ghost use Rattle.aio_future.specs.Code.{coded_future};
 
     ghost Value = { List plain.Future };

@@ -3,8 +3,8 @@ use Rattle.std.proofs.Common.{◌≡◌, ℕ, ◌+◌, ◌<◌, true, false, con
 use Rattle.std.proofs.lemmas.List.{drop_more}
 use Rattle.model_value.specs.Kinds.{matches}
 use Rattle.model_value.specs.Value.{Exc, kind_of}
-use Rattle.law_flat.specs.Ops.{Clause}
-use Rattle.law_flat.specs.Moves.{clause_for}
+use Rattle.algorithm_flat.specs.Ops.{Clause}
+use Rattle.algorithm_flat.specs.Moves.{clause_for}
 
 module _ (fault : Exc) (clauses : List Clause) (at : ℕ) (clause : Clause) (inside : at < length clauses)
     (is : clause ≡ slice_index_or clauses at clause) where

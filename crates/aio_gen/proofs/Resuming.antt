@@ -7,16 +7,16 @@ use Rattle.model_tree.specs.Syntax.{Program}
 use Rattle.model_says.specs.Tape.{Resumed, Tape}
 use Rattle.model_says.specs.Endings as endings
 use Rattle.model_says.specs.Says.{says, step_limit}
-use Rattle.law_locals.specs.Numbered.{numbered_program}
-use Rattle.law_locals.proofs.Bodies.{says-same}
-use Rattle.law_flat.specs.Ops.{CoroutineCode}
-use Rattle.law_flat.specs.Rests.{Way}
-use Rattle.law_flat.specs.declared.answer_use.AnswerUse.TheVariants.{Ignored}
-use Rattle.law_flat.specs.Moves as plain
-use Rattle.law_flat.specs.Moves.{Frames, Says}
-use Rattle.law_flat.specs.Stands.{AllLaidOut}
-use Rattle.law_flat.specs.Tapes.{Waiting, way_of, after_input, renewed_by, MovesFor, WaitsFor, ComesTo}
-use Rattle.law_flat.proofs.Tapes.{input-moves, waits-says, unbegun-waits}
+use Rattle.algorithm_locals.specs.Numbered.{numbered_program}
+use Rattle.algorithm_locals.proofs.Bodies.{says-same}
+use Rattle.algorithm_flat.specs.Ops.{CoroutineCode}
+use Rattle.algorithm_flat.specs.Rests.{Way}
+use Rattle.algorithm_flat.specs.declared.answer_use.AnswerUse.TheVariants.{Ignored}
+use Rattle.algorithm_flat.specs.Moves as plain
+use Rattle.algorithm_flat.specs.Moves.{Frames, Says}
+use Rattle.algorithm_flat.specs.Stands.{AllLaidOut}
+use Rattle.algorithm_flat.specs.Tapes.{Waiting, way_of, after_input, renewed_by, MovesFor, WaitsFor, ComesTo}
+use Rattle.algorithm_flat.proofs.Tapes.{input-moves, waits-says, unbegun-waits}
 use Rattle.aio_gen.specs.declared.frames.Frame.{Frame}
 use Rattle.aio_gen.specs.declared.generator.GenOut.{GenOut}
 use Rattle.aio_gen.specs.declared.generator.GenOut.TheVariants.{Asks, Returns, Raises, Runaway}

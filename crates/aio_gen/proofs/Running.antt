@@ -1,6 +1,6 @@
 -- Moves of code come to an end.
 use Rattle.std.proofs.Common.{ℕ, zero, suc, ◌+◌, ◌≤◌, List, [], ◌∷◌, Option, Some, None, length, slice_get, arith}
-use Rattle.law_flat.specs.Nearer.{JumpsForward}
+use Rattle.algorithm_flat.specs.Nearer.{JumpsForward}
 use Rattle.aio_flat.specs.declared.code.FlatBody.{FlatBody}
 use Rattle.aio_flat.specs.Code.{plain_body, code_at, codes_in}
 use Rattle.aio_flat.proofs.CodeLemmas.{none-forward}

@@ -5,7 +5,7 @@ use Rattle.model_tree.specs.Syntax.{Name, Expr, exprs}
 use Rattle.model_says.specs.Operations.{ValueOrFault}
 use Rattle.model_says.specs.Expressions.{value_of, values_of, in_order}
 use Rattle.model_says.specs.Variables.{Env, bound}
-use Rattle.law_locals.specs.Numbered.{local, holding}
+use Rattle.algorithm_locals.specs.Numbered.{local, holding}
 use Rattle.aio_gen.specs.Plain.{value_at}
 
 ok-err : {A B : Type 0} (a : A) (f : Exc) → Ok a ≡ Err f → B

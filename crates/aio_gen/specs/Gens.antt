@@ -6,11 +6,11 @@ use Rattle.model_tree.specs.Syntax.{Program}
 use Rattle.model_says.specs.Tape.{Tape}
 use Rattle.model_says.specs.Endings as endings
 use Rattle.model_says.specs.Says.{step_limit}
-use Rattle.law_locals.specs.Numbered.{numbered_program}
-use Rattle.law_flat.specs.Tapes as plain
-use Rattle.law_flat.specs.Moves.{Says}
-use Rattle.law_flat.specs.Ops.{CoroutineCode}
-use Rattle.law_flat.specs.Tapes.{ComesTo, WaitsFor}
+use Rattle.algorithm_locals.specs.Numbered.{numbered_program}
+use Rattle.algorithm_flat.specs.Tapes as plain
+use Rattle.algorithm_flat.specs.Moves.{Says}
+use Rattle.algorithm_flat.specs.Ops.{CoroutineCode}
+use Rattle.algorithm_flat.specs.Tapes.{ComesTo, WaitsFor}
 use Rattle.aio_flat.specs.declared.code.Code.{Code}
 use Rattle.aio_flat.specs.Code.{codes_of}
 use Rattle.aio_gen.specs.declared.generator.GenOut.{GenOut}

@@ -5,7 +5,7 @@ use Rattle.model_value.specs.declared.request.Request.TheVariants as request
 use Rattle.model_value.specs.Request.{Request}
 use Rattle.model_says.specs.Endings as endings
 use Rattle.model_says.specs.Requests.{bad_argument}
-use Rattle.law_flat.specs.Moves as plain
+use Rattle.algorithm_flat.specs.Moves as plain
 use Rattle.aio_gen.specs.declared.frames.Frame.{Frame}
 use Rattle.aio_gen.specs.declared.frames.Frames.{Frames}
 use Rattle.aio_gen.specs.declared.types.Move.{Move}

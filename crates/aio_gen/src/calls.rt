@@ -1,9 +1,9 @@
 //! Calls of coroutines, which run in frames of their own.
 ghost use Rattle.std.specs.Prelude.{◌≡◌, ◌+◌, ◌<◌, ◌^◌, IfOk, option_copied, slice_get};
 ghost use Rattle.model_says.specs.Variables.{bound};
-ghost use Rattle.law_locals.specs.Numbered.{locals};
-ghost use Rattle.law_flat.specs.declared.op.Op.TheVariants as flat;
-ghost use Rattle.law_flat.specs.Moves.{call, new_frame, after_statement};
+ghost use Rattle.algorithm_locals.specs.Numbered.{locals};
+ghost use Rattle.algorithm_flat.specs.declared.op.Op.TheVariants as flat;
+ghost use Rattle.algorithm_flat.specs.Moves.{call, new_frame, after_statement};
 ghost use Rattle.aio_flat.specs.Code.{codes_of};
 ghost use Rattle.aio_gen.specs.Plain.{plain_frame, plain_frames, plain_move, value_at};
 

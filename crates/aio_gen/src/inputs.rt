@@ -1,8 +1,8 @@
 //! Inputs, which are the answers of requests.
 ghost use Rattle.std.specs.Prelude.{◌≡◌, IfOk, OnOk, if◌then◌else◌};
 ghost use Rattle.model_says.specs.Says.{step_limit};
-ghost use Rattle.law_flat.specs.Moves.{after_answer};
-ghost use Rattle.law_flat.specs.Tapes.{way_of, after_input};
+ghost use Rattle.algorithm_flat.specs.Moves.{after_answer};
+ghost use Rattle.algorithm_flat.specs.Tapes.{way_of, after_input};
 ghost use Rattle.aio_gen.specs.Plain.{plain_frames};
 
 use crate::frames::Frames;

@@ -1,8 +1,8 @@
 //! Operations.
 ghost use Rattle.std.specs.Prelude.{◌≡◌, ℕ, ◌+◌, ◌-◌, ◌<◌, ◌^◌, true, false, Some, IfOk};
-ghost use Rattle.law_flat.specs.Moves.{Goes, at_place, counted, after_statement, after_op, move_of};
-ghost use Rattle.law_flat.specs.Ops.{CoroutineCode};
-ghost use Rattle.law_flat.specs.declared.way.Way.TheVariants.{Passing};
+ghost use Rattle.algorithm_flat.specs.Moves.{Goes, at_place, counted, after_statement, after_op, move_of};
+ghost use Rattle.algorithm_flat.specs.Ops.{CoroutineCode};
+ghost use Rattle.algorithm_flat.specs.declared.way.Way.TheVariants.{Passing};
 ghost use Rattle.aio_flat.specs.Code.{codes_of, plain_body};
 ghost use Rattle.aio_gen.specs.Plain.{plain_frames, plain_move};
 

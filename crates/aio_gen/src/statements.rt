@@ -1,10 +1,10 @@
 //! Statements that were counted, and the exit of a `with`.
 ghost use Rattle.std.specs.Prelude.{◌≡◌, ◌+◌, ◌<◌, ◌^◌, ℕ, IfOk, OnOk, ◌∷◌};
-ghost use Rattle.law_flat.specs.declared.op.Op.TheVariants as flat;
-ghost use Rattle.law_flat.specs.Ops.{CoroutineCode};
-ghost use Rattle.law_flat.specs.Moves.{by_test, raise_value, ask_exit, after_statement, at_next, with_handlers};
-ghost use Rattle.law_flat.specs.declared.open_handler.OpenHandler.TheVariants.{AtExit, InFinally};
-ghost use Rattle.law_flat.specs.Rests.{fault_of};
+ghost use Rattle.algorithm_flat.specs.declared.op.Op.TheVariants as flat;
+ghost use Rattle.algorithm_flat.specs.Ops.{CoroutineCode};
+ghost use Rattle.algorithm_flat.specs.Moves.{by_test, raise_value, ask_exit, after_statement, at_next, with_handlers};
+ghost use Rattle.algorithm_flat.specs.declared.open_handler.OpenHandler.TheVariants.{AtExit, InFinally};
+ghost use Rattle.algorithm_flat.specs.Rests.{fault_of};
 ghost use Rattle.model_says.specs.Operations.{bad_operand};
 ghost use Rattle.aio_gen.specs.Plain.{plain_frames, plain_move, exit_request};
 

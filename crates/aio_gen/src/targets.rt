@@ -1,8 +1,8 @@
 //! `yield from`, but for calls.
 ghost use Rattle.std.specs.Prelude.{◌≡◌, ◌+◌, ◌<◌, ◌^◌, ℕ, IfOk};
-ghost use Rattle.law_flat.specs.declared.op.Op.TheVariants as flat;
-ghost use Rattle.law_flat.specs.Ops.{CoroutineCode};
-ghost use Rattle.law_flat.specs.Moves.{ask_into, after_statement};
+ghost use Rattle.algorithm_flat.specs.declared.op.Op.TheVariants as flat;
+ghost use Rattle.algorithm_flat.specs.Ops.{CoroutineCode};
+ghost use Rattle.algorithm_flat.specs.Moves.{ask_into, after_statement};
 ghost use Rattle.aio_gen.specs.Plain.{plain_frames, plain_move};
 
 use crate::evaluate::{value_of, values_of};

@@ -3,13 +3,13 @@ use aio_base::{Exc, Request, Value};
 use aio_expr::Local;
 
 /// A way out of statements.
-pub type Way = law_flat::Way<Value, Exc>;
+pub type Way = algorithm_flat::Way<Value, Exc>;
 
 /// A `try` or a `with` that is open.
-pub type OpenHandler = law_flat::OpenHandler<Value, Exc>;
+pub type OpenHandler = algorithm_flat::OpenHandler<Value, Exc>;
 
 /// What the answer of a request is to the operation that asked it.
-pub type AnswerUse = law_flat::AnswerUse<Local>;
+pub type AnswerUse = algorithm_flat::AnswerUse<Local>;
 
 /// What a move comes to.
 #[derive(Drop)]

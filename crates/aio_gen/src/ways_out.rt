@@ -1,6 +1,6 @@
 //! Ways out, through the innermost open handler or out of the frame.
 ghost use Rattle.std.specs.Prelude.{◌≡◌, ◌+◌, ◌<◌, ◌^◌, Some, slice_get, IfOk, option_copied};
-ghost use Rattle.law_flat.specs.Moves.{with_variable, out_of_frame, clause_for, clauses_in, into_finally, into_clause, to_exit, way_out, after_finally};
+ghost use Rattle.algorithm_flat.specs.Moves.{with_variable, out_of_frame, clause_for, clauses_in, into_finally, into_clause, to_exit, way_out, after_finally};
 ghost use Rattle.aio_flat.specs.Code.{plain_body};
 ghost use Rattle.aio_gen.specs.Plain.{plain_frames, plain_move};
 

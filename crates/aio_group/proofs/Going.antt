@@ -19,10 +19,10 @@ use Rattle.model_loop.specs.Tasks.{future_of, lives, next_task, spawn, uncancel}
 use Rattle.law_cancel.proofs.Counting.{goes-done}
 use Rattle.law_cancel.proofs.Lookups.{get_within, get-push_other, get-set_kept}
 use Rattle.law_cancel.proofs.Trace.{goes-tasks}
-use Rattle.law_settling.proofs.Looks.{future_of-same, change_looks_same}
-use Rattle.law_settling.proofs.Settling.{IsSettled, settle_cases}
-use Rattle.law_settling.proofs.Spreading.{as_row, with_spread}
-use Rattle.law_told.proofs.Holding.{KeepsOwners, settled_names, looks_names, cancels_names}
+use Rattle.law_steps.proofs.Looks.{future_of-same, change_looks_same}
+use Rattle.law_steps.proofs.Settling.{IsSettled, settle_cases}
+use Rattle.law_steps.proofs.Spreading.{as_row, with_spread}
+use Rattle.law_groups.proofs.Holding.{KeepsOwners, settled_names, looks_names, cancels_names}
 use Rattle.aio_task.specs.View.{View, parts}
 use Rattle.aio_group.specs.GoesOn.{GoesOn, Moves}
 

@@ -13,9 +13,9 @@ use Rattle.aio_future.specs.Settled as settled
 use Rattle.aio_future.specs.Settled.{called, registered, soon_if_done}
 use Rattle.aio_task.specs.View.{View, parts}
 use Rattle.aio_task.specs.Keeps.{Ties, Keeps, Kept, Becomes}
-use Rattle.law_handles.proofs.Appending.{extends_still}
-use Rattle.law_kept.proofs.Calls as calls
-use Rattle.law_kept.proofs.Telling.{next_kept, outcome_kept, future_of_kept}
+use Rattle.refine_parts.proofs.Appending.{extends_still}
+use Rattle.refine_parts.proofs.Calls as calls
+use Rattle.refine_parts.proofs.Telling.{next_kept, outcome_kept, future_of_kept}
 
 pub kept_request : (t : Ties) (v w : View) (p : Parts) (by : Origin) (id : ℕ) → Keeps t v p
     → Becomes v w (cancel id (parts v)).parts → Kept t p w (request by id p).booked.parts

@@ -16,9 +16,9 @@ use Rattle.aio_wire.specs.Outside.{Outside}
 use Rattle.aio_wire.specs.declared.stop.Stop.{Stop}
 use Rattle.aio_wire.specs.declared.stop.Stop.TheVariants as stop
 use Rattle.aio_exchange.specs.Exchanged.{AsksOne}
-use Rattle.law_doing.specs.Follows.{Follows, Reach, after_of}
-use Rattle.law_doing.proofs.Following.{follows_ends, follows_starved, follows_then, follows_unless, follows_where}
-use Rattle.law_doing.proofs.Telling.{tells_changed, tells_ends, tells_follow}
+use Rattle.aio_exchange.specs.Follows.{Follows, Reach, after_of}
+use Rattle.aio_exchange.proofs.Following.{follows_ends, follows_starved, follows_then, follows_unless, follows_where}
+use Rattle.aio_exchange.proofs.Telling.{tells_changed, tells_ends, tells_follow}
 use Rattle.aio_task.specs.View.{View}
 use Rattle.aio_change.specs.Owned.{IsOwn, KeepsOwn}
 use Rattle.aio_change.specs.Seen.{seen_changed}

@@ -12,9 +12,9 @@ use Rattle.aio_wire.specs.Outside.{Outside}
 use Rattle.aio_wire.specs.declared.stop.Stop.{Stop}
 use Rattle.aio_wire.specs.declared.stop.Stop.TheVariants as stop
 use Rattle.aio_exchange.specs.Exchanged.{AsksOne}
-use Rattle.law_doing.specs.Follows.{Follows, Reach}
-use Rattle.law_doing.proofs.Following.{follows_ends, follows_unless, follows_where}
-use Rattle.law_doing.proofs.Telling.{tells_changed, tells_end, tells_follow}
+use Rattle.aio_exchange.specs.Follows.{Follows, Reach}
+use Rattle.aio_exchange.proofs.Following.{follows_ends, follows_unless, follows_where}
+use Rattle.aio_exchange.proofs.Telling.{tells_changed, tells_end, tells_follow}
 use Rattle.aio_task.specs.View.{View}
 use Rattle.aio_change.specs.Owned.{IsOwn, KeepsOwn}
 use Rattle.aio_change.specs.Seen.{seen_changed}

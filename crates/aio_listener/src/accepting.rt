@@ -1,7 +1,7 @@
 //! A listener accepts.
 ghost use Rattle.std.specs.Prelude.{◌≡◌, ◌+◌, ◌^◌, ◌<◌, true, false, None, OnOk, length};
 ghost use Rattle.model_stream.specs.Streams as plain;
-ghost use Rattle.law_doing.specs.Follows.{reach};
+ghost use Rattle.aio_exchange.specs.Follows.{reach};
 ghost use Rattle.aio_stream.specs.Kept.{may_connect};
 ghost use Rattle.aio_stream.specs.Owned.{OwnsStreams};
 ghost use Rattle.aio_stream.specs.Standing.{Comes, Told};

@@ -1,7 +1,7 @@
 //! What a callback of a listener or of a connection does.
 ghost use Rattle.std.specs.Prelude.{◌≡◌, false, None, OnOk, length};
 ghost use Rattle.model_stream.specs.Streams as plain;
-ghost use Rattle.law_doing.specs.Follows.{reach};
+ghost use Rattle.aio_exchange.specs.Follows.{reach};
 ghost use Rattle.aio_listener.specs.Acts.{is_of_child};
 ghost use Rattle.aio_stream.specs.Owned.{OwnsStreams};
 ghost use Rattle.aio_stream.specs.Standing.{Comes};

@@ -2,7 +2,7 @@
 ghost use Rattle.std.specs.Prelude.{◌≡◌, ◌^◌, ◌<◌, None, Some, IfOk, OnOk, length};
 ghost use Rattle.model_wire.specs.declared.answer.Answer.TheVariants as answer;
 ghost use Rattle.model_stream.specs.Streams as plain;
-ghost use Rattle.law_doing.specs.Follows.{reach};
+ghost use Rattle.aio_exchange.specs.Follows.{reach};
 ghost use Rattle.aio_stream.specs.Owned.{OwnsStreams};
 ghost use Rattle.aio_stream.specs.Standing.{Answers, ToldWith};
 

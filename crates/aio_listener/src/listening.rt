@@ -2,7 +2,7 @@
 ghost use Rattle.std.specs.Prelude.{◌≡◌, ◌^◌, ◌<◌, OnOk, length};
 ghost use Rattle.model_stream.specs.Answers as answers;
 ghost use Rattle.model_stream.specs.Streams as plain;
-ghost use Rattle.law_doing.specs.Follows.{reach};
+ghost use Rattle.aio_exchange.specs.Follows.{reach};
 ghost use Rattle.aio_task.specs.View.{View};
 ghost use Rattle.aio_stream.specs.Owned.{OwnsStreams};
 ghost use Rattle.aio_stream.specs.Standing.{Answers, Comes};

@@ -6,8 +6,8 @@ use Rattle.model_stream.specs.declared.read_op.Taken.TheVariants as taken
 use Rattle.model_stream.specs.Doing.{Doing, Ends, Changes, MakeFuture, and_then}
 use Rattle.model_stream.specs.Reading.{ReadOp, Taken, after_take, resume, take_read}
 use Rattle.model_stream.specs.Receivers.{Receiver, StreamGot, AllGot, all_taken, read, read_all, read_as, second_waiter, wait_for_data}
-use Rattle.law_doing.specs.Tells.{Tells}
-use Rattle.law_doing.proofs.Telling.{tells_changed, tells_end, tells_ends, tells_then, tells_unless, tells_where}
+use Rattle.aio_exchange.specs.Tells.{Tells}
+use Rattle.aio_exchange.proofs.Telling.{tells_changed, tells_end, tells_ends, tells_then, tells_unless, tells_where}
 use Rattle.aio_task.specs.View.{View}
 use Rattle.aio_change.specs.Owned.{IsOwnIfAny}
 use Rattle.aio_change.specs.Seen.{seen_changed}

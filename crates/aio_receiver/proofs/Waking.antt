@@ -5,8 +5,8 @@ use Rattle.model_value.specs.declared.outcome.Outcome.TheVariants.{Value as Retu
 use Rattle.model_stream.specs.Doing.{Settle}
 use Rattle.model_stream.specs.Reading.{Reading}
 use Rattle.model_stream.specs.Receivers.{Receiver, wakes}
-use Rattle.law_doing.specs.Tells.{Tells}
-use Rattle.law_doing.specs.Ways.{Did}
+use Rattle.aio_exchange.specs.Tells.{Tells}
+use Rattle.aio_exchange.specs.Ways.{Did}
 use Rattle.aio_task.specs.View.{View}
 use Rattle.aio_change.specs.Seen.{seen_changed}
 use Rattle.aio_receiver.specs.Woken.{seen_woken}

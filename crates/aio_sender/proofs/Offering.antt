@@ -18,11 +18,11 @@ use Rattle.aio_wire.specs.Outside.{Outside}
 use Rattle.aio_wire.specs.Port.{Ported}
 use Rattle.aio_wire.specs.declared.stop.Stop.{Stop}
 use Rattle.aio_exchange.specs.Exchanged.{AsksOne}
-use Rattle.law_doing.specs.Follows.{Follows, Reach}
-use Rattle.law_doing.specs.Ways.{changed_on}
-use Rattle.law_doing.proofs.Following.{follows_end, follows_ends, follows_stopped, follows_then}
-use Rattle.law_sender.specs.SoundSenders.{outlet_of}
-use Rattle.law_sender.proofs.SoundSenders.{IsSent, is_sent}
+use Rattle.aio_exchange.specs.Follows.{Follows, Reach}
+use Rattle.aio_exchange.specs.Ways.{changed_on}
+use Rattle.aio_exchange.proofs.Following.{follows_end, follows_ends, follows_stopped, follows_then}
+use Rattle.law_stream.specs.SoundSenders.{outlet_of}
+use Rattle.law_stream.proofs.SoundSenders.{IsSent, is_sent}
 use Rattle.aio_task.specs.View.{View}
 use Rattle.aio_change.specs.Owned.{settled_way}
 use Rattle.aio_change.specs.Seen.{seen_changed}

@@ -12,9 +12,9 @@ use Rattle.model_stream.specs.Doing.{Doing, Ends, Changes, MakeFuture, CallSoon,
 use Rattle.model_stream.specs.Senders.{Sender, Outlet, Drain, with_writer, has_unsent, is_closing, is_lost, ended_sender, schedule_loss}
 use Rattle.model_stream.specs.Senders.{fail_sender, close_sender, offered, sent, sent_more, drain_sender, lost_text}
 use Rattle.model_stream.specs.Sending.{took}
-use Rattle.law_doing.specs.Tells.{Tells}
-use Rattle.law_doing.specs.Ways.{Did, changed_on}
-use Rattle.law_doing.proofs.Telling.{tells_changed, tells_end, tells_ends, tells_unless, tells_where}
+use Rattle.aio_exchange.specs.Tells.{Tells}
+use Rattle.aio_exchange.specs.Ways.{Did, changed_on}
+use Rattle.aio_exchange.proofs.Telling.{tells_changed, tells_end, tells_ends, tells_unless, tells_where}
 use Rattle.aio_task.specs.View.{View}
 use Rattle.aio_change.specs.Owned.{AreOwn, IsOwn, settled_way}
 use Rattle.aio_change.specs.Seen.{seen_changed}

@@ -3,7 +3,7 @@
 ghost use Rattle.std.specs.Prelude.{◌≡◌, false, IfOk};
 ghost use Rattle.model_stream.specs.Senders.{loss_of, outcome_of};
 ghost use Rattle.aio_task.specs.View.{is_step};
-ghost use Rattle.law_sender.specs.SoundSenders.{outlet_of};
+ghost use Rattle.law_stream.specs.SoundSenders.{outlet_of};
 
 use aio_base::{Action, Blob, Exc, Kind, Memory, Outcome, Value, exception};
 use aio_wire::Call;

@@ -5,10 +5,10 @@ ghost use Rattle.model_stream.specs.declared.phase.Phase.TheVariants as phase_as
 ghost use Rattle.model_stream.specs.Doing.{Ends};
 ghost use Rattle.model_stream.specs.Senders as plain;
 ghost use Rattle.model_stream.specs.Sending as sending;
-ghost use Rattle.law_doing.specs.Tells.{Tells};
-ghost use Rattle.law_doing.specs.Ways.{changed_on};
+ghost use Rattle.aio_exchange.specs.Tells.{Tells};
+ghost use Rattle.aio_exchange.specs.Ways.{changed_on};
 ghost use Rattle.law_over.specs.Gone.{is_spent};
-ghost use Rattle.law_sender.specs.SoundSenders.{outlet_of};
+ghost use Rattle.law_stream.specs.SoundSenders.{outlet_of};
 ghost use Rattle.aio_change.specs.Owned.{AreOwn, IsOwn, settled_way};
 ghost use Rattle.aio_change.specs.Seen.{seen_changed};
 ghost use Rattle.aio_sender.specs.Lost.{sender_of};

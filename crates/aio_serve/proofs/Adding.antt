@@ -23,10 +23,10 @@ use Rattle.model_machine.specs.Replies.{ended, input_by, serves_as, serves_until
 use Rattle.model_machine.specs.State as standing
 use Rattle.model_machine.specs.State.{State, stands}
 use Rattle.model_machine.specs.Told.{told_in}
-use Rattle.law_extras.specs.Allowed.{IsSaidAllowed}
-use Rattle.law_inside.proofs.Counts.{get_there, lives_within}
-use Rattle.law_kept.proofs.Telling.{outcome_kept, pending_kept}
-use Rattle.law_machine.proofs.Waking.{asks_alike, woken_ends}
+use Rattle.law_runs.specs.Allowed.{IsSaidAllowed}
+use Rattle.law_replies.proofs.Counts.{get_there, lives_within}
+use Rattle.refine_parts.proofs.Telling.{outcome_kept, pending_kept}
+use Rattle.law_runs.proofs.Waking.{asks_alike, woken_ends}
 use Rattle.law_turns.specs.Replied.{RunsSound}
 use Rattle.aio_cancel.specs.Awaitables.{Appended}
 use Rattle.aio_task.specs.Keeps.{Ties}
@@ -55,16 +55,16 @@ use Rattle.aio_wire.specs.declared.stop.Stop.{Stop}
 use Rattle.aio_wire.specs.declared.stop.Stop.TheVariants as stop
 use Rattle.aio_body.proofs.Asking.{HasCome, come_none, come_then, comes_alone, comes_ends, comes_goes, comes_starved, comes_stops, comes_without}
 use Rattle.aio_body.specs.Asking.{Comes, ReplyBegins, or_stop, serving}
-use Rattle.law_body.proofs.Answering.{alive_come}
-use Rattle.law_body.specs.Answers.{with_answers}
-use Rattle.law_body.proofs.Adding.{served_of, sound_called, stands_called, ties_called}
-use Rattle.law_body.proofs.Lasting.{Spares}
-use Rattle.law_body.proofs.Left.{leaves_suspend}
-use Rattle.law_body.proofs.May.{same_prop}
-use Rattle.law_body.proofs.Rooms.{waits_so}
-use Rattle.law_body.proofs.Slotting.{stands_standing}
-use Rattle.law_body.proofs.Telling.{named_also}
-use Rattle.law_body.proofs.Growing.{decides_begins, replies_begin, row_begins}
+use Rattle.aio_body.proofs.Answering.{alive_come}
+use Rattle.aio_body.specs.Answers.{with_answers}
+use Rattle.aio_body.proofs.Adding.{served_of, sound_called, stands_called, ties_called}
+use Rattle.aio_body.proofs.Lasting.{Spares}
+use Rattle.aio_body.proofs.Left.{leaves_suspend}
+use Rattle.aio_body.proofs.May.{same_prop}
+use Rattle.aio_body.proofs.Rooms.{waits_so}
+use Rattle.aio_body.proofs.Slotting.{stands_standing}
+use Rattle.aio_body.proofs.Telling.{named_also}
+use Rattle.aio_body.proofs.Growing.{decides_begins, replies_begin, row_begins}
 use Rattle.law_reach.proofs.Opened.{decides_comes}
 use Rattle.law_reach.proofs.Rows.{in_answer, in_callback, in_turn}
 use Rattle.law_reach.proofs.Streams.{done_row}

@@ -4,7 +4,7 @@ use Rattle.model_wire.specs.Journal.{Entry}
 use Rattle.model_machine.specs.Extra as extra
 use Rattle.model_machine.specs.Extra.{ExtraAnswer}
 use Rattle.model_machine.specs.State.{State}
-use Rattle.law_extras.specs.Allowed.{IsAnswerAllowed}
+use Rattle.law_runs.specs.Allowed.{IsAnswerAllowed}
 use Rattle.aio_task.specs.Keeps.{Ties}
 use Rattle.aio_extra.specs.Added.{Added}
 use Rattle.aio_extra.specs.Called as called
@@ -13,8 +13,8 @@ use Rattle.aio_extra.specs.declared.asked.Asked.TheVariants as variants
 use Rattle.aio_extra.specs.declared.asked.Asked.TheVariants.{Answer, Raise, Wait}
 use Rattle.aio_body.specs.declared.body.Body.{Body}
 use Rattle.aio_body.specs.Stands.{Setting}
-use Rattle.law_body.proofs.Answering.{in_step_again}
-use Rattle.law_body.specs.Answers.{with_answers, with_rest}
+use Rattle.aio_body.proofs.Answering.{in_step_again}
+use Rattle.aio_body.specs.Answers.{with_answers, with_rest}
 use Rattle.aio_serve.specs.Adding.{IsAnswering}
 
 allowed_again : {S : Type 0} (answers : List Entry) (it : ExtraAnswer) (s : State S) → IsAnswerAllowed it s

@@ -8,9 +8,9 @@ use Rattle.std.proofs.lemmas.List.Sums.{sum_by-cons}
 use Rattle.model_value.specs.Action.{Action}
 use Rattle.model_loop.specs.Handles.{soon, soon_all}
 use Rattle.model_loop.specs.Parts.{Handle, Parts}
-use Rattle.law_handles.proofs.Lists.{all-append, all_more}
-use Rattle.law_handles.proofs.Running.{count_early}
-use Rattle.law_kept.proofs.Only.{OnlyAppends}
+use Rattle.refine_parts.proofs.Lists.{all-append, all_more}
+use Rattle.refine_parts.proofs.Running.{count_early}
+use Rattle.refine_parts.proofs.Only.{OnlyAppends}
 use Rattle.aio_task.specs.View.{View}
 use Rattle.aio_task.specs.Keeps.{Ties, Keeps}
 

@@ -15,10 +15,10 @@ use Rattle.aio_extra.specs.Added.{Added, named_in}
 use Rattle.aio_body.specs.declared.body.Body.{Body}
 use Rattle.aio_body.specs.Asked.{IsInStep, SomeGoes}
 use Rattle.aio_body.specs.Stands.{Setting, Possible}
-use Rattle.law_body.proofs.Kept.{kept_uncancel}
-use Rattle.law_body.proofs.Lasting.{spares_none, stands_on}
-use Rattle.law_body.proofs.Left.{leaves_uncancel}
-use Rattle.law_body.proofs.Noting.{stands_noted}
+use Rattle.aio_body.proofs.Kept.{kept_uncancel}
+use Rattle.aio_body.proofs.Lasting.{spares_none, stands_on}
+use Rattle.aio_body.proofs.Left.{leaves_uncancel}
+use Rattle.aio_body.proofs.Noting.{stands_noted}
 use Rattle.aio_serve.proofs.Reading.{count_read}
 
 module _ {X : Type 0} {a : Added X} where

@@ -15,13 +15,13 @@ use Rattle.model_loop.specs.Tasks.{future_of, lives, next_task, spawn, waiter_of
 use Rattle.model_value.specs.Value as values
 use Rattle.model_machine.specs.Replies.{creates, creates_unless}
 use Rattle.model_machine.specs.State.{State, generator, in_loop, with_coroutine}
-use Rattle.law_after.specs.After.{IsAfter}
-use Rattle.law_after.proofs.Made.{register_after}
+use Rattle.law_turns.specs.After.{IsAfter}
+use Rattle.law_turns.proofs.Made.{register_after}
 use Rattle.law_cancel.proofs.Effects.{register-tasks}
 use Rattle.law_cancel.proofs.Lookups.{get_within}
-use Rattle.law_inside.proofs.Counts.{lives_within, own_there}
-use Rattle.law_kept.proofs.Only.{only_register, only_spawn}
-use Rattle.law_kept.proofs.Waiting.{before_register}
+use Rattle.law_replies.proofs.Counts.{lives_within, own_there}
+use Rattle.refine_parts.proofs.Only.{only_register, only_spawn}
+use Rattle.refine_parts.proofs.Waiting.{before_register}
 use Rattle.aio_group.specs.declared.created.Created.{Created}
 use Rattle.aio_group.specs.Answers.{created_of, refusal_in}
 use Rattle.aio_group.specs.GoesOn.{Moves}
@@ -36,13 +36,13 @@ use Rattle.aio_flat.specs.Code.{IsCodeOf}
 use Rattle.aio_body.specs.declared.body.Body.{Body}
 use Rattle.aio_body.specs.declared.reply.RequestReply.{RequestReply}
 use Rattle.aio_body.specs.declared.reply.RequestReply.TheVariants.{Answers, Raises}
-use Rattle.law_body.proofs.Leaving.{IsNew, Leaves}
-use Rattle.law_body.proofs.Left.{any}
-use Rattle.law_body.proofs.Slotting.{runs_no_other}
-use Rattle.law_body.proofs.Spawned.{LeavesMore, leaves_spawn, stands_made}
+use Rattle.aio_body.proofs.Leaving.{IsNew, Leaves}
+use Rattle.aio_body.proofs.Left.{any}
+use Rattle.aio_body.proofs.Slotting.{runs_no_other}
+use Rattle.aio_body.proofs.Spawned.{LeavesMore, leaves_spawn, stands_made}
 use Rattle.aio_serve.proofs.Appending.{Appends, appends_on, appends_only, below_kept}
 use Rattle.aio_serve.proofs.GroupsOn.{StepLeaves, blocks_came, kept_of, stands_stepped, step_same}
-use Rattle.law_body.proofs.HasSlot.{within_going}
+use Rattle.aio_body.proofs.HasSlot.{within_going}
 use Rattle.aio_serve.proofs.Saying.{answers_so, raises_so}
 
 -- ---- a callback is registered

@@ -13,11 +13,11 @@ use Rattle.model_machine.specs.Replies.{exits_as, exits_group, waits}
 use Rattle.model_machine.specs.State as standing
 use Rattle.model_machine.specs.State.{State, stands, with_loop}
 use Rattle.law_cancel.proofs.Lookups.{get-push_last}
-use Rattle.law_settling.proofs.CancelSound.{plain_within}
+use Rattle.law_steps.proofs.CancelSound.{plain_within}
 use Rattle.aio_task.specs.View.{View}
 use Rattle.aio_task.specs.Keeps.{Ties}
 use Rattle.aio_group.specs.Held.{Held}
-use Rattle.law_kept.proofs.Telling.{pending_kept}
+use Rattle.refine_parts.proofs.Telling.{pending_kept}
 use Rattle.aio_group.specs.declared.exit.GroupExit.{GroupExit}
 use Rattle.aio_group.specs.declared.exit.GroupExit.TheVariants as exit
 use Rattle.aio_group.specs.Answers.{exit_of}
@@ -32,14 +32,14 @@ use Rattle.aio_body.specs.Asked.{HasRested, IsInStep, Says}
 use Rattle.aio_body.specs.Slots.{standing_at}
 use Rattle.aio_body.specs.Stands.{Setting, Stands}
 use Rattle.aio_serve.proofs.Appending.{below_kept}
-use Rattle.law_body.proofs.Blocks.{blocks_on}
-use Rattle.law_body.proofs.Left.{leaves_suspend}
-use Rattle.law_kept.proofs.Calls.{kept_suspend}
+use Rattle.aio_body.proofs.Blocks.{blocks_on}
+use Rattle.aio_body.proofs.Left.{leaves_suspend}
+use Rattle.refine_parts.proofs.Calls.{kept_suspend}
 use Rattle.aio_serve.proofs.GroupsOn.{StepLeaves, begun_leaves, heard_leaves, blocks_came, kept_of, stands_blocks, stands_stepped}
-use Rattle.law_body.proofs.Lasting.{Spares}
-use Rattle.law_body.proofs.Leaving.{leaves_on}
-use Rattle.law_body.proofs.Rooms.{below_appended}
-use Rattle.law_body.proofs.Slotting.{stands_standing}
+use Rattle.aio_body.proofs.Lasting.{Spares}
+use Rattle.aio_body.proofs.Leaving.{leaves_on}
+use Rattle.aio_body.proofs.Rooms.{below_appended}
+use Rattle.aio_body.proofs.Slotting.{stands_standing}
 use Rattle.aio_serve.specs.GoneOn.{GoneOn, WaitsAtExit}
 
 -- ---- what an exit waits for

@@ -18,7 +18,7 @@ use Rattle.model_machine.specs.Extra.{Extra}
 use Rattle.model_machine.specs.Replies.{Raises, creates, enters_group, exits_group, most_ids, numbered_if, reply}
 use Rattle.model_machine.specs.State as standing
 use Rattle.model_machine.specs.State.{State}
-use Rattle.law_inside.proofs.Counts.{lives_within}
+use Rattle.law_replies.proofs.Counts.{lives_within}
 use Rattle.aio_group.specs.Held.{held_at}
 use Rattle.aio_group.specs.Stands.{AllBelong}
 use Rattle.aio_extra.specs.Added.{Added}

@@ -22,8 +22,8 @@ use Rattle.model_machine.specs.Arguments.{as_group}
 use Rattle.model_machine.specs.Extra.{Extra}
 use Rattle.model_machine.specs.State.{State}
 use Rattle.model_machine.specs.Step.{says_of}
-use Rattle.law_settling.proofs.CancelSound.{plain_within}
-use Rattle.law_inside.specs.InStep.{IsStepSound}
+use Rattle.law_steps.proofs.CancelSound.{plain_within}
+use Rattle.law_replies.specs.InStep.{IsStepSound}
 use Rattle.law_replies.proofs.Replying.{fits_in}
 use Rattle.aio_task.specs.View.{View}
 use Rattle.aio_task.specs.Keeps.{Ties}
@@ -34,7 +34,7 @@ use Rattle.aio_group.specs.Stands.{AllBelong, Belongs, IsLive, IsOwn, KeepsAt, S
 use Rattle.aio_extra.specs.Added.{Added}
 use Rattle.aio_body.specs.declared.body.Body.{Body}
 use Rattle.aio_body.specs.Stands.{Setting, Stands}
-use Rattle.law_kept.proofs.Telling.{next_kept, owner_kept}
+use Rattle.refine_parts.proofs.Telling.{next_kept, owner_kept}
 use Rattle.aio_serve.proofs.GroupsOn.{groups_stand}
 
 -- ---- that groups belong to the parts has one proof

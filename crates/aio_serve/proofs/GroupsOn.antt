@@ -18,8 +18,8 @@ use Rattle.model_loop.specs.Owning.{is_plain}
 use Rattle.model_loop.specs.Parts.{Parts, Plain}
 use Rattle.model_loop.specs.Tasks.{cancelling, future_of, lives, next_task, uncancel}
 use Rattle.model_machine.specs.State.{State, in_loop}
-use Rattle.law_kept.proofs.Only.{only_cancel, only_settle, changes_make, changes_task, appends}
-use Rattle.law_settling.proofs.CancelSound.{plain_within}
+use Rattle.refine_parts.proofs.Only.{only_cancel, only_settle, changes_make, changes_task, appends}
+use Rattle.law_steps.proofs.CancelSound.{plain_within}
 use Rattle.aio_task.specs.View.{View}
 use Rattle.aio_task.specs.Keeps.{Ties, Kept}
 use Rattle.aio_timeout.proofs.Keeping.{timeouts_stay}
@@ -30,9 +30,9 @@ use Rattle.aio_extra.specs.Added.{Added, named_in}
 use Rattle.aio_body.specs.declared.body.Body.{Body}
 use Rattle.aio_body.specs.Stands.{AreBlocks, Setting, Stands}
 use Rattle.aio_serve.proofs.Appending.{Appends, appends_same, appends_on, appends_only, below_kept}
-use Rattle.law_body.proofs.Left.{AreOwnMade, leaves_plain, leaves_request, leaves_settle, leaves_uncancel}
-use Rattle.law_body.proofs.Lasting.{Spares, spares_none, stands_kept}
-use Rattle.law_body.proofs.Leaving.{Leaves, leaves_same, leaves_on}
+use Rattle.aio_body.proofs.Left.{AreOwnMade, leaves_plain, leaves_request, leaves_settle, leaves_uncancel}
+use Rattle.aio_body.proofs.Lasting.{Spares, spares_none, stands_kept}
+use Rattle.aio_body.proofs.Leaving.{Leaves, leaves_same, leaves_on}
 
 -- ---- what a step of a group leaves
 pub record StepLeaves (l m : Loop) : Type 0 where

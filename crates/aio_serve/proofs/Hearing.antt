@@ -41,11 +41,11 @@ use Rattle.aio_body.specs.Asked.{IsInStep}
 use Rattle.aio_body.specs.Asking.{Comes, EndsAs, ReplyBegins, RestFits, StopsWith, before, or_stop}
 use Rattle.aio_body.specs.Stands.{Possible, Setting}
 use Rattle.aio_body.specs.declared.body.Body.{Body}
-use Rattle.law_body.proofs.Adding.{served_of}
-use Rattle.law_body.proofs.Answering.{alive_come, stands_again}
-use Rattle.law_body.proofs.Growing.{decides_begins}
-use Rattle.law_body.proofs.Noting.{counted, stands_noted}
-use Rattle.law_body.specs.Answers.{with_answers}
+use Rattle.aio_body.proofs.Adding.{served_of}
+use Rattle.aio_body.proofs.Answering.{alive_come, stands_again}
+use Rattle.aio_body.proofs.Growing.{decides_begins}
+use Rattle.aio_body.proofs.Noting.{counted, stands_noted}
+use Rattle.aio_body.specs.Answers.{with_answers}
 use Rattle.aio_serve.proofs.Adding.{answered_begins, answering_so, woken_on}
 use Rattle.aio_serve.proofs.Again.{answering_again}
 use Rattle.aio_serve.specs.Adding.{AnswersAgain, HasAnswer, IsAnswering, Woke, answered, answering_once}

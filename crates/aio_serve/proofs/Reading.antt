@@ -11,15 +11,15 @@ use Rattle.model_loop.specs.Parts.{Task}
 use Rattle.model_loop.specs.Tasks.{cancelling}
 use Rattle.model_machine.specs.Arguments.{as_awaited, as_future}
 use Rattle.model_machine.specs.State.{State}
-use Rattle.law_kept.proofs.Telling.{outcome_kept, owner_kept}
+use Rattle.refine_parts.proofs.Telling.{outcome_kept, owner_kept}
 use Rattle.aio_task.specs.View.{parts}
 use Rattle.aio_extra.specs.Added.{Added}
 use Rattle.aio_body.specs.declared.body.Body.{Body}
 use Rattle.aio_body.specs.Asked.{IsGoing, SomeGoes}
 use Rattle.aio_body.specs.Named.{awaited_in, future_in}
 use Rattle.aio_body.specs.Stands.{Setting, Stands, Possible}
-use Rattle.law_body.proofs.May.{same_prop}
-use Rattle.law_body.proofs.Telling.{awaited_named, awaited_stays, future_named, named_stays}
+use Rattle.aio_body.proofs.May.{same_prop}
+use Rattle.aio_body.proofs.Telling.{awaited_named, awaited_stays, future_named, named_stays}
 
 module _ {X : Type 0} {a : Added X} where
   -- a task's count

@@ -18,16 +18,16 @@ use Rattle.model_machine.specs.Arguments.{as_awaited, as_int}
 use Rattle.model_machine.specs.Extra.{Extra}
 use Rattle.model_machine.specs.Replies.{Raises, awaits_as, most_ids, numbered_if, pauses, reply, sleeps, sleeps_for, spawns}
 use Rattle.model_machine.specs.State.{State}
-use Rattle.law_kept.proofs.Telling.{pending_kept}
-use Rattle.law_settling.proofs.CancelSound.{plain_within}
+use Rattle.refine_parts.proofs.Telling.{pending_kept}
+use Rattle.law_steps.proofs.CancelSound.{plain_within}
 use Rattle.aio_task.specs.View.{parts}
 use Rattle.aio_extra.specs.Added.{Added}
 use Rattle.aio_body.specs.Asked.{IsAskingFor}
 use Rattle.aio_body.specs.Named.{awaited_in}
 use Rattle.aio_body.specs.Stands.{IsOwnSleep, Possible}
 use Rattle.aio_body.specs.declared.body.Body.{Body}
-use Rattle.law_body.proofs.Lasting.{Spares}
-use Rattle.law_body.proofs.Sound.{awaited_pends}
+use Rattle.aio_body.proofs.Lasting.{Spares}
+use Rattle.aio_body.proofs.Sound.{awaited_pends}
 use Rattle.aio_serve.proofs.Reading.{awaited_as, outcome_read}
 
 -- ---- what is meant

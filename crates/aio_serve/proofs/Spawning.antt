@@ -6,8 +6,8 @@ use Rattle.model_loop.specs.Loop.{in_parts}
 use Rattle.model_loop.specs.Parts.{Parts}
 use Rattle.model_loop.specs.Tasks.{next_task, spawn}
 use Rattle.model_machine.specs.State.{State, unbooked_in, with_coroutine}
-use Rattle.law_inside.proofs.Counts.{own_there}
-use Rattle.law_kept.proofs.Calls.{kept_spawn}
+use Rattle.law_replies.proofs.Counts.{own_there}
+use Rattle.refine_parts.proofs.Calls.{kept_spawn}
 use Rattle.aio_ready.specs.Queue as queue
 use Rattle.aio_task.specs.Keeps.{Kept}
 use Rattle.aio_task.specs.View.{View, parts}
@@ -17,10 +17,10 @@ use Rattle.aio_body.specs.Asked.{IsGoing, IsInStep}
 use Rattle.aio_body.specs.Slots.{HoldsMore}
 use Rattle.aio_body.specs.Stands.{AreBlocks, Setting}
 use Rattle.aio_body.specs.declared.body.Body.{Body}
-use Rattle.law_body.proofs.Blocks.{blocks_on}
-use Rattle.law_body.proofs.Slotting.{runs_no_other}
-use Rattle.law_body.proofs.Spawned.{LeavesMore, leaves_spawn, stands_made}
-use Rattle.law_body.proofs.HasSlot.{within_going}
+use Rattle.aio_body.proofs.Blocks.{blocks_on}
+use Rattle.aio_body.proofs.Slotting.{runs_no_other}
+use Rattle.aio_body.proofs.Spawned.{LeavesMore, leaves_spawn, stands_made}
+use Rattle.aio_body.proofs.HasSlot.{within_going}
 
 module _ {X : Type 0} {a : Added X} where
   pub spawns_so : (task coroutine : ℕ) (arguments : List Value) (c : Setting a) (old held : Body X) (s : State a.Kept) (v : View) → IsGoing task c old s

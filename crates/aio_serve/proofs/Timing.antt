@@ -20,8 +20,8 @@ use Rattle.model_machine.specs.Replies as plain
 use Rattle.model_machine.specs.Replies.{enters_timeout, exits_timeout, given, most_ids, numbered, numbered_if, reply, reschedules, reschedules_if, timed_out_if}
 use Rattle.model_machine.specs.State.{State, in_loop}
 use Rattle.law_replies.proofs.Replying.{fits_in}
-use Rattle.law_timeouts.specs.Tags.{HaveTags}
-use Rattle.law_timeouts.proofs.Firing.{within}
+use Rattle.law_groups.specs.Tags.{HaveTags}
+use Rattle.law_groups.proofs.Firing.{within}
 use Rattle.aio_ready.specs.Queue.{Queue}
 use Rattle.aio_timeout.specs.declared.handler.TimeoutHandler.{TimeoutHandler}
 use Rattle.aio_timeout.specs.declared.handler.TimeoutHandler.TheVariants.{Soon, At}
@@ -42,7 +42,7 @@ use Rattle.aio_body.specs.Stands.{Setting, Stands, Possible}
 use Rattle.aio_body.specs.Taken.{IsTaken}
 use Rattle.aio_serve.specs.Left.{left_as}
 use Rattle.aio_serve.proofs.Saying.{answers_so, raises_so}
-use Rattle.law_body.proofs.TimeoutsOn.{timeouts_of}
+use Rattle.aio_body.proofs.TimeoutsOn.{timeouts_of}
 
 module _ {X : Type 0} {a : Added X} (task : ℕ) (c : Setting a) (body : Body X) (now : State a.Kept) (h : IsInStep task c body now) where
   -- a block that was left

@@ -5,7 +5,7 @@ use Rattle.model_machine.specs.Replies as plain
 use Rattle.model_value.specs.Input.{Input}
 use Rattle.model_machine.specs.Replies.{decides, serves_as, woken}
 use Rattle.model_machine.specs.State.{State, Serving}
-use Rattle.law_extras.specs.Allowed.{IsAnswerAllowed}
+use Rattle.law_runs.specs.Allowed.{IsAnswerAllowed}
 use Rattle.law_turns.specs.Replied.{RunsSound}
 use Rattle.aio_task.specs.Keeps.{Ties}
 use Rattle.aio_extra.specs.Added.{Added}

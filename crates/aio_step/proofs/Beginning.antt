@@ -12,7 +12,7 @@ use Rattle.model_loop.specs.Ways.{is_running}
 use Rattle.model_machine.specs.State as plain
 use Rattle.model_machine.specs.State.{Generator, State, generator_of, stands}
 use Rattle.law_cancel.proofs.Lookups.{get-set_same, get-set_other}
-use Rattle.law_settling.proofs.CancelSound.{plain_within}
+use Rattle.law_steps.proofs.CancelSound.{plain_within}
 use Rattle.aio_task.specs.Keeps.{let_go}
 use Rattle.aio_extra.specs.Added.{Added, GoesBeside, named_in}
 use Rattle.aio_body.specs.declared.body.Body.{Body}
@@ -22,10 +22,10 @@ use Rattle.aio_body.specs.declared.standing.Standing.TheVariants.{Asked}
 use Rattle.aio_body.specs.GivingUp.{let_go_of}
 use Rattle.aio_body.specs.Slots.{no_slot}
 use Rattle.aio_body.specs.Stands.{Setting, Stands, IsOwnSleep, StandsAt, HasSlot, WaitsAs, coroutine_in, holding}
-use Rattle.law_body.proofs.Blocks.{blocks_released}
-use Rattle.law_body.proofs.Kept.{keeps_release}
-use Rattle.law_body.proofs.Lasting.{parts_change}
-use Rattle.law_body.proofs.Slotting.{set_same, set_other, set_length, runs_itself, in_slot, slots_change}
+use Rattle.aio_body.proofs.Blocks.{blocks_released}
+use Rattle.aio_body.proofs.Kept.{keeps_release}
+use Rattle.aio_body.proofs.Lasting.{parts_change}
+use Rattle.aio_body.proofs.Slotting.{set_same, set_other, set_length, runs_itself, in_slot, slots_change}
 
 -- ---- the machine: which comes first doesn't matter
 pub change_revoke : (id : ℕ) (change : Task → Task) (tag : ℕ) (p : Parts) → change_task id change (revoke tag p) ≡ revoke tag (change_task id change p)

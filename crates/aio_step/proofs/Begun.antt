@@ -22,9 +22,9 @@ use Rattle.aio_body.specs.declared.standing.Standing.TheVariants.{Asked, Sleepin
 use Rattle.aio_body.specs.GivingUp.{given_up_in, let_go_if, timer_cancelled}
 use Rattle.aio_body.specs.Slots.{no_slot}
 use Rattle.aio_body.specs.Stands.{Setting, Stands, HasSlot, StandsAt}
-use Rattle.law_body.proofs.Kept.{input_kept, kept_begin}
-use Rattle.law_body.proofs.Left.{begun_waits, leaves_begin}
-use Rattle.law_body.proofs.Lasting.{spares_none, stands_on}
+use Rattle.aio_body.proofs.Kept.{input_kept, kept_begin}
+use Rattle.aio_body.proofs.Left.{begun_waits, leaves_begin}
+use Rattle.aio_body.proofs.Lasting.{spares_none, stands_on}
 use Rattle.aio_step.specs.Stepping.{IsCalled, DecidesAs, HasBegun, begun_by}
 use Rattle.aio_step.proofs.Beginning.{stands_taken}
 use Rattle.aio_step.proofs.Called.{called_asked, called_asking, called_leaving, called_opened, called_within}

@@ -9,7 +9,7 @@ use Rattle.model_machine.specs.Sound.{IsAsking, IsLeft, IsOpenedAt, sends_made}
 use Rattle.model_machine.specs.State as plain
 use Rattle.model_machine.specs.State.{State, generator_of}
 use Rattle.law_cancel.proofs.Lookups.{get_within}
-use Rattle.law_inside.specs.InStep.{IsAsked, RepliesInStep}
+use Rattle.law_replies.specs.InStep.{IsAsked, RepliesInStep}
 use Rattle.law_runs.proofs.Beginning.{begins_in, begun_asked, stepped_lives}
 use Rattle.law_steps.proofs.Waiting.{task_there}
 use Rattle.aio_extra.specs.Added.{Added}
@@ -17,7 +17,7 @@ use Rattle.aio_body.specs.declared.body.Body.{Body}
 use Rattle.aio_body.specs.declared.standing.Slot.{Slot}
 use Rattle.aio_body.specs.Stands.{Setting, HasSlot}
 use Rattle.aio_step.specs.Stepping.{IsCalled, HearsMade, begun_by, begun_in}
-use Rattle.law_body.proofs.Sound.{extra_sound}
+use Rattle.aio_body.proofs.Sound.{extra_sound}
 
 module _ {X : Type 0} {a : Added X} (task : ℕ) (c : Setting a) (body : Body X) (s : State a.Kept) (h : IsCalled task c body s) where
   lived : lives h.before.loop.parts task ≡ true

@@ -23,8 +23,8 @@ use Rattle.aio_body.specs.declared.reply.RequestReply.{RequestReply}
 use Rattle.aio_body.specs.declared.standing.Standing.{Standing}
 use Rattle.aio_body.specs.declared.standing.Standing.TheVariants.{Asked, Sleeping}
 use Rattle.aio_streaming.specs.Resuming.{resuming}
-use Rattle.law_body.proofs.Growing.{decides_begins}
-use Rattle.law_body.proofs.Unasked.{decides_told}
+use Rattle.aio_body.proofs.Growing.{decides_begins}
+use Rattle.aio_body.proofs.Unasked.{decides_told}
 use Rattle.aio_step.specs.Stepping.{DecidesAs, deciding}
 use Rattle.aio_step.proofs.First.{asked_decides, sleeping_decides}
 

@@ -14,9 +14,9 @@ use Rattle.model_machine.specs.State.{State, generator_of, resumed}
 use Rattle.model_machine.specs.Step.{taken_as}
 use Rattle.model_machine.specs.Went.{Went, Goes, Stops}
 use Rattle.model_wire.specs.Trace.{End}
-use Rattle.law_inside.proofs.Counts.{lives_within}
-use Rattle.law_inside.specs.InStep.{RepliesInStep}
-use Rattle.law_machine.proofs.Kept.{reply_state, decides-keeps}
+use Rattle.law_replies.proofs.Counts.{lives_within}
+use Rattle.law_replies.specs.InStep.{RepliesInStep}
+use Rattle.law_runs.proofs.Kept.{reply_state, decides-keeps}
 use Rattle.aio_timer.specs.declared.live.TimerId.{TimerId}
 use Rattle.aio_transports.specs.Readers.{reader_as}
 use Rattle.aio_gen.specs.declared.generator.Gen.{Gen}

@@ -25,9 +25,9 @@ use Rattle.aio_body.specs.Asked.{HasRested}
 use Rattle.aio_body.specs.Asking.{Comes, WentBegins}
 use Rattle.aio_body.specs.Slots.{put_back}
 use Rattle.aio_body.specs.Stands.{Setting, IsBetween, holding, Possible}
-use Rattle.law_body.proofs.Answering.{alive_come, in_step_again, step_again}
-use Rattle.law_body.proofs.Slotting.{set_length, stands_back}
-use Rattle.law_body.specs.Answers.{with_answers, with_rest}
+use Rattle.aio_body.proofs.Answering.{alive_come, in_step_again, step_again}
+use Rattle.aio_body.proofs.Slotting.{set_length, stands_back}
+use Rattle.aio_body.specs.Answers.{with_answers, with_rest}
 use Rattle.model_wire.specs.Journal.{Entry}
 use Rattle.aio_step.specs.declared.steps.Stepped.{Stepped}
 use Rattle.aio_step.specs.declared.steps.Stepped.TheVariants as went

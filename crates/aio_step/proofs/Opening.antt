@@ -27,10 +27,10 @@ use Rattle.aio_body.specs.declared.standing.Standing.TheVariants.{Asked, Sleepin
 use Rattle.aio_body.specs.GivingUp.{given_up_in, let_go_if, timer_cancelled}
 use Rattle.aio_body.specs.Stands.{Setting, Stands, StandsAt}
 use Rattle.aio_step.proofs.Beginning.{change_revoke, stands_released}
-use Rattle.law_kept.proofs.Telling.{pending_kept}
-use Rattle.law_body.proofs.Kept.{kept_revoked}
-use Rattle.law_body.proofs.Left.{leaves_revoke}
-use Rattle.law_body.proofs.Lasting.{own_on, spares_none, stands_on}
+use Rattle.refine_parts.proofs.Telling.{pending_kept}
+use Rattle.aio_body.proofs.Kept.{kept_revoked}
+use Rattle.aio_body.proofs.Left.{leaves_revoke}
+use Rattle.aio_body.proofs.Lasting.{own_on, spares_none, stands_on}
 
 -- ---- the machine
 pub begin_revoke : (task : ℕ) (input : Input) (tag : ℕ) (p : Parts) → (begin_step task input (revoke tag p)).parts ≡ revoke tag (begin_step task input p).parts

@@ -7,8 +7,8 @@ use Rattle.model_loop.specs.Owning.{owner_at}
 use Rattle.model_loop.specs.Parts.{Parts}
 use Rattle.model_machine.specs.State as plain
 use Rattle.model_machine.specs.State.{State, generator_of}
-use Rattle.law_kept.proofs.Telling.{owner_kept}
-use Rattle.law_settling.proofs.CancelSound.{plain_within}
+use Rattle.refine_parts.proofs.Telling.{owner_kept}
+use Rattle.law_steps.proofs.CancelSound.{plain_within}
 use Rattle.aio_gen.specs.declared.generator.Gen.{Gen}
 use Rattle.aio_task.specs.Keeps.{Ties, Keeps}
 use Rattle.aio_task.specs.View.{View}
@@ -21,7 +21,7 @@ use Rattle.aio_body.specs.declared.standing.Standing.TheVariants.{Asked, Sleepin
 use Rattle.aio_body.specs.Asked.{IsDeciding}
 use Rattle.aio_body.specs.GivingUp.{IsNoTasks}
 use Rattle.aio_body.specs.Stands.{Setting, StandsAt, WaitsAs, holding, Possible}
-use Rattle.law_body.proofs.May.{same_prop}
+use Rattle.aio_body.proofs.May.{same_prop}
 use Rattle.aio_step.specs.declared.steps.Started.{Started}
 use Rattle.aio_step.specs.Stepping.{DecidesAs, HasBegun, IsCalled, begun_in, IsDecidingAs}
 use Rattle.aio_step.proofs.Called.{called_own, called_slot, own_slot}

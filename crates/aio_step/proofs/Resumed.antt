@@ -34,16 +34,16 @@ use Rattle.aio_body.proofs.Asking.{HasCome, come_none, come_then, comes_ends, co
 use Rattle.aio_body.specs.Asked.{IsAskingFor}
 use Rattle.aio_body.specs.Asking.{Comes, Piece, before, serving}
 use Rattle.aio_body.specs.Stands.{Setting, holding, Possible}
-use Rattle.law_body.proofs.May.{same_prop}
-use Rattle.law_body.proofs.Over.{comes_over, over}
-use Rattle.law_body.proofs.Slotting.{set_length}
-use Rattle.law_body.proofs.Sound.{raised_sound, requests_sound, returned_sound}
+use Rattle.aio_body.proofs.May.{same_prop}
+use Rattle.aio_body.proofs.Over.{comes_over, over}
+use Rattle.aio_body.proofs.Slotting.{set_length}
+use Rattle.aio_body.proofs.Sound.{raised_sound, requests_sound, returned_sound}
 use Rattle.aio_step.specs.Serving.{EndsAt, LeadsOn, OnwardBegins, RunsAway, halted, served_of, serves_once, serving_once}
 use Rattle.aio_step.specs.declared.steps.Served.{Served}
 use Rattle.aio_step.specs.Stepping.{IsServing}
 use Rattle.aio_step.proofs.Resuming.{asks_out, ends_out, its_inside, runs_out, says_out}
 use Rattle.aio_step.proofs.Serving.{answered, asks_begin, halts_so, once_begins}
-use Rattle.law_body.proofs.Sound.{extra_sound}
+use Rattle.aio_body.proofs.Sound.{extra_sound}
 
 module _ {X : Type 0} {a : Added X} (task : ℕ) (fresh : Bool) (input : Input) (body : Body X) (taken : Gen) where
   pub serve_idle : Possible a (IsServing task fresh input taken) body → body.parts.called ≡ None

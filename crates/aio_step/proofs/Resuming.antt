@@ -26,12 +26,12 @@ use Rattle.aio_gen.specs.Gens.{StandsFor}
 use Rattle.aio_body.specs.Stands.{Setting, holding}
 use Rattle.aio_step.specs.Serving.{EndsAt, RunsAway, serves_once}
 use Rattle.aio_step.specs.Stepping.{IsServing}
-use Rattle.law_kept.proofs.Calls.{kept_finish}
-use Rattle.law_body.proofs.Sound.{runs_living}
-use Rattle.law_body.proofs.Left.{finish_done, leaves_finish}
-use Rattle.law_body.proofs.Lasting.{spares_none, stands_on}
-use Rattle.law_body.proofs.Rooms.{below_appended}
-use Rattle.law_body.proofs.Slotting.{set_same, stands_resumed, stands_over, stands_dead, stood}
+use Rattle.refine_parts.proofs.Calls.{kept_finish}
+use Rattle.aio_body.proofs.Sound.{runs_living}
+use Rattle.aio_body.proofs.Left.{finish_done, leaves_finish}
+use Rattle.aio_body.proofs.Lasting.{spares_none, stands_on}
+use Rattle.aio_body.proofs.Rooms.{below_appended}
+use Rattle.aio_body.proofs.Slotting.{set_same, stands_resumed, stands_over, stands_dead, stood}
 
 module _ {X : Type 0} {a : Added X} (task : ℕ) (fresh : Bool) (input : Input) (c : Setting a) (body : Body X) (before : Gen) (s : State a.Kept)
     (h : IsServing task fresh input before c body s) where

@@ -22,10 +22,10 @@ use Rattle.aio_body.specs.Asked.{Says}
 use Rattle.aio_body.specs.Asking.{ReplyBegins, WentBegins}
 use Rattle.aio_body.specs.Stands.{Setting, holding}
 use Rattle.aio_step.specs.Serving.{GoesOnWith, LeadsOn, OnwardBegins, halted, serves_once, served_of}
-use Rattle.law_machine.proofs.Kept.{IsKeptInAnswer, reply_state, reply-keeps}
-use Rattle.law_inside.specs.InStep.{RepliesInStep}
-use Rattle.law_body.proofs.Growing.{serve_adds, served_adds, taken_begins}
-use Rattle.law_body.proofs.Sound.{ends_by_itself}
+use Rattle.law_runs.proofs.Kept.{IsKeptInAnswer, reply_state, reply-keeps}
+use Rattle.law_replies.specs.InStep.{RepliesInStep}
+use Rattle.aio_body.proofs.Growing.{serve_adds, served_adds, taken_begins}
+use Rattle.aio_body.proofs.Sound.{ends_by_itself}
 
 -- what serving what the coroutine says comes to, whatever comes after
 abbrev pub ServedAs : {S : Type 0} → Extra S → ℕ → State S → ((State S → Went S) → Went S) → Type 0

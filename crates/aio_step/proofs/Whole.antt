@@ -26,11 +26,11 @@ use Rattle.aio_body.specs.declared.reply.RequestReply.{RequestReply}
 use Rattle.aio_body.specs.declared.reply.RequestReply.TheVariants as said
 use Rattle.aio_body.specs.Slots.{put_back}
 use Rattle.aio_body.specs.Stands.{Setting, holding, Possible}
-use Rattle.law_body.proofs.Answering.{alive_come, state_again, stands_again}
-use Rattle.law_body.proofs.Growing.{all_adds, taken_begins}
-use Rattle.law_body.proofs.Over.{comes_over, over}
-use Rattle.law_body.proofs.Unasked.{told_so}
-use Rattle.law_body.specs.Answers.{with_answers, with_rest}
+use Rattle.aio_body.proofs.Answering.{alive_come, state_again, stands_again}
+use Rattle.aio_body.proofs.Growing.{all_adds, taken_begins}
+use Rattle.aio_body.proofs.Over.{comes_over, over}
+use Rattle.aio_body.proofs.Unasked.{told_so}
+use Rattle.aio_body.specs.Answers.{with_answers, with_rest}
 use Rattle.aio_step.specs.declared.steps.Started.{Started}
 use Rattle.aio_step.specs.declared.steps.Stepped.{Stepped}
 use Rattle.aio_step.specs.declared.steps.Stepped.TheVariants as went

@@ -27,7 +27,7 @@ use Rattle.aio_body.specs.declared.reply.RequestReply.{RequestReply}
 use Rattle.aio_body.specs.Asked.{IsInStep, IsDeciding, Says}
 use Rattle.aio_body.specs.Asking.{Piece, ReplyBegins, WentBegins}
 use Rattle.aio_body.specs.Stands.{Setting, Stands, IsBetween, holding}
-use Rattle.law_inside.specs.InStep.{IsStepSound}
+use Rattle.law_replies.specs.InStep.{IsStepSound}
 
 -- ---- what a step comes to
 -- it goes on, or the task ran away and what happened is told

@@ -16,10 +16,10 @@ use Rattle.model_stream.specs.Requests.{OfConn, asked_one, noted, write, write_u
 use Rattle.model_stream.specs.Streams.{Streams, its_connections, on_one}
 use Rattle.aio_wire.specs.Outside.{Outside}
 use Rattle.aio_wire.specs.declared.stop.Stop.{Stop}
-use Rattle.law_doing.specs.Follows.{Follows, Reach, after_of, with_after}
-use Rattle.law_doing.specs.Tells.{Tells}
-use Rattle.law_doing.proofs.Following.{follows_ends, follows_stopped, follows_then}
-use Rattle.law_doing.proofs.Telling.{tells_ends, tells_then}
+use Rattle.aio_exchange.specs.Follows.{Follows, Reach, after_of, with_after}
+use Rattle.aio_exchange.specs.Tells.{Tells}
+use Rattle.aio_exchange.proofs.Following.{follows_ends, follows_stopped, follows_then}
+use Rattle.aio_exchange.proofs.Telling.{tells_ends, tells_then}
 use Rattle.aio_task.specs.View.{View}
 use Rattle.aio_change.specs.Owned.{KeepsOwn}
 use Rattle.aio_change.specs.Seen.{seen_changed}

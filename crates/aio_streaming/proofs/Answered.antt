@@ -12,9 +12,9 @@ use Rattle.model_machine.specs.State.{State}
 use Rattle.aio_wire.specs.Outside.{Outside}
 use Rattle.aio_wire.specs.Port.{ported}
 use Rattle.aio_wire.specs.declared.stop.Stop.{Stop}
-use Rattle.law_doing.specs.Follows.{reach}
+use Rattle.aio_exchange.specs.Follows.{reach}
 use Rattle.law_reach.specs.Reaches.{left_by}
-use Rattle.law_trees.specs.Trees.{AnswersStreams, Keeping}
+use Rattle.law_cases.specs.Trees.{AnswersStreams, Keeping}
 use Rattle.aio_transports.specs.Standing.{Answers as AnswersTree}
 use Rattle.aio_extra.specs.Added.{Added}
 use Rattle.aio_body.specs.declared.body.Body.{Body}
@@ -22,8 +22,8 @@ use Rattle.aio_body.specs.declared.reply.RequestReply.{RequestReply}
 use Rattle.aio_body.specs.Asked.{IsAskingFor}
 use Rattle.aio_body.specs.Asking.{Comes, serving}
 use Rattle.aio_body.specs.Stands.{Possible, Setting}
-use Rattle.law_does.specs.Alike.{AddsEvents, ForgetsWritten}
-use Rattle.law_does.proofs.Served.{serving_answers, serving_fails, serving_raises, serving_starves}
+use Rattle.refine_streams.specs.Alike.{AddsEvents, ForgetsWritten}
+use Rattle.refine_streams.proofs.Served.{serving_answers, serving_fails, serving_raises, serving_starves}
 use Rattle.aio_streaming.specs.Answered.{Answered, AnsweredAs, ComesAs, Raising, With, answered_by}
 
 -- `said` is what the call's answer is to the request, and `next` the same in the machine.

@@ -19,10 +19,10 @@ use Rattle.model_machine.specs.Went.{Went, Goes, Stops}
 use Rattle.aio_wire.specs.Outside.{Outside}
 use Rattle.aio_wire.specs.Port.{ported}
 use Rattle.aio_wire.specs.declared.stop.Stop.{Stop}
-use Rattle.law_doing.specs.Follows.{reach}
-use Rattle.law_kept.proofs.Telling.{future_of_kept, outcome_kept}
-use Rattle.law_machine.proofs.Counts.{goes_on_same}
-use Rattle.law_trees.proofs.Opening.{acts}
+use Rattle.aio_exchange.specs.Follows.{reach}
+use Rattle.refine_parts.proofs.Telling.{future_of_kept, outcome_kept}
+use Rattle.law_runs.proofs.Counts.{goes_on_same}
+use Rattle.law_cases.proofs.Opening.{acts}
 use Rattle.aio_task.specs.View.{parts, stepped}
 use Rattle.aio_transports.specs.Owned.{OwnsTransports}
 use Rattle.aio_transports.specs.Standing.{Comes as Changes}
@@ -31,16 +31,16 @@ use Rattle.aio_body.specs.declared.body.Body.{Body}
 use Rattle.aio_body.specs.Asking.{Comes, Piece, before}
 use Rattle.aio_body.specs.Stands.{Possible, Setting}
 use Rattle.aio_body.specs.Taken.{IsTaken}
-use Rattle.law_body.proofs.May.{same_prop}
-use Rattle.law_body.proofs.Telling.{own_stays}
-use Rattle.law_does.specs.Streams.{HasStreams}
-use Rattle.law_does.specs.Went.{MayCall}
-use Rattle.law_does.proofs.Answering.{callback_so, gone_ends}
-use Rattle.law_does.proofs.Forgetting.{act_forgets}
-use Rattle.law_does.proofs.May.{may_taken}
-use Rattle.law_does.proofs.Nexts.{went_leaves}
-use Rattle.law_does.proofs.Possible.{has_streams, transports_owned}
-use Rattle.law_does.proofs.Requests.{change_fails, change_goes}
+use Rattle.aio_body.proofs.May.{same_prop}
+use Rattle.aio_body.proofs.Telling.{own_stays}
+use Rattle.refine_streams.specs.Streams.{HasStreams}
+use Rattle.refine_streams.specs.Went.{MayCall}
+use Rattle.refine_streams.proofs.Answering.{callback_so, gone_ends}
+use Rattle.refine_streams.proofs.Forgetting.{act_forgets}
+use Rattle.refine_streams.proofs.May.{may_taken}
+use Rattle.refine_streams.proofs.Nexts.{went_leaves}
+use Rattle.refine_streams.proofs.Possible.{has_streams, transports_owned}
+use Rattle.refine_streams.proofs.Requests.{change_fails, change_goes}
 use Rattle.aio_streaming.specs.Acting.{acting, is_of_streams, returned_in}
 
 -- ---- in the machine

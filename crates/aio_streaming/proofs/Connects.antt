@@ -1,5 +1,6 @@
 -- A connect, by the call that begins its connection.
-use Rattle.std.proofs.Common.{◌≡◌, ℕ, ◌<◌, ◌+◌, Bool, true, false, cond, if◌then◌else◌, arith, List, [], ◌∷◌, Option, Some, None, length, slice_get, Result, Ok, Err, refl, sym, ap, subst, ◌∙◌}
+use Rattle.std.proofs.Common.{◌≡◌, ℕ, ◌<◌, ◌+◌, Bool, true, false, cond, if◌then◌else◌, arith, List, [], ◌∷◌, Option, Some, None, length, slice_get, Result, Ok}
+use Rattle.std.proofs.Common.{Err, refl, sym, ap, subst, ◌∙◌}
 use Rattle.std.proofs.Common.{OnOk}
 use Rattle.std.proofs.lemmas.Bool.{ne_eqb}
 use Rattle.std.proofs.lemmas.List.Sums.{sum_by_push}
@@ -24,13 +25,13 @@ use Rattle.aio_wire.specs.Outside.{Outside}
 use Rattle.aio_wire.specs.Port.{ported}
 use Rattle.aio_wire.specs.declared.stop.Stop.{Stop}
 use Rattle.aio_exchange.specs.Exchanged.{Exchange, Last, All, Met, Starved}
-use Rattle.law_doing.specs.Follows.{EndsBy, Follows, reach}
-use Rattle.law_doing.specs.Ways.{Move, Did, Heard, Leads}
-use Rattle.law_kept.proofs.Telling.{next_kept}
-use Rattle.law_settling.proofs.CancelSound.{plain_within}
-use Rattle.law_trees.specs.Trees.{AnswersStreams, IsMade, Keeping}
-use Rattle.law_trees.proofs.Fits.{asked_kept, kept_nowhere}
-use Rattle.law_trees.proofs.Opening.{connects}
+use Rattle.aio_exchange.specs.Follows.{EndsBy, Follows, reach}
+use Rattle.aio_exchange.specs.Ways.{Move, Did, Heard, Leads}
+use Rattle.refine_parts.proofs.Telling.{next_kept}
+use Rattle.law_steps.proofs.CancelSound.{plain_within}
+use Rattle.law_cases.specs.Trees.{AnswersStreams, IsMade, Keeping}
+use Rattle.law_cases.proofs.Fits.{asked_kept, kept_nowhere}
+use Rattle.law_cases.proofs.Opening.{connects}
 use Rattle.aio_transports.specs.Standing.{Answers as AnswersTree, StandsAfter, StandsFor as AreTransports}
 use Rattle.aio_task.specs.Keeps.{Ties}
 use Rattle.aio_extra.specs.Added.{Added, named_in}
@@ -43,19 +44,19 @@ use Rattle.aio_body.specs.Asking.{Comes, or_stop, serving}
 use Rattle.aio_body.specs.Slots.{standing_at}
 use Rattle.aio_body.specs.Stands.{Possible, Setting, Stands, StandsAt}
 use Rattle.aio_body.proofs.Asking.{HasCome}
-use Rattle.law_body.specs.Answers.{with_answers, with_rest}
-use Rattle.law_body.proofs.Answering.{asking_again}
+use Rattle.aio_body.specs.Answers.{with_answers, with_rest}
+use Rattle.aio_body.proofs.Answering.{asking_again}
 use Rattle.aio_change.specs.Seen.{seen_changed}
-use Rattle.law_body.proofs.May.{going_of, running_of}
-use Rattle.law_body.proofs.Sound.{plain_named}
-use Rattle.law_does.specs.Went.{BegunWaits, HasGone, MayCall, Suspends}
-use Rattle.law_does.proofs.Forgetting.{connect_forgets}
-use Rattle.law_does.proofs.May.{may_asking}
-use Rattle.law_does.proofs.Nexts.{connects_add}
-use Rattle.law_does.proofs.Possible.{called_gone, pending_gone, running_gone}
-use Rattle.law_does.proofs.Requests.{begun_waits}
-use Rattle.law_does.proofs.Served.{asking_idle, serving_fails, serving_goes, serving_raises, serving_stands, serving_starves}
-use Rattle.law_body.proofs.HasSlot.{slot_there}
+use Rattle.aio_body.proofs.May.{going_of, running_of}
+use Rattle.aio_body.proofs.Sound.{plain_named}
+use Rattle.refine_streams.specs.Went.{BegunWaits, HasGone, MayCall, Suspends}
+use Rattle.refine_streams.proofs.Forgetting.{connect_forgets}
+use Rattle.refine_streams.proofs.May.{may_asking}
+use Rattle.refine_streams.proofs.Nexts.{connects_add}
+use Rattle.refine_streams.proofs.Possible.{called_gone, pending_gone, running_gone}
+use Rattle.refine_streams.proofs.Requests.{begun_waits}
+use Rattle.refine_streams.proofs.Served.{asking_idle, serving_fails, serving_goes, serving_raises, serving_stands, serving_starves}
+use Rattle.aio_body.proofs.HasSlot.{slot_there}
 
 -- ---- what a connect leaves, where it began a connection
 Left : ℕ → Streams → Streams → ℕ × ℕ → Type 0

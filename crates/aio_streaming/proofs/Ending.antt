@@ -13,17 +13,17 @@ use Rattle.model_machine.specs.State.{State}
 use Rattle.aio_wire.specs.Outside.{Outside}
 use Rattle.aio_wire.specs.Port.{ported}
 use Rattle.aio_wire.specs.declared.stop.Stop.{Stop}
-use Rattle.law_doing.specs.Follows.{reach}
-use Rattle.law_trees.specs.Trees.{Keeping, KeepsStreams}
+use Rattle.aio_exchange.specs.Follows.{reach}
+use Rattle.law_cases.specs.Trees.{Keeping, KeepsStreams}
 use Rattle.aio_transports.specs.Standing.{Comes as Changes}
 use Rattle.aio_extra.specs.Added.{Added}
 use Rattle.aio_body.specs.declared.body.Body.{Body}
 use Rattle.aio_body.specs.Asked.{IsAskingFor}
 use Rattle.aio_body.specs.Asking.{Comes, serving}
 use Rattle.aio_body.specs.Stands.{Possible, Setting}
-use Rattle.law_does.specs.Alike.{ForgetsWritten}
-use Rattle.law_does.proofs.Nexts.{answers_add}
-use Rattle.law_does.proofs.Served.{changing_answers, changing_fails}
+use Rattle.refine_streams.specs.Alike.{ForgetsWritten}
+use Rattle.refine_streams.proofs.Nexts.{answers_add}
+use Rattle.refine_streams.proofs.Served.{changing_answers, changing_fails}
 use Rattle.aio_streaming.specs.Done.{done_as}
 
 -- what changes the events alone changes nothing but the parts, the events and the transports

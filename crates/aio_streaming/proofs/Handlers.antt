@@ -22,10 +22,10 @@ use Rattle.model_machine.specs.Replies.{most_ids}
 use Rattle.model_machine.specs.State.{State, unbooked_in, with_coroutine, with_streams}
 use Rattle.model_machine.specs.Turn.{effect, handled_if, made_by}
 use Rattle.model_machine.specs.Went.{Went, Goes, Stops}
-use Rattle.law_inside.proofs.Counts.{own_there}
-use Rattle.law_kept.proofs.Calls.{kept_register, kept_spawn}
-use Rattle.law_kept.proofs.Telling.{future_of_kept}
-use Rattle.law_trees.proofs.Asking.{closes}
+use Rattle.law_replies.proofs.Counts.{own_there}
+use Rattle.refine_parts.proofs.Calls.{kept_register, kept_spawn}
+use Rattle.refine_parts.proofs.Telling.{future_of_kept}
+use Rattle.law_cases.proofs.Asking.{closes}
 use Rattle.aio_ready.specs.Queue as queue
 use Rattle.aio_future.specs.Settled.{registered, soon_at, soon_if_done, soon_until}
 use Rattle.aio_task.specs.Keeps.{Kept}
@@ -38,14 +38,14 @@ use Rattle.aio_body.specs.Asking.{Piece}
 use Rattle.aio_body.specs.Slots.{HoldsMore}
 use Rattle.aio_body.specs.Stands.{AreBlocks, Possible, Setting, Stands}
 use Rattle.aio_body.specs.Taken.{IsTaken}
-use Rattle.law_body.proofs.Blocks.{blocks_on}
-use Rattle.law_body.proofs.Lasting.{spares_none, stands_on}
-use Rattle.law_body.proofs.Left.{leaves_register}
-use Rattle.law_body.proofs.Spawned.{LeavesMore, leaves_spawn, stands_made}
-use Rattle.law_does.specs.Went.{MayCall}
-use Rattle.law_does.proofs.Answering.{callback_so}
-use Rattle.law_does.proofs.May.{may_taken}
-use Rattle.law_does.proofs.Requests.{change_tells}
+use Rattle.aio_body.proofs.Blocks.{blocks_on}
+use Rattle.aio_body.proofs.Lasting.{spares_none, stands_on}
+use Rattle.aio_body.proofs.Left.{leaves_register}
+use Rattle.aio_body.proofs.Spawned.{LeavesMore, leaves_spawn, stands_made}
+use Rattle.refine_streams.specs.Went.{MayCall}
+use Rattle.refine_streams.proofs.Answering.{callback_so}
+use Rattle.refine_streams.proofs.May.{may_taken}
+use Rattle.refine_streams.proofs.Requests.{change_tells}
 use Rattle.aio_streaming.specs.Acting.{GoesOn, acting}
 use Rattle.aio_streaming.proofs.Callbacks.{taken_streams}
 

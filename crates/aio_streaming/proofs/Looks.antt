@@ -22,9 +22,9 @@ use Rattle.model_machine.specs.Replies as plain
 use Rattle.model_machine.specs.Replies.{reads, reads_all, reads_all_as, reads_as, reply}
 use Rattle.model_machine.specs.State as state
 use Rattle.model_machine.specs.State.{State}
-use Rattle.law_inside.proofs.Counts.{lives_within}
-use Rattle.law_trees.specs.Trees.{AllWaits, IsMade, ReadWaits}
-use Rattle.law_trees.proofs.Asking.{reads as reads_keep, reads_all as reads_all_keep}
+use Rattle.law_replies.proofs.Counts.{lives_within}
+use Rattle.law_cases.specs.Trees.{AllWaits, IsMade, ReadWaits}
+use Rattle.law_cases.proofs.Asking.{reads as reads_keep, reads_all as reads_all_keep}
 use Rattle.aio_task.specs.View.{View}
 use Rattle.aio_transports.specs.declared.reader.StreamReader.{StreamReader}
 use Rattle.aio_transports.specs.Kept.{Kept as Transports}
@@ -40,12 +40,12 @@ use Rattle.aio_body.specs.declared.standing.Standing.TheVariants as code
 use Rattle.aio_body.specs.Asked.{IsAskingFor, IsInStep, Says, Serves}
 use Rattle.aio_body.specs.Slots.{standing_at}
 use Rattle.aio_body.specs.Stands.{Possible, Setting}
-use Rattle.law_body.proofs.May.{same_prop}
-use Rattle.law_does.specs.Streams.{HasStreams}
-use Rattle.law_does.specs.Went.{MayCall, Suspends}
-use Rattle.law_does.proofs.Meaning.{read_all_means, read_means}
-use Rattle.law_does.proofs.Possible.{has_streams, transports_owned}
-use Rattle.law_does.proofs.Telling.{tells_answers, tells_pending, tells_raises, tells_running, tells_stands}
+use Rattle.aio_body.proofs.May.{same_prop}
+use Rattle.refine_streams.specs.Streams.{HasStreams}
+use Rattle.refine_streams.specs.Went.{MayCall, Suspends}
+use Rattle.refine_streams.proofs.Meaning.{read_all_means, read_means}
+use Rattle.refine_streams.proofs.Possible.{has_streams, transports_owned}
+use Rattle.refine_streams.proofs.Unasking.{tells_answers, tells_pending, tells_raises, tells_running, tells_stands}
 use Rattle.aio_streaming.specs.Counts.{natural_in}
 use Rattle.aio_streaming.specs.Going.{RepliesOn, RunsOn}
 

@@ -8,7 +8,7 @@ use Rattle.model_machine.specs.Extra.{Extra}
 use Rattle.model_machine.specs.Replies as plain
 use Rattle.model_machine.specs.Replies.{bad_port, connects, listens, reply}
 use Rattle.model_machine.specs.State.{State}
-use Rattle.law_does.proofs.Meaning.{connect_above, connect_below, connect_means, listen_above, listen_below, listen_means}
+use Rattle.refine_streams.proofs.Meaning.{connect_above, connect_below, connect_means, listen_above, listen_below, listen_means}
 use Rattle.aio_streaming.specs.Ports.{port_in}
 
 abbrev fits : ℕ → Bool

@@ -16,8 +16,8 @@ use Rattle.aio_wire.specs.Outside.{Outside}
 use Rattle.aio_wire.specs.Port.{ported}
 use Rattle.aio_wire.specs.declared.stop.Stop.{Stop}
 use Rattle.aio_exchange.proofs.Among.{told_none}
-use Rattle.law_doing.specs.Follows.{reach}
-use Rattle.law_trees.proofs.Asking.{drops}
+use Rattle.aio_exchange.specs.Follows.{reach}
+use Rattle.law_cases.proofs.Asking.{drops}
 use Rattle.aio_transports.specs.Kept.{Kept as Transports}
 use Rattle.aio_transports.specs.Owned.{OwnsTransports}
 use Rattle.aio_transports.specs.Standing.{Becomes, Comes as Changes}
@@ -30,15 +30,15 @@ use Rattle.aio_body.specs.Asked.{IsDeciding, IsInStep, Says}
 use Rattle.aio_body.specs.Asking.{Comes}
 use Rattle.aio_body.specs.Stands.{Possible, Setting}
 use Rattle.aio_body.proofs.Asking.{come_none, comes_ends}
-use Rattle.law_body.proofs.May.{same_prop}
-use Rattle.law_does.specs.Streams.{HasStreams}
-use Rattle.law_does.specs.Went.{MayCall}
-use Rattle.law_does.proofs.Forgetting.{drop_connect_forgets}
-use Rattle.law_does.proofs.GivingUp.{gives_up_in_step, gives_up_so}
-use Rattle.law_does.proofs.May.{may_deciding}
-use Rattle.law_does.proofs.Nexts.{raises_add}
-use Rattle.law_does.proofs.Possible.{has_streams, transports_owned}
-use Rattle.law_does.proofs.Replying.{changed_fails, changed_goes, raises_go}
+use Rattle.aio_body.proofs.May.{same_prop}
+use Rattle.refine_streams.specs.Streams.{HasStreams}
+use Rattle.refine_streams.specs.Went.{MayCall}
+use Rattle.refine_streams.proofs.Forgetting.{drop_connect_forgets}
+use Rattle.refine_streams.proofs.GivingUp.{gives_up_in_step, gives_up_so}
+use Rattle.refine_streams.proofs.May.{may_deciding}
+use Rattle.refine_streams.proofs.Nexts.{raises_add}
+use Rattle.refine_streams.proofs.Possible.{has_streams, transports_owned}
+use Rattle.refine_streams.proofs.Replying.{changed_fails, changed_goes, raises_go}
 use Rattle.aio_streaming.specs.Done.{raised_as}
 use Rattle.aio_streaming.specs.Going.{RepliesOn, RunsOn}
 use Rattle.aio_streaming.specs.Resuming.{Resumes, resuming}

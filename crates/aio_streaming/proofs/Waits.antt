@@ -27,7 +27,7 @@ use Rattle.model_machine.specs.Outcomes.{input_of}
 use Rattle.model_machine.specs.Replies as plain
 use Rattle.model_machine.specs.Replies.{awaits, awaits_as}
 use Rattle.model_machine.specs.State.{State}
-use Rattle.law_kept.proofs.Telling.{outcome_kept, pending_kept}
+use Rattle.refine_parts.proofs.Telling.{outcome_kept, pending_kept}
 use Rattle.aio_cancel.specs.Awaitables.{Appended}
 use Rattle.aio_task.specs.View.{View, parts}
 use Rattle.aio_extra.specs.Added.{Added}
@@ -37,11 +37,11 @@ use Rattle.aio_body.specs.declared.reply.RequestReply.TheVariants as said
 use Rattle.aio_body.specs.Asked.{IsAskingFor, IsInStep, Says}
 use Rattle.aio_body.specs.Outcomes.{RepliesAs, reply_of}
 use Rattle.aio_body.specs.Stands.{Possible, Setting}
-use Rattle.law_body.proofs.Asleep.{asked_within}
-use Rattle.law_body.proofs.May.{same_prop}
-use Rattle.law_body.proofs.Rooms.{waits_so}
-use Rattle.law_body.proofs.Telling.{kept_stays, named_spares}
-use Rattle.law_does.proofs.Possible.{same_truth}
+use Rattle.aio_body.proofs.Asleep.{asked_within}
+use Rattle.aio_body.proofs.May.{same_prop}
+use Rattle.aio_body.proofs.Rooms.{waits_so}
+use Rattle.aio_body.proofs.Telling.{kept_stays, named_spares}
+use Rattle.refine_streams.proofs.Possible.{same_truth}
 use Rattle.aio_streaming.specs.Written.{KeepsFuture}
 
 -- ---- what is awaited is kept

@@ -26,9 +26,9 @@ use Rattle.model_machine.specs.Replies.{drains_as, limits_as, reply, streams_cha
 use Rattle.model_machine.specs.Sound.{AreStreamsFutures}
 use Rattle.model_machine.specs.State as state
 use Rattle.model_machine.specs.State.{State, unbooked_in}
-use Rattle.law_inside.proofs.Counts.{lives_within}
-use Rattle.law_trees.specs.Trees.{AnswersStreams, DrainWaits, IsMade, Keeping, KeepsStreams, WaitsNever}
-use Rattle.law_trees.proofs.Asking.{drains}
+use Rattle.law_replies.proofs.Counts.{lives_within}
+use Rattle.law_cases.specs.Trees.{AnswersStreams, DrainWaits, IsMade, Keeping, KeepsStreams, WaitsNever}
+use Rattle.law_cases.proofs.Asking.{drains}
 use Rattle.aio_base.specs.declared.memory.Memory.{Memory}
 use Rattle.aio_wire.specs.Outside.{Outside}
 use Rattle.aio_wire.specs.Port.{ported}
@@ -45,17 +45,17 @@ use Rattle.aio_body.specs.Asked.{IsAskingFor, IsInStep, Says, Serves}
 use Rattle.aio_body.specs.Asking.{Comes, or_stop, serving}
 use Rattle.aio_body.specs.Slots.{standing_at}
 use Rattle.aio_body.specs.Stands.{Possible, Setting}
-use Rattle.law_body.proofs.Alone.{serves_without}
-use Rattle.law_body.proofs.May.{same_prop}
-use Rattle.law_body.proofs.Rooms.{pauses_so}
-use Rattle.law_does.specs.Alike.{ForgetsWritten}
-use Rattle.law_does.specs.Streams.{HasStreams}
-use Rattle.law_does.specs.Went.{MayCall, Suspends}
-use Rattle.law_does.proofs.Answering.{goes_in_step, stands_so}
-use Rattle.law_does.proofs.Possible.{has_streams, transports_owned}
-use Rattle.law_does.proofs.Requests.{told_changes}
-use Rattle.law_does.proofs.Served.{asking_answers, asking_raises}
-use Rattle.law_does.proofs.Telling.{tells_answers, tells_gone, tells_pending, tells_raises, tells_rests, tells_running}
+use Rattle.aio_body.proofs.Alone.{serves_without}
+use Rattle.aio_body.proofs.May.{same_prop}
+use Rattle.aio_body.proofs.Rooms.{pauses_so}
+use Rattle.refine_streams.specs.Alike.{ForgetsWritten}
+use Rattle.refine_streams.specs.Streams.{HasStreams}
+use Rattle.refine_streams.specs.Went.{MayCall, Suspends}
+use Rattle.refine_streams.proofs.Answering.{goes_in_step, stands_so}
+use Rattle.refine_streams.proofs.Possible.{has_streams, transports_owned}
+use Rattle.refine_streams.proofs.Requests.{told_changes}
+use Rattle.refine_streams.proofs.Served.{asking_answers, asking_raises}
+use Rattle.refine_streams.proofs.Unasking.{tells_answers, tells_gone, tells_pending, tells_raises, tells_rests, tells_running}
 use Rattle.aio_streaming.specs.Done.{done_as}
 use Rattle.aio_streaming.specs.Going.{RepliesOn, RunsOn}
 use Rattle.aio_streaming.specs.Written.{limited_as}

@@ -5,7 +5,7 @@ ghost use Rattle.model_value.specs.declared.action.Action.TheVariants as action;
 ghost use Rattle.model_stream.specs.Streams as plain;
 ghost use Rattle.model_machine.specs.Turn.{is_returned};
 ghost use Rattle.aio_wire.specs.Port.{ported};
-ghost use Rattle.law_doing.specs.Follows.{reach};
+ghost use Rattle.aio_exchange.specs.Follows.{reach};
 ghost use Rattle.aio_task.specs.View.{parts};
 ghost use Rattle.aio_transports.specs.Owned.{OwnsTransports};
 ghost use Rattle.aio_transports.specs.Standing.{Comes as Changes};

@@ -5,7 +5,7 @@ ghost use Rattle.model_stream.specs.Requests.{kill as plain_kill};
 ghost use Rattle.model_stream.specs.Streams.{launch as plain_launch};
 ghost use Rattle.model_machine.specs.Replies.{code_of as plain_code_of};
 ghost use Rattle.aio_wire.specs.Port.{ported};
-ghost use Rattle.law_doing.specs.Follows.{reach};
+ghost use Rattle.aio_exchange.specs.Follows.{reach};
 ghost use Rattle.aio_transports.specs.Owned.{OwnsTransports};
 ghost use Rattle.aio_transports.specs.Standing.{Answers as AnswersTree, Comes as Changes};
 ghost use Rattle.aio_body.specs.Asked.{IsAskingFor, Serves};

@@ -5,14 +5,14 @@ ghost use Rattle.model_loop.specs.Futures.{is_pending_at};
 ghost use Rattle.model_stream.specs.Streams.{connect as plain_connect, listen as plain_listen};
 ghost use Rattle.model_machine.specs.Replies.{bad_port as plain_bad_port};
 ghost use Rattle.aio_wire.specs.Port.{ported};
-ghost use Rattle.law_doing.specs.Follows.{reach};
+ghost use Rattle.aio_exchange.specs.Follows.{reach};
 ghost use Rattle.aio_transports.specs.Owned.{OwnsTransports};
 ghost use Rattle.aio_transports.specs.Standing.{Answers as AnswersTree};
 ghost use Rattle.aio_body.specs.Asked.{IsAskingFor};
 ghost use Rattle.aio_body.specs.Asking.{Comes, serving};
 ghost use Rattle.aio_body.specs.Slots.{standing_at};
 ghost use Rattle.aio_body.specs.Stands.{Possible};
-ghost use Rattle.law_does.specs.Went.{Suspends};
+ghost use Rattle.refine_streams.specs.Went.{Suspends};
 ghost use Rattle.aio_streaming.specs.Answered.{AnsweredAs, listened_as};
 ghost use Rattle.aio_streaming.specs.Ports.{port_in};
 

@@ -3,7 +3,7 @@ ghost use Rattle.std.specs.Prelude.{◌≡◌, None};
 ghost use Rattle.model_stream.specs.Requests.{drop_connect as plain_drop_connect};
 ghost use Rattle.model_machine.specs.State.{Connecting, Yielding, Reading, ReadingAll};
 ghost use Rattle.aio_wire.specs.Port.{ported};
-ghost use Rattle.law_doing.specs.Follows.{reach};
+ghost use Rattle.aio_exchange.specs.Follows.{reach};
 ghost use Rattle.aio_transports.specs.Owned.{OwnsTransports};
 ghost use Rattle.aio_transports.specs.Standing.{Comes as Changes};
 ghost use Rattle.aio_body.specs.Asked.{IsDeciding};

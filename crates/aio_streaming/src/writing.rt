@@ -5,7 +5,7 @@ ghost use Rattle.model_stream.specs.Requests.{write as plain_write, write_eof as
 ghost use Rattle.model_stream.specs.Streams.{close_server as plain_close_server};
 ghost use Rattle.model_machine.specs.Replies.{drains};
 ghost use Rattle.aio_wire.specs.Port.{ported};
-ghost use Rattle.law_doing.specs.Follows.{reach};
+ghost use Rattle.aio_exchange.specs.Follows.{reach};
 ghost use Rattle.aio_transports.specs.Owned.{OwnsTransports};
 ghost use Rattle.aio_transports.specs.Standing.{Answers as AnswersTree, Comes as Changes};
 ghost use Rattle.aio_body.specs.Asked.{IsAskingFor, Serves};

@@ -14,7 +14,7 @@ use Rattle.model_loop.specs.Futures.{with_future, settle, settled, settled_as, r
 use Rattle.model_loop.specs.Tasks.{change_task, spawn, next_task}
 use Rattle.model_loop.specs.Cancel.{Canceller, cancel_at, cancel}
 use Rattle.law_cancel.proofs.Effects.{done_as, asked_as}
-use Rattle.law_parts.proofs.Commuting.{SeesRequests, changes, cancels}
+use Rattle.algorithm_parts.proofs.Commuting.{SeesRequests, changes, cancels}
 use Rattle.aio_task.specs.Bare.{bare_action, bare_handle, bare_future, bare, bare_of}
 
 -- ---- lists

@@ -9,11 +9,11 @@ use Rattle.model_loop.specs.Futures.{make_future}
 use Rattle.model_loop.specs.Owning.{owner_in}
 use Rattle.model_loop.specs.Sound.{HasNoCircle, ArePartsSound}
 use Rattle.law_cancel.proofs.Circling.{no_circle_kept}
-use Rattle.law_made.proofs.Making.{make_sound}
-use Rattle.law_made.proofs.Passing.{make_no_circle, same_tasks_no_circle}
-use Rattle.law_settling.proofs.CancelSound.{same_sound}
-use Rattle.law_settling.proofs.Looks.{handles_look_same}
-use Rattle.law_settling.specs.Frames.{Follows}
+use Rattle.law_steps.proofs.Making.{make_sound}
+use Rattle.law_steps.proofs.Passing.{make_no_circle, same_tasks_no_circle}
+use Rattle.law_steps.proofs.CancelSound.{same_sound}
+use Rattle.law_steps.proofs.Looks.{handles_look_same}
+use Rattle.law_steps.specs.Frames.{Follows}
 use Rattle.aio_ready.specs.declared.handle.Handle.{Handle}
 use Rattle.aio_ready.specs.declared.handle.HandleName.{HandleName}
 use Rattle.aio_ready.specs.declared.handle.HandleName.TheVariants as name
@@ -22,7 +22,7 @@ use Rattle.aio_ready.specs.Queue as queue
 use Rattle.aio_ready.specs.Queue.{Queue}
 use Rattle.aio_timer.specs.declared.live.TimerId.{TimerId}
 use Rattle.aio_timer.specs.Schedule.{Schedule, timer, placed_after, without, is_of, lives, due_at, later_than, fallen}
-use Rattle.law_parts.specs.Open.{room_of}
+use Rattle.algorithm_parts.specs.Open.{room_of}
 use Rattle.aio_cancel.specs.Noted.{Noted}
 use Rattle.aio_cancel.specs.Room as walk
 use Rattle.aio_cancel.specs.Seen.{Marked, Stacked}

@@ -17,14 +17,14 @@ use Rattle.model_loop.specs.Sound.{HasNoCircle, ArePartsSound}
 use Rattle.law_cancel.proofs.Circling.{no_circle_kept, passes-same, register-view}
 use Rattle.law_cancel.proofs.Effects.{register-tasks, mark_asked-tasks, asked_as}
 use Rattle.law_cancel.proofs.Lookups.{get_within}
-use Rattle.law_made.proofs.Passing.{settle_no_circle}
-use Rattle.law_made.proofs.Registering.{callback_sound}
-use Rattle.law_parts.specs.Forgotten.{released}
-use Rattle.law_parts.specs.Open.{room_of, is_inner_kind}
-use Rattle.law_parts.proofs.RoomsKept.{settle-room, register-room, ask-room, make-room, release-room}
-use Rattle.law_settling.proofs.CancelSound.{is_no_task, same_sound, settle_sound}
-use Rattle.law_settling.proofs.Looks.{asked_looks_same, handles_look_same, same_no_circle}
-use Rattle.law_settling.proofs.Settling.{soon-where}
+use Rattle.law_steps.proofs.Passing.{settle_no_circle}
+use Rattle.law_steps.proofs.Registering.{callback_sound}
+use Rattle.algorithm_parts.specs.Forgotten.{released}
+use Rattle.algorithm_parts.specs.Open.{room_of, is_inner_kind}
+use Rattle.algorithm_parts.proofs.RoomsKept.{settle-room, register-room, ask-room, make-room, release-room}
+use Rattle.law_steps.proofs.CancelSound.{is_no_task, same_sound, settle_sound}
+use Rattle.law_steps.proofs.Looks.{asked_looks_same, handles_look_same, same_no_circle}
+use Rattle.law_steps.proofs.Settling.{soon-where}
 use Rattle.aio_base.specs.declared.memory.Memory.{Memory}
 use Rattle.aio_ready.specs.Queue as queue
 use Rattle.aio_ready.specs.Queue.{Queue}

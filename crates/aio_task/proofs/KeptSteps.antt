@@ -17,16 +17,16 @@ use Rattle.model_loop.specs.Totals.{pending_where}
 use Rattle.model_loop.specs.Ways.{steps}
 use Rattle.model_loop.specs.Sound.{HasNoCircle, ArePartsSound}
 use Rattle.law_cancel.proofs.Circling.{cancel_makes_none, suspend_makes_none}
-use Rattle.law_made.proofs.Passing.{begin_no_circle, spawn_no_circle, finish_no_circle, same_tasks_no_circle}
-use Rattle.law_made.proofs.Spawning.{spawn_sound}
-use Rattle.law_settling.proofs.CancelSound.{cancel_sound, same_sound}
-use Rattle.law_settling.proofs.Looks.{same_no_circle, handles_look_same}
-use Rattle.law_settling.specs.Frames.{Follows}
+use Rattle.law_steps.proofs.Passing.{begin_no_circle, spawn_no_circle, finish_no_circle, same_tasks_no_circle}
+use Rattle.law_steps.proofs.Spawning.{spawn_sound}
+use Rattle.law_steps.proofs.CancelSound.{cancel_sound, same_sound}
+use Rattle.law_steps.proofs.Looks.{same_no_circle, handles_look_same}
+use Rattle.law_steps.specs.Frames.{Follows}
 use Rattle.law_steps.proofs.Ending.{pause_sound, finish_sound}
 use Rattle.law_steps.proofs.Stepping.{begin_sound, uncancel_looks_same, uncancel_fewer}
 use Rattle.law_steps.proofs.Waiting.{suspend_sound}
-use Rattle.law_parts.specs.Open.{room_of}
-use Rattle.law_parts.proofs.RoomsKept.{make-room}
+use Rattle.algorithm_parts.specs.Open.{room_of}
+use Rattle.algorithm_parts.proofs.RoomsKept.{make-room}
 use Rattle.aio_base.specs.declared.memory.Memory.{Memory}
 use Rattle.aio_cancel.specs.Noted.{Noted}
 use Rattle.aio_cancel.specs.Seen.{Marked, Stacked}

@@ -20,7 +20,7 @@ use Rattle.model_loop.specs.Ways.{steps, wakeups_on, HasOneWay}
 use Rattle.model_loop.specs.Owning.{OwnsFutures, own_future, owner_at, owner_in}
 use Rattle.model_loop.specs.Circles.{passes_of_kind, passes_until, passes_at, PassesTo, Leads, at_once, through, leads, circle}
 use Rattle.law_cancel.proofs.Reach.{leads_decides}
-use Rattle.law_parts.specs.Shape.{members_of, members_at}
+use Rattle.algorithm_parts.specs.Shape.{members_of, members_at}
 use Rattle.aio_future.specs.Awaited.{is_step, IsUnawaited}
 
 -- ---- callbacks that are no steps

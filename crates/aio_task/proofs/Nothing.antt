@@ -3,7 +3,7 @@ use Rattle.std.proofs.Common.{ℕ, ◌≤◌, None, refl, arith}
 use Rattle.std.proofs.lemmas.Bool.{false≢true}
 use Rattle.model_loop.specs.Circles.{Leads, at_once, through}
 use Rattle.model_loop.specs.Sound.{ArePartsSound}
-use Rattle.law_parts.specs.Open.{room_of}
+use Rattle.algorithm_parts.specs.Open.{room_of}
 use Rattle.aio_task.specs.Bare.{bare}
 use Rattle.aio_task.specs.View.{parts, empty}
 use Rattle.aio_task.specs.Kept.{IsKept}

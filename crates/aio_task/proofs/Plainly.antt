@@ -16,7 +16,7 @@ use Rattle.model_loop.specs.Ways.{steps, resumes, wakes, is_running, one_if, way
 use Rattle.model_loop.specs.Marks.{MayBeMarked, MarksWait}
 use Rattle.model_loop.specs.Spent.{spent_by}
 use Rattle.model_loop.specs.Sound.{ArePartsSound}
-use Rattle.law_settling.proofs.Looks.{spent_grows_below}
+use Rattle.law_steps.proofs.Looks.{spent_grows_below}
 use Rattle.law_steps.proofs.Stepping.{taken-where}
 use Rattle.aio_task.specs.Bare.{bare_action, bare_handle, bare_future, bare}
 use Rattle.aio_task.specs.View.{View, parts}

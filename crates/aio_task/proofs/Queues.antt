@@ -10,7 +10,7 @@ use Rattle.model_value.specs.declared.action.Action.TheVariants.{Step, StepInCir
 use Rattle.model_loop.specs.Parts as plain
 use Rattle.model_loop.specs.Parts.{Timer}
 use Rattle.model_loop.specs.Totals.{pending_where}
-use Rattle.law_settling.specs.Frames.{Follows}
+use Rattle.law_steps.specs.Frames.{Follows}
 use Rattle.aio_ready.specs.declared.handle.Handle.{Handle}
 use Rattle.aio_ready.specs.declared.handle.HandleName.{HandleName}
 use Rattle.aio_ready.specs.declared.handle.HandleName.TheVariants as name

@@ -17,10 +17,10 @@ use Rattle.model_loop.specs.Spent.{spent_by}
 use Rattle.model_loop.specs.Circles.{passes, passes_at}
 use Rattle.model_loop.specs.Sound.{ArePartsSound, HasNoCircle}
 use Rattle.law_cancel.proofs.Lookups.{get-set_kept, get-set_other, get-set_same, get_within}
-use Rattle.law_made.proofs.Passing.{no_circle_more}
-use Rattle.law_parts.specs.Forgotten.{released}
-use Rattle.law_settling.proofs.CancelSound.{is_no_task}
-use Rattle.law_settling.proofs.Looks.{spent_grows_below}
+use Rattle.law_steps.proofs.Passing.{no_circle_more}
+use Rattle.algorithm_parts.specs.Forgotten.{released}
+use Rattle.law_steps.proofs.CancelSound.{is_no_task}
+use Rattle.law_steps.proofs.Looks.{spent_grows_below}
 
 module _ (running : Option ℕ) (id : ℕ) (p : Parts) (f : Future) (there : slice_get p.futures id ≡ Some f)
     (free : owner_of p id ≡ None) (uncalled : callbacks_of p id ≡ []) where

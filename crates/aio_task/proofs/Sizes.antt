@@ -20,9 +20,9 @@ use Rattle.law_cancel.proofs.Counting.{change_task-kept}
 use Rattle.law_cancel.proofs.Effects.{settle-tasks, register-tasks, length-change_task, change_task-futures}
 use Rattle.law_cancel.proofs.Lookups.{get_within}
 use Rattle.law_cancel.proofs.Trace.{goes-tasks}
-use Rattle.law_parts.specs.Open.{is_inner_until, is_inner_at, is_inner, room_of}
-use Rattle.law_parts.proofs.RoomsKept.{settle-room, end-room, register-room, change-room, cancel-room}
-use Rattle.law_settling.proofs.Spreading.{as_row, with_spread}
+use Rattle.algorithm_parts.specs.Open.{is_inner_until, is_inner_at, is_inner, room_of}
+use Rattle.algorithm_parts.proofs.RoomsKept.{settle-room, end-room, register-room, change-room, cancel-room}
+use Rattle.law_steps.proofs.Spreading.{as_row, with_spread}
 use Rattle.aio_cancel.specs.Awaitables as cancel
 use Rattle.aio_cancel.specs.Awaitables.{Awaitables}
 use Rattle.aio_cancel.specs.Noted.{Noted, noted, HasNoNotes}

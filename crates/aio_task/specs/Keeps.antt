@@ -8,7 +8,7 @@ use Rattle.model_loop.specs.Parts.{Timer, Parts}
 use Rattle.model_loop.specs.Futures.{next_future}
 use Rattle.model_loop.specs.Handles.{by_deadline}
 use Rattle.model_loop.specs.Numbered.{IsNumbered}
-use Rattle.law_parts.specs.Forgotten.{forget_from, AreDone}
+use Rattle.algorithm_parts.specs.Forgotten.{forget_from, AreDone}
 use Rattle.aio_ready.specs.declared.handle.Handle.{Handle}
 use Rattle.aio_ready.specs.declared.handle.HandleId.{HandleId}
 use Rattle.aio_ready.specs.declared.handle.HandleName.{HandleName}

@@ -26,10 +26,10 @@ use Rattle.aio_timeout.specs.declared.handler.TimeoutHandler.{TimeoutHandler}
 use Rattle.aio_timeout.specs.declared.handler.TimeoutHandler.TheVariants.{Soon, At}
 use Rattle.aio_timeout.specs.Kept.{known_of, IsHandler, StepsNone}
 use Rattle.aio_timeout.specs.Scheduled.{Made, fires_if, tag_if}
-use Rattle.law_handles.proofs.Appending.{extends_same, extends_still, kept_same, kept_soon}
-use Rattle.law_handles.proofs.Naming.{next_named}
-use Rattle.law_handles.proofs.Running.{keeps_cancelled}
-use Rattle.law_handles.proofs.Scheduling.{kept_later, keeps_revoked}
+use Rattle.refine_parts.proofs.Appending.{extends_same, extends_still, kept_same, kept_soon}
+use Rattle.refine_parts.proofs.Naming.{next_named}
+use Rattle.refine_parts.proofs.Running.{keeps_cancelled}
+use Rattle.refine_parts.proofs.Scheduling.{kept_later, keeps_revoked}
 
 -- ---- ties go on
 pub give_up_extends : (t : Ties) (p : Parts) (old : Option ℕ) → Extends p t (give_up old p) t

@@ -22,9 +22,9 @@ use Rattle.aio_timeout.specs.States.{state_of, is_expiring, refusal}
 use Rattle.aio_timeout.specs.Kept.{IsHandler, IsTimeout, AreTimeouts, KeepsTimeouts, KeptTimeouts, handler_at}
 use Rattle.aio_timeout.specs.Scheduled.{Made, fires_if, tag_if}
 use Rattle.aio_timeout.proofs.Zips.{zip_set, zip_at, zip_push, zip_length, zip_weaker}
-use Rattle.law_handles.proofs.Appending.{extends_same, extends_on}
-use Rattle.law_kept.proofs.Calls.{keeps_uncancel, kept_request}
-use Rattle.law_kept.proofs.Telling.{future_of_kept}
+use Rattle.refine_parts.proofs.Appending.{extends_same, extends_on}
+use Rattle.refine_parts.proofs.Calls.{keeps_uncancel, kept_request}
+use Rattle.refine_parts.proofs.Telling.{future_of_kept}
 use Rattle.aio_timeout.proofs.Handlers.{give_up_extends, uncancel_extends, StaysKnown, handler_on, handler_given}
 use Rattle.aio_timeout.proofs.Loops.{give_up_after, scheduled_parts, scheduled_timeouts, entered_parts, entered_timeouts, expiring_is, late_parts}
 use Rattle.aio_timeout.proofs.Loops.{late_timeouts, late_answer, early_parts, early_timeouts, early_answer}

@@ -22,8 +22,8 @@ use Rattle.aio_timeout.specs.declared.handler.TimeoutHandler.{TimeoutHandler}
 use Rattle.aio_timeout.specs.declared.handler.TimeoutHandler.TheVariants.{Soon, At}
 use Rattle.aio_timeout.specs.declared.timeout.Timeout.{Timeout}
 use Rattle.aio_timeout.specs.Kept.{IsHandler, KeepsTimeouts, StepsNone, handler_at}
-use Rattle.law_handles.proofs.Appending.{waiting_kept}
-use Rattle.law_handles.proofs.Naming.{tags_pending}
+use Rattle.refine_parts.proofs.Appending.{waiting_kept}
+use Rattle.refine_parts.proofs.Naming.{tags_pending}
 use Rattle.aio_timeout.proofs.Keeping.{timeout_is}
 
 step_fires_none : (id : ℕ) (action : Action) → is_step action ≡ true → not (fires id action) ≡ true

@@ -4,9 +4,9 @@ use Rattle.model_stream.specs.Doing.{Doing}
 use Rattle.model_stream.specs.Streams.{Streams}
 use Rattle.aio_wire.specs.Outside.{Outside}
 use Rattle.aio_wire.specs.declared.stop.Stop.TheVariants as stop
-use Rattle.law_doing.specs.Follows.{Reach}
-use Rattle.law_doing.proofs.Following.{follows_starved}
-use Rattle.law_doing.proofs.Telling.{tells_follow}
+use Rattle.aio_exchange.specs.Follows.{Reach}
+use Rattle.aio_exchange.proofs.Following.{follows_starved}
+use Rattle.aio_exchange.proofs.Telling.{tells_follow}
 use Rattle.aio_task.specs.View.{View}
 use Rattle.aio_change.specs.Seen.{seen_changed}
 use Rattle.aio_transports.specs.Kept.{Kept}

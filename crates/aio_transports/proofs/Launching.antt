@@ -6,9 +6,9 @@ use Rattle.aio_wire.specs.Outside.{Outside}
 use Rattle.aio_wire.specs.declared.stop.Stop.{Stop}
 use Rattle.aio_wire.specs.declared.stop.Stop.TheVariants as stop
 use Rattle.aio_exchange.specs.Exchanged.{Exchanged, Last, All, Met, Starved}
-use Rattle.law_doing.specs.Follows.{EndsBy, Follows, Reach, UnlessStarved}
-use Rattle.law_doing.specs.Ways.{Leads, changed_on, had_on}
-use Rattle.law_doing.proofs.Following.{follows_on, follows_starved}
+use Rattle.aio_exchange.specs.Follows.{EndsBy, Follows, Reach, UnlessStarved}
+use Rattle.aio_exchange.specs.Ways.{Leads, changed_on, had_on}
+use Rattle.aio_exchange.proofs.Following.{follows_on, follows_starved}
 use Rattle.aio_task.specs.View.{View}
 use Rattle.aio_change.specs.Seen.{seen_changed}
 use Rattle.aio_change.proofs.Owning.{went_keeps}

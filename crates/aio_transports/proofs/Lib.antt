@@ -1,4 +1,5 @@
 pub mod Acts
+pub mod Endings
 pub mod Filtering
 pub mod Known
 pub mod Lasting

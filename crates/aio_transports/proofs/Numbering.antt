@@ -30,9 +30,9 @@ use Rattle.model_stream.specs.Streams.{connect, its_children}
 use Rattle.model_stream.specs.Streams.{its_connections, launch, listen, may_connect, most_accepts, on_one, readable_server}
 use Rattle.aio_wire.specs.Outside.{Outside}
 use Rattle.aio_exchange.specs.Exchanged.{Last, All, Met, Starved}
-use Rattle.law_doing.specs.Follows.{EndsBy, Follows, Reach}
-use Rattle.law_doing.specs.Tells.{Tells}
-use Rattle.law_doing.specs.Ways.{Move, Did, Heard, Leads}
+use Rattle.aio_exchange.specs.Follows.{EndsBy, Follows, Reach}
+use Rattle.aio_exchange.specs.Tells.{Tells}
+use Rattle.aio_exchange.specs.Ways.{Move, Did, Heard, Leads}
 
 -- ---- what holds of whatever a tree ends with
 abbrev pub EndsIn : {A : Type 0} → (A → Type 0) → Doing A → Type 0

@@ -5,8 +5,8 @@ use Rattle.model_stream.specs.Doing.{Doing}
 use Rattle.model_stream.specs.Streams.{Opened, Streams}
 use Rattle.aio_wire.specs.Outside.{Outside}
 use Rattle.aio_wire.specs.declared.stop.Stop.{Stop}
-use Rattle.law_doing.specs.Follows.{Follows, Reach, after_of, with_after}
-use Rattle.law_doing.specs.Tells.{Tells}
+use Rattle.aio_exchange.specs.Follows.{Follows, Reach, after_of, with_after}
+use Rattle.aio_exchange.specs.Tells.{Tells}
 use Rattle.law_over.specs.Gone.{is_gone}
 use Rattle.aio_task.specs.View.{View}
 use Rattle.aio_change.specs.Seen.{seen_changed}

@@ -2,6 +2,7 @@
 //! them.
 #![tactic(auto)]
 
+pub mod laws;
 mod reader;
 mod transports;
 

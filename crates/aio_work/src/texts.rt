@@ -5,8 +5,8 @@ ghost use Rattle.model_text.specs.Scripts.{script_of};
 ghost use Rattle.model_wire.specs.Journal.{Answered};
 ghost use Rattle.model_wire.specs.JournalText.{entries_of};
 ghost use Rattle.model_work.specs.Work.{script, journal};
-ghost use Rattle.law_work.specs.Program.{program};
-ghost use Rattle.law_work.specs.Answers.{answers};
+ghost use Rattle.law_journal.specs.Program.{program};
+ghost use Rattle.law_journal.specs.WorkAnswers.{answers};
 
 use crate::journal::push_journal;
 use crate::script::push_script;

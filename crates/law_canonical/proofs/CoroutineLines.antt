@@ -5,7 +5,7 @@ use Rattle.model_text.specs.Forms.{Def, End}
 use Rattle.model_text.specs.SecondPass.{Line, Part}
 use Rattle.model_text.specs.Bodies.{body_in}
 use Rattle.model_text.specs.Scripts.{coroutine}
-use Rattle.law_nesting.specs.SpelledBodies.{SpellsBody}
+use Rattle.law_canonical.specs.SpelledBodies.{SpellsBody}
 use Rattle.law_canonical.specs.ProgramLines.{indented, statements_lines, coroutine_lines, coroutines_lines}
 use Rattle.law_canonical.proofs.SpelledLines.{without_blocks, two-parts, spelled-lines}
 

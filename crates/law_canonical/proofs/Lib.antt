@@ -1,3 +1,9 @@
+pub mod BodyLemmas
+pub mod Nested
+pub mod Passed
+pub mod Parted
+pub mod Judged
+pub mod Bodies
 pub mod Texts
 pub mod SpelledLines
 pub mod TextLines

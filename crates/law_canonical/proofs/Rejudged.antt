@@ -12,7 +12,7 @@ use Rattle.model_text.specs.SecondPass.{Line, Part, bound_by, variables_in, call
 use Rattle.model_text.specs.SecondPass.{named_part, part_judged, parts_judged, main_text, is_main, main_judged, second_pass}
 use Rattle.model_text.specs.Bodies.{body_in}
 use Rattle.model_text.specs.Scripts.{coroutine}
-use Rattle.law_nesting.proofs.Judged.{turned, scope_of, LinesMean, PartMeans, PartsMean, Meaning}
+use Rattle.law_canonical.proofs.Judged.{turned, scope_of, LinesMean, PartMeans, PartsMean, Meaning}
 use Rattle.law_canonical.proofs.Reparted.{Spelling, PartSpelled}
 
 -- ---- the lines of a coroutine

@@ -6,8 +6,8 @@ use Rattle.model_text.specs.Places.{OpenBlock, after, role_of}
 use Rattle.model_text.specs.FirstPass.{Numbered}
 use Rattle.model_text.specs.SecondPass.{Line, Part, ScriptParts, before_parts, parts_of}
 use Rattle.law_lines.specs.LineTexts.{spelled}
-use Rattle.law_nesting.proofs.Nested.{is_inner, Nested}
-use Rattle.law_nesting.proofs.Parted.{in_coroutine}
+use Rattle.law_canonical.proofs.Nested.{is_inner, Nested}
+use Rattle.law_canonical.proofs.Parted.{in_coroutine}
 use Rattle.law_canonical.proofs.CoroutineLines.{part_lines}
 use Rattle.law_canonical.proofs.Replayed.{renumbered}
 

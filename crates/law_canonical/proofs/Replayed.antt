@@ -8,8 +8,8 @@ use Rattle.model_text.specs.SecondPass.{Line}
 use Rattle.law_lines.specs.LineTexts.{spelled}
 use Rattle.law_lines.specs.WellWritten.{WellWritten}
 use Rattle.law_lines.proofs.FormReads.{line-inside}
-use Rattle.law_nesting.proofs.Passed.{Fits, fitting, stepped, forms-step, forms-end}
-use Rattle.law_nesting.proofs.Parted.{AllFit}
+use Rattle.law_canonical.proofs.Passed.{Fits, fitting, stepped, forms-step, forms-end}
+use Rattle.law_canonical.proofs.Parted.{AllFit}
 use Rattle.law_canonical.specs.ProgramLines.{Indented}
 use Rattle.law_canonical.proofs.SpelledLines.{without_blocks}
 use Rattle.law_canonical.proofs.TextLines.{line_bytes}

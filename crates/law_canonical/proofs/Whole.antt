@@ -14,11 +14,11 @@ use Rattle.model_text.specs.Canonical.{canonical}
 use Rattle.model_text.specs.Scripts.{most_bytes, profile_in, coroutine, program, judged_program, script_of_forms, script_of_lines, script_of}
 use Rattle.law_lines.specs.LineTexts.{line_text}
 use Rattle.law_lines.proofs.Printable.{line-allowed}
-use Rattle.law_nesting.proofs.Nested.{Nested}
-use Rattle.law_nesting.proofs.Passed.{Whole, whole}
-use Rattle.law_nesting.proofs.Parted.{forms_in, in_coroutine, part_forms, AllFit, Coroutines, coroutines}
-use Rattle.law_nesting.proofs.Judged.{scope_of, LinesMean, PartMeans, PartsMean, Meaning, second-passed}
-use Rattle.law_nesting.proofs.Bodies.{lines-nested, bodies-spelled}
+use Rattle.law_canonical.proofs.Nested.{Nested}
+use Rattle.law_canonical.proofs.Passed.{Whole, whole}
+use Rattle.law_canonical.proofs.Parted.{forms_in, in_coroutine, part_forms, AllFit, Coroutines, coroutines}
+use Rattle.law_canonical.proofs.Judged.{scope_of, LinesMean, PartMeans, PartsMean, Meaning, second-passed}
+use Rattle.law_canonical.proofs.Bodies.{lines-nested, bodies-spelled}
 use Rattle.law_canonical.specs.ProgramLines.{Indented, coroutines_lines}
 use Rattle.law_canonical.proofs.SpelledLines.{without_blocks}
 use Rattle.law_canonical.proofs.Texts.{program-texts}

@@ -1,1 +1,2 @@
+pub mod SpelledBodies
 pub mod ProgramLines

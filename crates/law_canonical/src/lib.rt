@@ -1,5 +1,7 @@
-//! Laws of canonical texts of whole programs: what is written for a program that a text spells,
-//! spells it.
+//! Laws of whole texts: lines that spell statements are read as these, they nest, and the canonical
+//! text of a program spells it.
 #![tactic(auto)]
 
+pub mod nesting;
 pub mod programs;
+pub mod spelling;

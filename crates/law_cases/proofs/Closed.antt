@@ -30,7 +30,7 @@ use Rattle.model_machine.specs.Extra.{Extra}
 use Rattle.model_machine.specs.Turn.{effect, has_returned, made_by, streams_go}
 use Rattle.model_machine.specs.Went.{Goes}
 use Rattle.law_cases.specs.Closed.{is_to_streams, stands_at_streams}
-use Rattle.law_trees.specs.Trees.{is_of_streams}
+use Rattle.law_cases.specs.Trees.{is_of_streams}
 
 none_below : (id : ℕ) → nat_lt id 0 ≡ false
 none_below id = at (nat_lt id 0) refl

@@ -1,2 +1,12 @@
+pub mod Composing
+pub mod Fits
+pub mod Reading
+pub mod Sending
+pub mod Standing
+pub mod Opening
+pub mod Asking
 pub mod Cases
 pub mod Closed
+pub mod Ending
+pub mod Replying
+pub mod Going

@@ -1,2 +1,5 @@
+pub mod Trees
 pub mod Cases
 pub mod Closed
+pub mod StreamReplies
+pub mod TreeEnd

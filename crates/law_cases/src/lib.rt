@@ -1,4 +1,8 @@
-//! Laws of what a request comes to, by cases. Each function has no body: its clauses are the laws.
+//! Which handles streams append and which futures they settle, and what each request comes to, by
+//! cases.
 #![tactic(auto)]
 
+pub mod callbacks;
+pub mod opened;
 pub mod requests;
+pub mod settling;

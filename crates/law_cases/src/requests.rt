@@ -10,11 +10,11 @@ ghost use Rattle.model_machine.specs.Sound.{IsClosed};
 ghost use Rattle.model_machine.specs.State.{State};
 ghost use Rattle.model_machine.specs.Turn.{effect};
 ghost use Rattle.model_machine.specs.Went.{Goes};
-ghost use Rattle.law_trees.specs.Trees.{is_of_streams};
+ghost use Rattle.law_cases.specs.Trees.{is_of_streams};
 ghost use Rattle.law_cases.specs.Cases.{Replies};
 ghost use Rattle.law_cases.specs.Closed.{is_to_streams};
 
-/// What a request comes to is one of the cases; `law_opened` has those to listeners, connections
+/// What a request comes to is one of the cases; `law_cases` has those to listeners, connections
 /// and children.
 pub fn requests_come_to_cases<S>()
     ensures { (added : Extra S) (task : ℕ) (s : State S) (asked : Request)

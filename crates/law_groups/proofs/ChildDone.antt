@@ -20,14 +20,14 @@ use Rattle.model_loop.specs.Children.{failures, tells, IsTold, IsKeptGroup, HasE
 use Rattle.model_loop.specs.Numbered.{occurrences}
 use Rattle.model_loop.specs.Totals.{pending_where, registered_at}
 use Rattle.model_loop.specs.Owning.{own_future}
-use Rattle.law_settling.specs.Frames.{taken}
-use Rattle.law_told.specs.Holds.{Holds}
+use Rattle.law_steps.specs.Frames.{taken}
+use Rattle.law_groups.specs.Holds.{Holds}
 use Rattle.std.proofs.Math.ListN.{length-set}
-use Rattle.law_settling.proofs.Settling.{IsSettled, settle_cases}
-use Rattle.law_settling.proofs.SettleWays.{settled-future}
-use Rattle.law_told.proofs.Holding.{cancel_holds, settle_holds, request_each_holds, group_same, group_other, Fits, fits_at, holds_each, set_holds}
+use Rattle.law_steps.proofs.Settling.{IsSettled, settle_cases}
+use Rattle.law_steps.proofs.SettleWays.{settled-future}
+use Rattle.law_groups.proofs.Holding.{cancel_holds, settle_holds, request_each_holds, group_same, group_other, Fits, fits_at, holds_each, set_holds}
 use Rattle.law_steps.proofs.Taking.{taken_sound}
-use Rattle.law_settling.proofs.CancelSound.{plain_no_task}
+use Rattle.law_steps.proofs.CancelSound.{plain_no_task}
 
 -- ---- a group whose flags change
 told_again : (p : Parts) (id : ℕ) (told : List ℕ) (it new : Group) → new.children ≡ it.children → new.made ≡ it.made

@@ -20,13 +20,13 @@ use Rattle.model_loop.specs.Totals.{callbacks_of, callbacks_at, pending_where, r
 use Rattle.law_cancel.proofs.Lookups.{get-set_same, get-set_other}
 use Rattle.model_loop.specs.Owning.{own_future, is_plain_at}
 use Rattle.model_loop.specs.Sound.{ArePartsSound}
-use Rattle.law_told.specs.Holds.{Holds}
-use Rattle.law_settling.proofs.Looks.{future_of-owned}
-use Rattle.law_told.proofs.Told.{failures_kept, own_is}
-use Rattle.law_told.proofs.Holding.{Fits, holds_each, group_same, group_other}
-use Rattle.law_made.proofs.Spawning.{spawn_sound, new_future, old_future, new_task, old_task, no_task, no_future, called, live_in, new_lived_not, old_lives}
-use Rattle.law_made.proofs.Registering.{callback_living, callback_sound}
-use Rattle.law_settling.proofs.CancelSound.{plain_within}
+use Rattle.law_groups.specs.Holds.{Holds}
+use Rattle.law_steps.proofs.Looks.{future_of-owned}
+use Rattle.law_groups.proofs.Told.{failures_kept, own_is}
+use Rattle.law_groups.proofs.Holding.{Fits, holds_each, group_same, group_other}
+use Rattle.law_steps.proofs.Spawning.{spawn_sound, new_future, old_future, new_task, old_task, no_task, no_future, called, live_in, new_lived_not, old_lives}
+use Rattle.law_steps.proofs.Registering.{callback_living, callback_sound}
+use Rattle.law_steps.proofs.CancelSound.{plain_within}
 
 -- ---- the task is made in a group that isn't refused
 module _ (running excused : Option ℕ) (told : ℕ → List ℕ) (id : ℕ) (l : Loop) (is : Holds running excused told told (group_of l) l.parts)

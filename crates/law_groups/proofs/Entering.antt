@@ -1,13 +1,13 @@
 -- A group is made, and entered: the whole stays sound.
 use Rattle.std.proofs.Common.{◌≡◌, ℕ, List, Option, [], arith, inl, inr, length, refl, slice_index_or, subst, suc, sym, true, zero, ◌++◌, ◌<◌, ◌∷◌, ◌⊎◌}
-use Rattle.law_told.proofs.Holding.{Fits, fits_at, holds_each, set_holds}
+use Rattle.law_groups.proofs.Holding.{Fits, fits_at, holds_each, set_holds}
 use Rattle.model_loop.specs.Parts.{Parts}
 use Rattle.model_loop.specs.Groups.{enter_group, group_of, make_group, new_group}
 use Rattle.model_loop.specs.Children.{IsOrderly}
 use Rattle.model_loop.specs.Tasks.{lives}
 use Rattle.std.proofs.lemmas.List.{get_or_past}
 use Rattle.std.proofs.lemmas.Option.{none-some}
-use Rattle.law_told.specs.Holds.{Holds}
+use Rattle.law_groups.specs.Holds.{Holds}
 use Rattle.model_loop.specs.Loop.{Group, Loop}
 use Rattle.law_groups.proofs.ChildDone.{fits_again}
 use Rattle.law_groups.proofs.Exits.{AllOrderly, orderly_set}

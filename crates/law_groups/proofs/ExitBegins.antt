@@ -5,17 +5,17 @@ use Rattle.law_groups.proofs.ChildDone.{fits_again, flag_fits}
 use Rattle.model_loop.specs.Groups.{abort_if_raised, abort_where, begin_exit, body_failure, exit_begin, group_of, only_cancelled, set_group, take_back}
 use Rattle.model_loop.specs.Groups.{take_back_where}
 use Rattle.law_groups.proofs.Exits.{AllOrderly, OthersOrderly, abort_open, wait_or_end_well, IsOpen, IsWell, open_orderly}
-use Rattle.law_told.proofs.Holding.{Fits, fits_at, group_other, group_same, looks_holds, set_holds}
+use Rattle.law_groups.proofs.Holding.{Fits, fits_at, group_other, group_same, looks_holds, set_holds}
 use Rattle.model_loop.specs.Loop.{Group, Loop, book}
 use Rattle.std.proofs.lemmas.Bool.{cases_Bool, cases_eq, false≢true}
-use Rattle.law_settling.specs.Frames.{Covers}
+use Rattle.law_steps.specs.Frames.{Covers}
 use Rattle.model_loop.specs.Tasks.{cancelling, is_cancelled, uncancel}
 use Rattle.std.proofs.Math.ListN.{length-set}
 use Rattle.model_value.specs.Value.{Exc}
 use Rattle.model_loop.specs.Children.{IsOrderly, body_at_end, failures}
 use Rattle.model_loop.specs.Ledger.{Began, ByGroup, uncancel_by}
 use Rattle.std.proofs.lemmas.Option.{none-some}
-use Rattle.law_told.specs.Holds.{Holds}
+use Rattle.law_groups.specs.Holds.{Holds}
 use Rattle.law_steps.proofs.Stepping.{uncancel_fewer, uncancel_looks_same}
 
 clean_begun : (raised : Option Exc) (fault : Exc) → only_cancelled raised ≡ Some fault → body_failure raised ≡ []

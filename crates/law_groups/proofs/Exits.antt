@@ -13,14 +13,14 @@ use Rattle.model_loop.specs.Futures.{next_future, new_plain}
 use Rattle.model_loop.specs.Ledger.{ByAbort}
 use Rattle.model_loop.specs.Groups.{group_of, set_group, abort, body_failure, end_exit, wait_for_children, wait_or_end_with, wait_or_end, keep_and_abort_unless}
 use Rattle.model_loop.specs.Groups.{hear, exit_woken}
-use Rattle.law_settling.specs.Frames.{Covers}
-use Rattle.law_told.specs.Holds.{Holds}
+use Rattle.law_steps.specs.Frames.{Covers}
+use Rattle.law_groups.specs.Holds.{Holds}
 use Rattle.model_loop.specs.Children.{HasPlainExit, IsOrderly, body_at_end, failures}
-use Rattle.law_told.proofs.Holding.{request_each_holds, group_same, group_other, Fits, fits_at, set_holds}
+use Rattle.law_groups.proofs.Holding.{request_each_holds, group_same, group_other, Fits, fits_at, set_holds}
 use Rattle.law_groups.proofs.ChildDone.{fits_again, flag_fits}
-use Rattle.law_made.proofs.Making.{made_new}
+use Rattle.law_steps.proofs.Making.{made_new}
 use Rattle.model_loop.specs.Owning.{is_plain, is_plain_at}
-use Rattle.law_told.proofs.MakingHolds.{make_holds}
+use Rattle.law_groups.proofs.MakingHolds.{make_holds}
 
 abbrev pub AllOrderly : Loop → Type 0
 AllOrderly l = (id : ℕ) → IsOrderly (group_of l id)

@@ -1,3 +1,15 @@
+pub mod Entries
+pub mod Tagging
+pub mod Quiet
+pub mod Due
+pub mod Revoking
+pub mod Firing
+pub mod Told
+pub mod StepTold
+pub mod Holding
+pub mod MakingHolds
+pub mod StepHolds
+pub mod SpawnHolds
 pub mod ChildDone
 pub mod Creating
 pub mod Exits

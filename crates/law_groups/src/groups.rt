@@ -8,8 +8,8 @@ ghost use Rattle.model_loop.specs.Loop.{Loop, in_parts};
 ghost use Rattle.model_loop.specs.Tasks.{lives};
 ghost use Rattle.model_loop.specs.Groups.{group_of, make_group, enter_group, create, child_done, exit_begin, exit_woken};
 ghost use Rattle.model_loop.specs.Children.{IsOrderly, told_more};
-ghost use Rattle.law_settling.specs.Frames.{taken, Covers};
-ghost use Rattle.law_told.specs.Holds.{Holds};
+ghost use Rattle.law_steps.specs.Frames.{taken, Covers};
+ghost use Rattle.law_groups.specs.Holds.{Holds};
 
 /// A group is made, entered, and given a task.
 pub fn a_group_grows_soundly()

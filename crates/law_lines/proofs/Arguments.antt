@@ -13,10 +13,10 @@ use Rattle.model_text.specs.Cutting.{Pieces, pieces_from, parts}
 use Rattle.model_text.specs.Terms.{Term}
 use Rattle.model_text.specs.Levels.{all_of, bare_name, Arguments, with_bare, from_bare, arguments_of, term_of}
 use Rattle.model_text.specs.Forms.{Asked, coroutine_place, goal_of}
-use Rattle.law_expressions.specs.Lexemes.{within_parentheses, expr_lexemes, exprs_lexemes, more_lexemes, term_from}
-use Rattle.law_expressions.proofs.Shapes.{before-last}
-use Rattle.law_expressions.proofs.Read.{at_comma}
-use Rattle.law_expressions.proofs.Facts.{groups, front-pieces, parts-front, facts, mores, expression-read}
+use Rattle.law_lines.specs.Lexemes.{within_parentheses, expr_lexemes, exprs_lexemes, more_lexemes, term_from}
+use Rattle.law_lines.proofs.Shapes.{before-last}
+use Rattle.law_lines.proofs.Read.{at_comma}
+use Rattle.law_lines.proofs.Facts.{groups, front-pieces, parts-front, facts, mores, expression-read}
 use Rattle.law_lines.specs.LineTexts.{more_named, named, target_lexemes, row_from, arguments_from, goal_from}
 use Rattle.law_lines.specs.WellWritten.{WellWrittenTarget}
 

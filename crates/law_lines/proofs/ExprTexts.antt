@@ -13,8 +13,8 @@ use Rattle.model_text.specs.declared.symbol.Symbol.TheVariants as symbol
 use Rattle.model_text.specs.declared.reserved_word.ReservedWord.TheVariants as word
 use Rattle.model_text.specs.Words.{Lexeme, Reserved, Named, Sign}
 use Rattle.model_text.specs.Canonical.{operator_text, comparison_text, in_parentheses, as_operand, expr_text, exprs_text, more_text}
-use Rattle.law_expressions.specs.Lexemes.{operator_symbol, comparison_symbol, within_parentheses, within_brackets, operand_lexemes, expr_lexemes, exprs_lexemes}
-use Rattle.law_expressions.specs.Lexemes.{more_lexemes}
+use Rattle.law_lines.specs.Lexemes.{operator_symbol, comparison_symbol, within_parentheses, within_brackets, operand_lexemes, expr_lexemes, exprs_lexemes}
+use Rattle.law_lines.specs.Lexemes.{more_lexemes}
 use Rattle.law_lines.specs.WellWritten.{WellWrittenExpr, WellWrittenExprs}
 use Rattle.law_lines.proofs.Fronts.{Quiet, Leads, Fronts, fronts-then, leads-then, regrouped, nothing-fronts}
 use Rattle.law_lines.proofs.TokenTexts.{name-fronts, function-well, kind-well, constant-fronts, bracket-leads, unbracket-fronts, minus-leads, comma-leads}

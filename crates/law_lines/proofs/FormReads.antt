@@ -16,9 +16,9 @@ use Rattle.model_text.specs.Forms.{WithTimeout, End, Spelled, with_term, assigne
 use Rattle.model_text.specs.Places.{Role}
 use Rattle.model_text.specs.FirstPass.{form_behind_lines, lexemes_behind, tokens_behind, line_behind}
 use Rattle.model_text.specs.SecondPass.{Line}
-use Rattle.law_expressions.specs.Lexemes.{operand_lexemes, expr_lexemes, exprs_lexemes, more_lexemes, term_from}
-use Rattle.law_expressions.proofs.Shapes.{before-last}
-use Rattle.law_expressions.proofs.Facts.{facts, expression-read}
+use Rattle.law_lines.specs.Lexemes.{operand_lexemes, expr_lexemes, exprs_lexemes, more_lexemes, term_from}
+use Rattle.law_lines.proofs.Shapes.{before-last}
+use Rattle.law_lines.proofs.Facts.{facts, expression-read}
 use Rattle.law_lines.specs.LineTexts.{line_text, named, line_lexemes, row_from, spelled}
 use Rattle.law_lines.specs.WellWritten.{WellWritten}
 use Rattle.law_lines.proofs.Arguments.{row-read, names-read, target-read}

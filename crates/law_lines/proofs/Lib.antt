@@ -1,3 +1,8 @@
+pub mod Cuts
+pub mod Shapes
+pub mod Read
+pub mod Facts
+pub mod Meanings
 pub mod Fronts
 pub mod Spelling
 pub mod TokenTexts
@@ -6,3 +11,8 @@ pub mod LineReads
 pub mod Arguments
 pub mod FormReads
 pub mod Printable
+pub mod Goods
+pub mod GoodTerms
+pub mod GoodForms
+pub mod MeantTerms
+pub mod MeantLines

@@ -16,7 +16,7 @@ use Rattle.model_text.specs.Forms.{WithTimeout, End}
 use Rattle.model_text.specs.SecondPass.{Line}
 use Rattle.model_text.specs.Canonical.{in_parentheses, expr_text, exprs_text, more_text, target_text, more_names, names_text}
 use Rattle.law_tokens.proofs.LineLemmas.{tokens_of-Reads}
-use Rattle.law_expressions.specs.Lexemes.{within_parentheses, expr_lexemes, exprs_lexemes, more_lexemes}
+use Rattle.law_lines.specs.Lexemes.{within_parentheses, expr_lexemes, exprs_lexemes, more_lexemes}
 use Rattle.law_lines.specs.LineTexts.{line_text, more_named, named, target_lexemes, line_lexemes}
 use Rattle.law_lines.specs.WellWritten.{WellNamed, AllNamed, WellWrittenExpr, WellWrittenTarget, WellWritten}
 use Rattle.law_lines.proofs.Fronts.{Quiet, Leads, Fronts, fronts-then, leads-then, leads-leads, regrouped, nothing-fronts, blanks-lead}

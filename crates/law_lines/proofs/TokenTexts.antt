@@ -24,7 +24,7 @@ use Rattle.model_text.specs.Tokens.{Name, Int, Text, Bytes}
 use Rattle.model_text.specs.Cuts.{IsName}
 use Rattle.model_text.specs.Words.{Lexeme, Reserved, Named, Number, Texts, Octets, Sign, word_or_name, reserved_of}
 use Rattle.model_text.specs.Canonical.{constant_text, operator_text, comparison_text, in_parentheses}
-use Rattle.law_expressions.specs.Lexemes.{constant_lexeme, operator_symbol, comparison_symbol, within_parentheses}
+use Rattle.law_lines.specs.Lexemes.{constant_lexeme, operator_symbol, comparison_symbol, within_parentheses}
 use Rattle.law_lines.specs.WellWritten.{WellNamed, WellWrittenConstant}
 use Rattle.law_lines.proofs.Fronts.{Leads, Fronts, fronts-then, leads-then, leads-leads, leads-fronts, blank-leads, spaced, token-fronts, sign-leads}
 use Rattle.law_lines.proofs.Fronts.{spaced-sign}

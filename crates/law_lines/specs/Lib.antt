@@ -1,2 +1,4 @@
+pub mod Lexemes
+pub mod Known
 pub mod LineTexts
 pub mod WellWritten

@@ -13,7 +13,7 @@ use Rattle.model_text.specs.Forms.{Profile, Def, Assign, Yield, YieldFrom, Print
 use Rattle.model_text.specs.Forms.{WithTimeout, End, Goal, Awaited, Asked, Spelled}
 use Rattle.model_text.specs.SecondPass.{Line}
 use Rattle.model_text.specs.Canonical.{in_parentheses, expr_text, exprs_text, target_text, into_text, returned_text, as_text, manager_text, names_text}
-use Rattle.law_expressions.specs.Lexemes.{within_parentheses, expr_lexemes, exprs_lexemes, more_lexemes, term_from}
+use Rattle.law_lines.specs.Lexemes.{within_parentheses, expr_lexemes, exprs_lexemes, more_lexemes, term_from}
 
 -- ---- the text, without the spaces before it and the newline behind it
 abbrev pub line_text : Line → List ℕ

@@ -10,7 +10,7 @@ ghost use Rattle.model_text.specs.Places.{Role};
 ghost use Rattle.model_text.specs.SecondPass.{Line};
 ghost use Rattle.model_text.specs.Tokens.{Token, tokens_of};
 ghost use Rattle.model_text.specs.Words.{lexemes_of};
-ghost use Rattle.law_expressions.specs.Lexemes.{expr_lexemes};
+ghost use Rattle.law_lines.specs.Lexemes.{expr_lexemes};
 ghost use Rattle.law_lines.specs.LineTexts.{line_text, line_lexemes, spelled};
 ghost use Rattle.law_lines.specs.WellWritten.{WellWritten, WellWrittenExpr};
 

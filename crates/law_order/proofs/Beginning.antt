@@ -8,8 +8,8 @@ use Rattle.model_stream.specs.History.{handed, written_to}
 use Rattle.model_stream.specs.Requests.{sender_of}
 use Rattle.model_stream.specs.Senders.{Sender}
 use Rattle.model_machine.specs.State.{State, start}
-use Rattle.law_sender.proofs.SoundSends.{new_sound}
-use Rattle.law_sides.specs.Sides.{standing_as, standing_of}
+use Rattle.law_stream.proofs.SoundSends.{new_sound}
+use Rattle.law_order.specs.Sides.{standing_as, standing_of}
 use Rattle.law_order.specs.Order.{IsInOrder, IsOver}
 
 pub begins : {S : Type 0} (most : ℕ) (state : S) (program : Program) (answers : List Entry) → IsInOrder (start most state program answers)

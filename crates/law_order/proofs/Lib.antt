@@ -1,4 +1,17 @@
+pub mod Framed
+pub mod Framing
+pub mod Mildly
+pub mod Fronts
+pub mod OwnOrder
+pub mod AllSides
+pub mod Among
+pub mod Writing
+pub mod Going
+pub mod Moves
+pub mod Parts
 pub mod Beginning
 pub mod Losing
 pub mod Moving
 pub mod Walking
+pub mod Given
+pub mod Whole

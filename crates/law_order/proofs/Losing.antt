@@ -9,13 +9,13 @@ use Rattle.model_wire.specs.Journal.{Entry}
 use Rattle.model_loop.specs.Parts.{Handle, Parts}
 use Rattle.model_stream.specs.Streams.{Streams}
 use Rattle.model_machine.specs.State.{State, start}
-use Rattle.law_quiet.specs.Quiet.{IsQuiet as Quiet, RegistersNone, losses_pending}
-use Rattle.law_quiet.proofs.Moves.{first_goes, first_runs, loss_of, losses_counted, made_by}
-use Rattle.law_quiet.proofs.Parts.{losses_of}
-use Rattle.law_sender.specs.SoundSenders.{outlet_of}
-use Rattle.law_sender.specs.Ways.{Move, Did, Heard, one_if, told_by}
-use Rattle.law_fronts.specs.Fronts.{GoesOn, Loses, MayGiveUp, Way}
-use Rattle.law_sides.specs.Sides.{AreKeptBy, standing_of}
+use Rattle.law_order.specs.Quiet.{IsQuiet as Quiet, RegistersNone, losses_pending}
+use Rattle.law_order.proofs.Moves.{first_goes, first_runs, loss_of, losses_counted, made_by}
+use Rattle.law_order.proofs.Parts.{losses_of}
+use Rattle.law_stream.specs.SoundSenders.{outlet_of}
+use Rattle.law_stream.specs.Ways.{Move, Did, Heard, one_if, told_by}
+use Rattle.law_order.specs.Fronts.{GoesOn, Loses, MayGiveUp, Way}
+use Rattle.law_order.specs.Sides.{AreKeptBy, standing_of}
 use Rattle.law_walk.specs.Walks.{In, made_on}
 use Rattle.law_order.specs.Order.{IsLostOnce, losses_ran}
 use Rattle.law_order.proofs.Beginning.{begins}

@@ -9,11 +9,11 @@ use Rattle.model_wire.specs.Event.{Event}
 use Rattle.model_loop.specs.Parts.{Handle, Parts}
 use Rattle.model_stream.specs.History.{handed, handed_after, handed_in as handed_to, written_to}
 use Rattle.model_stream.specs.Streams.{Streams}
-use Rattle.law_quiet.specs.Quiet.{IsQuiet as Quiet}
-use Rattle.law_sender.specs.SoundSenders.{outlet_of}
-use Rattle.law_sender.specs.Ways.{Move, Did, Heard, handed_in, told_by}
-use Rattle.law_fronts.specs.Fronts.{GoesOn, IsFront, Loses, MayGiveUp, Way}
-use Rattle.law_sides.specs.Sides.{AreKept, AreKeptBy, standing_of}
+use Rattle.law_order.specs.Quiet.{IsQuiet as Quiet}
+use Rattle.law_stream.specs.SoundSenders.{outlet_of}
+use Rattle.law_stream.specs.Ways.{Move, Did, Heard, handed_in, told_by}
+use Rattle.law_order.specs.Fronts.{GoesOn, IsFront, Loses, MayGiveUp, Way}
+use Rattle.law_order.specs.Sides.{AreKept, AreKeptBy, standing_of}
 use Rattle.law_walk.specs.Walks.{made_on}
 use Rattle.law_order.specs.Order.{AreInOrder, IsOver, closes_asked, losses_ran, may_give_up}
 

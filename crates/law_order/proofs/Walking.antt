@@ -19,15 +19,15 @@ use Rattle.model_stream.specs.Streams.{Streams}
 use Rattle.model_machine.specs.Outside.{actions_of, items_of, news_of, select, time_of, watched}
 use Rattle.model_machine.specs.Turn.{at_time, woken_by}
 use Rattle.law_changes.specs.Changes.{FallsDue, Passes}
-use Rattle.law_sender.specs.Ways.{Move, is_close, one_if, told_by}
+use Rattle.law_stream.specs.Ways.{Move, is_close, one_if, told_by}
 use Rattle.law_walk.specs.Walks.{Anyone, AreTrees, Doer, EndsInStep, GivesUp, IsAside, IsHere, Runs, Walks, hears, is_aside, is_step, made_on, says}
-use Rattle.law_quiet.specs.Quiet.{IsQuiet as Quiet, is_a_loss}
-use Rattle.law_quiet.proofs.Going.{goes_on}
-use Rattle.law_quiet.proofs.Parts.{change_quiet, next, same, soon_quiet}
-use Rattle.law_fronts.specs.Fronts.{MayGiveUp, way_of}
-use Rattle.law_sides.specs.Sides.{AreKept, AreKeptBy}
-use Rattle.law_sides.proofs.AllSides as sides
-use Rattle.law_sides.proofs.Writing.{writes}
+use Rattle.law_order.specs.Quiet.{IsQuiet as Quiet, is_a_loss}
+use Rattle.law_order.proofs.Going.{goes_on}
+use Rattle.law_order.proofs.Parts.{change_quiet, next, same, soon_quiet}
+use Rattle.law_order.specs.Fronts.{MayGiveUp, way_of}
+use Rattle.law_order.specs.Sides.{AreKept, AreKeptBy}
+use Rattle.law_order.proofs.AllSides as sides
+use Rattle.law_order.proofs.Writing.{writes}
 use Rattle.law_order.specs.Order.{may_give_up}
 use Rattle.law_order.proofs.Moving.{EndsGiving, IsKept, IsQuiet}
 

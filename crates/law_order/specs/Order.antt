@@ -12,11 +12,11 @@ use Rattle.model_stream.specs.History.{handed, written_to}
 use Rattle.model_stream.specs.Streams.{Streams}
 use Rattle.model_machine.specs.Extra.{Extra}
 use Rattle.model_machine.specs.State.{State}
-use Rattle.law_quiet.specs.Quiet.{RegistersNone, losses_pending}
-use Rattle.law_sender.specs.SoundSenders.{IsSoundSender}
-use Rattle.law_sender.specs.Ways.{is_close, is_loss, one_if}
-use Rattle.law_fronts.specs.Fronts.{IsFront}
-use Rattle.law_sides.specs.Sides.{standing_of}
+use Rattle.law_order.specs.Quiet.{RegistersNone, losses_pending}
+use Rattle.law_stream.specs.SoundSenders.{IsSoundSender}
+use Rattle.law_stream.specs.Ways.{is_close, is_loss, one_if}
+use Rattle.law_order.specs.Fronts.{IsFront}
+use Rattle.law_order.specs.Sides.{standing_of}
 use Rattle.law_walk.specs.Walks.{In, IsRunIn}
 
 -- of this one

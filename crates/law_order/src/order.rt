@@ -13,11 +13,11 @@ ghost use Rattle.model_machine.specs.Extra.{Extra};
 ghost use Rattle.model_machine.specs.Mids.{mids};
 ghost use Rattle.model_machine.specs.State.{State, start};
 ghost use Rattle.model_machine.specs.Turn.{run_below, turn};
-ghost use Rattle.law_sides.specs.Sides.{standing_of};
+ghost use Rattle.law_order.specs.Sides.{standing_of};
 ghost use Rattle.law_walk.specs.Walks.{AreAllIn, In, IsRunIn, Leaves};
 ghost use Rattle.law_order.specs.Order.{AreInOrder, IsInOrder, IsLostOnce, IsOver, IsRunInOrder};
 ghost use Rattle.law_order.specs.Order.{losses_ran};
-ghost use Rattle.law_quiet.specs.Quiet.{losses_pending};
+ghost use Rattle.law_order.specs.Quiet.{losses_pending};
 
 /// Each state of each run of every program, over whatever the outside answers, is in order: between
 /// two turns, between any two callbacks of a turn, and where the run ends, but where a call has no

@@ -1,5 +1,4 @@
 pub mod Along
-pub mod Endings
 pub mod Growing
 pub mod OverChildren
 pub mod OverConnections

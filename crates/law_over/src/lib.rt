@@ -2,5 +2,4 @@
 //! law.
 #![tactic(auto)]
 
-pub mod calls;
 pub mod streams;

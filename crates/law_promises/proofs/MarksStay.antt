@@ -18,7 +18,7 @@ use Rattle.model_loop.specs.Timeouts.{enter_timeout, exit_timeout, fire, resched
 use Rattle.law_cancel.proofs.Counting.{change_task-kept}
 use Rattle.law_cancel.proofs.Effects.{mark_asked-tasks, register-tasks, settle-tasks}
 use Rattle.law_steps.proofs.Stepping.{at_task}
-use Rattle.law_timeouts.proofs.Due.{due-tasks}
+use Rattle.law_groups.proofs.Due.{due-tasks}
 use Rattle.law_changes.specs.Changes.{PartsChange, CallsSoon, CallsLater, Revokes, MakesFuture, Settles, Registers, KeepsAsked, MakesTask, WaitsFor}
 use Rattle.law_changes.specs.Changes.{Marks, Unmarks, Counts, Uncounts, Passes, FallsDue, LeavesPending, MayInParts, made_of_parts}
 use Rattle.law_changes.specs.Reaches.{PartsReach}

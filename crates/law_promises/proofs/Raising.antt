@@ -12,7 +12,7 @@ use Rattle.model_loop.specs.Ledger.{ByGroup, uncancel_by}
 use Rattle.model_loop.specs.Loop.{Group, Loop, book}
 use Rattle.model_loop.specs.Sound.{IsSound}
 use Rattle.model_loop.specs.Tasks.{cancelling, uncancel}
-use Rattle.law_told.proofs.Holding.{group_same}
+use Rattle.law_groups.proofs.Holding.{group_same}
 use Rattle.law_sound.proofs.GroupSteps.{exit_begin_sound, exit_woken_step_sound}
 use Rattle.law_promises.specs.Raised.{AnswersFor, RaisesAll, RaisesWhatFailed, all_failures}
 use Rattle.law_promises.proofs.Relied.{errors_at_end}

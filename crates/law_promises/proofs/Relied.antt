@@ -4,9 +4,9 @@ use Rattle.model_value.specs.Value.{exception_of, Exc, exc, excs}
 use Rattle.model_loop.specs.Entries.{entries}
 use Rattle.model_loop.specs.Groups.{Raises, body_failure, end_exit, exception_group, group_of, group_text, is_bearable, raised_of}
 use Rattle.model_loop.specs.Children.{body_at_end, failures, tells}
-use Rattle.law_timeouts.proofs.Firing.{one_handle}
+use Rattle.law_groups.proofs.Firing.{one_handle}
 use Rattle.std.proofs.lemmas.Option.{none-some}
-use Rattle.law_told.proofs.Told.{own_is}
+use Rattle.law_groups.proofs.Told.{own_is}
 use Rattle.model_loop.specs.Totals.{callbacks_of, pending_where, registered_at}
 use Rattle.model_loop.specs.Ways.{HasOneWayOn, one_if, steps}
 use Rattle.law_steps.proofs.Bridge.{one_way_on}
@@ -14,8 +14,8 @@ use Rattle.model_loop.specs.Timeouts.{is_active, timeout_of}
 use Rattle.model_loop.specs.Numbered.{occurrences}
 use Rattle.model_loop.specs.Deadlines.{fires_any}
 use Rattle.model_loop.specs.Loop.{Loop}
-use Rattle.law_settling.proofs.Looks.{follow_steps}
-use Rattle.law_timeouts.proofs.Due.{timers_followed}
+use Rattle.law_steps.proofs.Looks.{follow_steps}
+use Rattle.law_groups.proofs.Due.{timers_followed}
 use Rattle.std.specs.List.{count_by}
 use Rattle.model_loop.specs.Owning.{own_future}
 use Rattle.model_loop.specs.Tasks.{future_of, lives}

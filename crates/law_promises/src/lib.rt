@@ -1,9 +1,14 @@
-//! What a user of cancellation, timeouts and groups relies on: laws over the definitions.
+//! What a user of cancellation, timeouts and task groups relies on, in every state of every run.
 #![tactic(auto)]
 
 pub mod cancels;
+pub mod counts;
+pub mod events;
 pub mod exits;
 pub mod groups;
+pub mod ledgers;
 pub mod marks;
 pub mod states;
 pub mod staying;
+pub mod waiting;
+pub mod woken;

@@ -4,3 +4,6 @@ pub mod Opened
 pub mod Rows
 pub mod Streams
 pub mod Trees
+pub mod Loops
+pub mod Running
+pub mod Turning

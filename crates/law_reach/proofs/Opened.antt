@@ -46,10 +46,10 @@ use Rattle.law_changes.specs.Reaches.{stays, goes}
 use Rattle.law_changes.proofs.LoopRows.{exit_woken_row}
 use Rattle.law_changes.proofs.Folds.{one}
 use Rattle.model_stream.specs.Kept.{StreamsKeep}
-use Rattle.law_trees.specs.Trees.{AllWaits, AnswersStreams, ConnectsStreams, DrainWaits, ExitWaits, IsOwn, Keeping, KeepsStreams, ReadWaits, WaitsNever}
-use Rattle.law_trees.proofs.Composing.{streams_all}
-use Rattle.law_trees.proofs.Asking as asking
-use Rattle.law_trees.proofs.Opening as opening
+use Rattle.law_cases.specs.Trees.{AllWaits, AnswersStreams, ConnectsStreams, DrainWaits, ExitWaits, IsOwn, Keeping, KeepsStreams, ReadWaits, WaitsNever}
+use Rattle.law_cases.proofs.Composing.{streams_all}
+use Rattle.law_cases.proofs.Asking as asking
+use Rattle.law_cases.proofs.Opening as opening
 use Rattle.law_reach.specs.Changes.{ChangesStreams, IsOpen, OfLoop, Stands}
 use Rattle.law_cases.specs.Closed.{is_to_streams}
 use Rattle.law_reach.specs.Reaches.{ComesTo}

@@ -19,7 +19,7 @@ use Rattle.model_machine.specs.Went.{Went, Stops, answered_so, ask_so, fitted_so
 use Rattle.law_changes.specs.Changes.{OfParts}
 use Rattle.law_changes.specs.Reaches.{stays}
 use Rattle.law_changes.proofs.Folds.{on, one}
-use Rattle.law_trees.specs.Trees.{Keeping, is_of_streams, is_select}
+use Rattle.law_cases.specs.Trees.{Keeping, is_of_streams, is_select}
 use Rattle.law_reach.specs.Changes.{Hears, Calls, IsHeard, IsOpen, IsUnheard, MayAsk, OfLoop, made}
 use Rattle.law_reach.specs.Asked.{IsAnswered}
 use Rattle.law_reach.specs.Reaches.{ComesTo, GoesTo, InAnswer, InCallback, IsUnmet}

@@ -12,7 +12,7 @@ use Rattle.model_machine.specs.Extra.{AsksNothing, Extra}
 use Rattle.model_machine.specs.Sound.{IsClosed}
 use Rattle.model_machine.specs.State.{Standing, State, in_loop, noted, resumed, stands, with_coroutine, with_streams}
 use Rattle.law_changes.specs.Changes.{LoopChange, MayInLoop, made_of_loop}
-use Rattle.law_trees.specs.Trees.{is_select}
+use Rattle.law_cases.specs.Trees.{is_select}
 
 pub data StateChange (S : Type 0) : Type 0 where
   OfLoop : (change : LoopChange) → StateChange S

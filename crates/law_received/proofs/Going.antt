@@ -21,15 +21,15 @@ use Rattle.model_stream.specs.Streams.{Streams}
 use Rattle.model_machine.specs.Outside.{select, watched}
 use Rattle.model_machine.specs.State.{State, start}
 use Rattle.model_machine.specs.Turn.{woken_by}
-use Rattle.law_bytes.specs.ReaderSteps.{taken_away}
-use Rattle.law_sender.specs.Ways.{Move, Did, Heard, told_by}
+use Rattle.law_stream.specs.ReaderSteps.{taken_away}
+use Rattle.law_stream.specs.Ways.{Move, Did, Heard, told_by}
 use Rattle.law_walk.specs.Walks.{In, IsAside, IsHere, Runs, Walks, acts_alone, hears, is_aside, made_on, says}
-use Rattle.law_readers.specs.Readers.{brought_by, brought_last, bytes_if, held_of, is_news_to, may_hear, received, received_after, told_to}
-use Rattle.law_feeding.specs.Feeding.{AreFed, AreFedBy, news_in}
-use Rattle.law_feeding.proofs.AllFed.{all_fed}
-use Rattle.law_waiting.specs.Waiting.{Follows, IsDue, NoNews, entries_of}
-use Rattle.law_waiting.proofs.Due.{due_after, due_heard, due_over, due_streams, due_taken, due_told, goes_on, made_follows, none_behind, none_empty}
-use Rattle.law_waiting.proofs.Woken.{woken_due}
+use Rattle.law_received.specs.Readers.{brought_by, brought_last, bytes_if, held_of, is_news_to, may_hear, received, received_after, told_to}
+use Rattle.law_received.specs.Feeding.{AreFed, AreFedBy, news_in}
+use Rattle.law_received.proofs.AllFed.{all_fed}
+use Rattle.law_received.specs.Waiting.{Follows, IsDue, NoNews, entries_of}
+use Rattle.law_received.proofs.Due.{due_after, due_heard, due_over, due_streams, due_taken, due_told, goes_on, made_follows, none_behind, none_empty}
+use Rattle.law_received.proofs.Woken.{woken_due}
 use Rattle.law_received.specs.Received.{AreReadInOrder, HaveRead, IsBetween, IsReading, read_of}
 
 -- ---- what is received in events, one after another

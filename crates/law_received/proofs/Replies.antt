@@ -15,14 +15,14 @@ use Rattle.model_stream.specs.Streams.{Streams}
 use Rattle.model_machine.specs.Replies.{Halts, reads, reads_all, reads_all_as, reads_as, waits_no_more}
 use Rattle.model_machine.specs.State.{State, with_streams}
 use Rattle.law_reach.specs.Reaches.{IsUnmet}
-use Rattle.law_sender.specs.Ways.{Move, told_by}
+use Rattle.law_stream.specs.Ways.{Move, told_by}
 use Rattle.law_stream.specs.ReceiverOrder.{went}
 use Rattle.law_walk.specs.Walks.{In}
 use Rattle.law_walk.proofs.Trees.{IsMoved, does_comes}
 use Rattle.law_received.specs.Gives.{GivesAll, GivesNext, IsNext}
-use Rattle.law_readers.specs.Readers.{held_of, received}
-use Rattle.law_feeding.proofs.AllLooks as fed
-use Rattle.law_feeding.proofs.AllLooks.{LooksAt, gives_up}
+use Rattle.law_received.specs.Readers.{held_of, received}
+use Rattle.law_received.proofs.AllLooks as fed
+use Rattle.law_received.proofs.AllLooks.{LooksAt, gives_up}
 use Rattle.law_received.specs.Received.{AreReadInOrder, read_of}
 use Rattle.law_received.proofs.Going.{moves_say, read_more, received_then, taken_front}
 

@@ -4,9 +4,9 @@ use Rattle.model_wire.specs.Event.{Event}
 use Rattle.model_loop.specs.Parts.{Parts}
 use Rattle.model_stream.specs.Requests.{StreamReader}
 use Rattle.model_stream.specs.Streams.{Streams}
-use Rattle.law_bytes.specs.ReaderSteps.{taken_away}
-use Rattle.law_readers.specs.Readers.{held_of, received}
-use Rattle.law_waiting.specs.Waiting.{IsDue}
+use Rattle.law_stream.specs.ReaderSteps.{taken_away}
+use Rattle.law_received.specs.Readers.{held_of, received}
+use Rattle.law_received.specs.Waiting.{IsDue}
 
 -- What reads took so far: what was received and is held no more.
 abbrev pub read_of : StreamReader → Streams → List Event → List ℕ

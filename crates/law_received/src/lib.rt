@@ -1,5 +1,7 @@
-//! What reads of connections and children took is a front of what was received, in every run. Each
-//! function has no body: its clauses are the law.
+//! What reads took is a front of what was received, in order, in every state of every run.
 #![tactic(auto)]
 
+pub mod feeding;
+pub mod news;
+pub mod readers;
 pub mod received;

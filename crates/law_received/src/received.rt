@@ -11,7 +11,7 @@ ghost use Rattle.model_machine.specs.Extra.{Extra};
 ghost use Rattle.model_machine.specs.Replies.{reads, reads_all, waits_no_more};
 ghost use Rattle.model_machine.specs.State.{State, start};
 ghost use Rattle.model_machine.specs.Turn.{turn};
-ghost use Rattle.law_readers.specs.Readers.{held_of, received};
+ghost use Rattle.law_received.specs.Readers.{held_of, received};
 ghost use Rattle.law_walk.specs.Walks.{In, IsRunIn, LeavesTo};
 ghost use Rattle.law_received.specs.Gives.{GivesAll, GivesNext};
 ghost use Rattle.law_received.specs.Received.{AreReadInOrder, HaveRead, IsBetween, read_of};

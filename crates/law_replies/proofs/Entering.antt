@@ -27,23 +27,23 @@ use Rattle.model_machine.specs.State.{Asked, Generator, State, generator_of, in_
 use Rattle.model_machine.specs.Step.{says_of}
 use Rattle.model_machine.specs.Told.{told_in}
 use Rattle.law_sound.proofs.Steps.{tags_of_sound}
-use Rattle.law_timeouts.proofs.Firing.{make_timeout_tags}
+use Rattle.law_groups.proofs.Firing.{make_timeout_tags}
 use Rattle.law_turns.specs.Replied.{RunsSound, RepliesSound}
-use Rattle.law_after.specs.After.{is_step, IsAfter, IsLoopAfter}
-use Rattle.law_after.proofs.Parts.{refl_after}
-use Rattle.law_after.proofs.Made.{register_after, spawn_after}
-use Rattle.law_after.proofs.Loops.{parts_loop, create_loop}
-use Rattle.law_after.proofs.Deadlines.{schedule_loop}
-use Rattle.law_inside.specs.InStep.{IsStepSound, IsAsked, RepliesInStep}
-use Rattle.law_answered.proofs.Handling.{spawned_step}
-use Rattle.law_answered.proofs.Answering.{half, alive, within, left_before}
-use Rattle.law_inside.proofs.Blocks.{open_kept, timeout_made_open, group_entered_open, entered_new, entered_is, entered_old, groups_longer}
-use Rattle.law_inside.proofs.Counts.{and_first, count_unbegun, lives_before, lives_within}
-use Rattle.law_inside.proofs.Given.{asked_leaves, task_made, spawn_keeps, spawned_blocks, old_same}
-use Rattle.law_inside.proofs.Keeping.{IsApart, open_of, with_open, says_same, tapes_blocks, futures_kept, loop_keeps, standing_kept, resumed_blocks}
-use Rattle.law_inside.proofs.Keeping.{resumed_others, resumed_standing, resumed_begun, answer_keeps}
+use Rattle.law_turns.specs.After.{is_step, IsAfter, IsLoopAfter}
+use Rattle.law_turns.proofs.Parts.{refl_after}
+use Rattle.law_turns.proofs.Made.{register_after, spawn_after}
+use Rattle.law_turns.proofs.Loops.{parts_loop, create_loop}
+use Rattle.law_turns.proofs.Deadlines.{schedule_loop}
+use Rattle.law_replies.specs.InStep.{IsStepSound, IsAsked, RepliesInStep}
+use Rattle.law_replies.proofs.Handling.{spawned_step}
+use Rattle.law_replies.proofs.Answering.{half, alive, within, left_before}
+use Rattle.law_replies.proofs.Blocks.{open_kept, timeout_made_open, group_entered_open, entered_new, entered_is, entered_old, groups_longer}
+use Rattle.law_replies.proofs.Counts.{and_first, count_unbegun, lives_before, lives_within}
+use Rattle.law_replies.proofs.Given.{asked_leaves, task_made, spawn_keeps, spawned_blocks, old_same}
+use Rattle.law_replies.proofs.Keeping.{IsApart, open_of, with_open, says_same, tapes_blocks, futures_kept, loop_keeps, standing_kept, resumed_blocks}
+use Rattle.law_replies.proofs.Keeping.{resumed_others, resumed_standing, resumed_begun, answer_keeps}
 use Rattle.law_replies.proofs.Table.{same_tapes}
-use Rattle.law_inside.proofs.Tapes.{past_default}
+use Rattle.law_replies.proofs.Tapes.{past_default}
 
 module _ {S : Type 0} (added : Extra S) (task : ℕ) (s : State S) (asked : Request) (is : IsAsked added task Asked asked s) where
   -- ---- main is over as before

@@ -26,18 +26,18 @@ use Rattle.model_machine.specs.Step.{says_of}
 use Rattle.model_machine.specs.Told.{told_in}
 use Rattle.law_sound.proofs.Steps.{tags_of_sound}
 use Rattle.law_turns.specs.Replied.{RunsSound, RepliesSound}
-use Rattle.law_after.specs.After.{IsLoopAfter}
-use Rattle.law_after.proofs.Deadlines.{leave_loop, leave_closes}
-use Rattle.law_after.proofs.Exits.{ExitLeaves}
-use Rattle.law_after.proofs.Loops.{loop_on, book_loop}
-use Rattle.law_after.proofs.Requests.{suspend_after}
-use Rattle.law_inside.specs.InStep.{IsStepSound, IsAsked, RepliesInStep}
-use Rattle.law_answered.proofs.Answering.{half, within, left_before, rest_stood}
-use Rattle.law_inside.proofs.Blocks.{AreOpenAt, timeout_left_open, group_left_open}
-use Rattle.law_inside.proofs.Counts.{and_first, and_second, and_both, not_true, not_false, lives_before}
-use Rattle.law_inside.proofs.Given.{asked_leaves}
-use Rattle.law_inside.proofs.Keeping.{open_of, with_open, says_same, tapes_blocks, futures_kept, loop_keeps, stays_stood, leaves_none, resumed_blocks}
-use Rattle.law_inside.proofs.Keeping.{resumed_others, resumed_standing, resumed_begun, answer_keeps, stood_standing}
+use Rattle.law_turns.specs.After.{IsLoopAfter}
+use Rattle.law_turns.proofs.Deadlines.{leave_loop, leave_closes}
+use Rattle.law_turns.proofs.Exits.{ExitLeaves}
+use Rattle.law_turns.proofs.Loops.{loop_on, book_loop}
+use Rattle.law_turns.proofs.Requests.{suspend_after}
+use Rattle.law_replies.specs.InStep.{IsStepSound, IsAsked, RepliesInStep}
+use Rattle.law_replies.proofs.Answering.{half, within, left_before, rest_stood}
+use Rattle.law_replies.proofs.Blocks.{AreOpenAt, timeout_left_open, group_left_open}
+use Rattle.law_replies.proofs.Counts.{and_first, and_second, and_both, not_true, not_false, lives_before}
+use Rattle.law_replies.proofs.Given.{asked_leaves}
+use Rattle.law_replies.proofs.Keeping.{open_of, with_open, says_same, tapes_blocks, futures_kept, loop_keeps, stays_stood, leaves_none, resumed_blocks}
+use Rattle.law_replies.proofs.Keeping.{resumed_others, resumed_standing, resumed_begun, answer_keeps, stood_standing}
 use Rattle.law_replies.proofs.Table.{same_tapes}
 
 -- ---- one block less

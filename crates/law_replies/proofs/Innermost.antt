@@ -13,9 +13,9 @@ use Rattle.model_machine.specs.Extra.{Extra}
 use Rattle.model_machine.specs.Sound.{blocks_of, exchanges_of, names_block}
 use Rattle.model_machine.specs.State.{State, generator_of}
 use Rattle.model_machine.specs.Step.{says_of}
-use Rattle.law_blocks.specs.Opened.{EnteredBlock, OfTimeout, OfGroup, entered_as, opened, opened_with}
-use Rattle.law_blocks.proofs.Growing.{leaves_innermost, same_blocks}
-use Rattle.law_inside.proofs.Counts.{and_first, and_second, and_both}
+use Rattle.law_says.specs.Opened.{EnteredBlock, OfTimeout, OfGroup, entered_as, opened, opened_with}
+use Rattle.law_says.proofs.Growing.{leaves_innermost, same_blocks}
+use Rattle.law_replies.proofs.Counts.{and_first, and_second, and_both}
 
 -- a block that was entered as a timeout is one, and so of groups
 abbrev named_rightly : EnteredBlock → Bool

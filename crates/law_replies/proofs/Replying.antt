@@ -25,8 +25,8 @@ use Rattle.model_machine.specs.Sound.{blocks_of, is_open, names_block, names_mad
 use Rattle.model_machine.specs.State.{Asked, State, noted, resumed}
 use Rattle.model_machine.specs.Step.{says_of}
 use Rattle.model_machine.specs.Told.{told_in}
-use Rattle.law_blocks.specs.Given.{InSaying}
-use Rattle.law_ledger.specs.Telling.{is_open as is_open_there}
+use Rattle.law_says.specs.Given.{InSaying}
+use Rattle.law_changes.specs.Telling.{is_open as is_open_there}
 use Rattle.law_sound.proofs.Steps.{tags_of_sound}
 use Rattle.law_turns.specs.Replied.{RunsSound, RepliesSound, IsFit}
 use Rattle.law_turns.proofs.Streaming.{reply_sound}
@@ -34,17 +34,17 @@ use Rattle.law_cases.specs.Cases.{Replies, raises, leaves_none, exits_none, tell
 use Rattle.law_cases.specs.Cases.{fails, cancels, uncancels, spawns_it, enters, leaves, moves, enters_one, exits, creates_it, serves_it, is_exit}
 use Rattle.law_cases.specs.Cases.{is_of_block}
 use Rattle.law_cases.proofs.Cases.{reply_is}
-use Rattle.law_after.proofs.Deadlines.{reschedule_loop}
-use Rattle.law_after.proofs.Exits.{exit_begin_loop, exit_begin_leaves, exit_begin_marks}
+use Rattle.law_turns.proofs.Deadlines.{reschedule_loop}
+use Rattle.law_turns.proofs.Exits.{exit_begin_loop, exit_begin_leaves, exit_begin_marks}
 use Rattle.law_replies.specs.Added.{KeepsSound}
-use Rattle.law_inside.specs.InStep.{IsStepSound, IsAsked, RepliesInStep, is_added}
+use Rattle.law_replies.specs.InStep.{IsStepSound, IsAsked, RepliesInStep, is_added}
 use Rattle.law_cases.specs.Closed.{is_to_streams}
-use Rattle.law_answered.proofs.Streaming.{streams_reply_in}
-use Rattle.law_answered.proofs.Answering.{half, alive, awaited_there, plain_futures, step_to}
-use Rattle.law_inside.proofs.Counts.{and_both, not_false, lives_within}
+use Rattle.law_replies.proofs.Streaming.{streams_reply_in}
+use Rattle.law_replies.proofs.Answering.{half, alive, awaited_there, plain_futures, step_to}
+use Rattle.law_replies.proofs.Counts.{and_both, not_false, lives_within}
 use Rattle.law_replies.proofs.Entering.{spawns_in, creates_in, enters_timeout_in, enters_group_in}
 use Rattle.law_replies.proofs.Exiting.{timeout_there, timeout_open, exits_timeout_in, group_there, group_entered, group_its, group_unended, exits_in}
-use Rattle.law_inside.proofs.Given.{Made, asked_leaves, of_all, said_made, task_made}
+use Rattle.law_replies.proofs.Given.{Made, asked_leaves, of_all, said_made, task_made}
 use Rattle.law_replies.proofs.Innermost.{innermost_timeout, innermost_group}
 use Rattle.law_replies.proofs.Table.{same_tapes, self, thrown, answered, valued, hands_in, pauses_in, waits_in, sleeps_in, settles_in, requests_in}
 use Rattle.law_replies.proofs.Table.{uncancels_in, makes_future_in}

@@ -21,24 +21,24 @@ use Rattle.model_machine.specs.Extra.{Extra}
 use Rattle.model_machine.specs.Outcomes.{input_of}
 use Rattle.model_machine.specs.Replies.{Answers, Rests, alarmed, counted, ended, makes_future, pauses, replied, requests, sleeps_for, waits}
 use Rattle.model_stream.specs.Kept.{times_kept}
-use Rattle.law_trees.proofs.Fits.{kept_nowhere}
+use Rattle.law_cases.proofs.Fits.{kept_nowhere}
 use Rattle.model_loop.specs.Owning.{is_plain}
 use Rattle.model_machine.specs.Sound.{AreScriptsFutures, IsOpenedAt, NamesItsSleep, StandsRightly, names_block, names_made, sends_made, stands_at}
 use Rattle.model_machine.specs.State.{Standing, Asked, Sleeping, Leaving, State, generator_of, in_loop, resumed, stands, unbooked_in}
 use Rattle.law_cancel.proofs.Lookups.{get-push_last, get-push_other, get_within}
-use Rattle.law_timeouts.proofs.Entries.{entries-given, entries-later, of_tag}
+use Rattle.law_groups.proofs.Entries.{entries-given, entries-later, of_tag}
 use Rattle.law_turns.specs.Replied.{RunsSound, RepliesSound}
-use Rattle.law_after.specs.After.{IsAfter, IsLoopAfter, OutcomeIn}
-use Rattle.law_after.proofs.Parts.{after_on, soon_after, later_after, change_after, settle_after}
-use Rattle.law_after.proofs.Made.{make_after}
-use Rattle.law_after.proofs.Requests.{cancel_after, suspend_after}
-use Rattle.law_after.proofs.Loops.{refl_loop, loop_on, parts_loop, book_loop}
-use Rattle.law_inside.specs.InStep.{IsStepSound, IsAsked, RepliesInStep, SameTapes}
-use Rattle.law_answered.proofs.Answering.{half, left_before, within, step_to, rest_to, rest_stood}
-use Rattle.law_inside.proofs.Counts.{none_sleep, no_sleep_of, sleep_kept}
-use Rattle.law_inside.proofs.Given.{ended_made, asked_leaves}
-use Rattle.law_inside.proofs.Keeping.{futures_kept, stood_standing}
-use Rattle.law_inside.proofs.Replacing.{unmade}
+use Rattle.law_turns.specs.After.{IsAfter, IsLoopAfter, OutcomeIn}
+use Rattle.law_turns.proofs.Parts.{after_on, soon_after, later_after, change_after, settle_after}
+use Rattle.law_turns.proofs.Made.{make_after}
+use Rattle.law_turns.proofs.Requests.{cancel_after, suspend_after}
+use Rattle.law_turns.proofs.Loops.{refl_loop, loop_on, parts_loop, book_loop}
+use Rattle.law_replies.specs.InStep.{IsStepSound, IsAsked, RepliesInStep, SameTapes}
+use Rattle.law_replies.proofs.Answering.{half, left_before, within, step_to, rest_to, rest_stood}
+use Rattle.law_replies.proofs.Counts.{none_sleep, no_sleep_of, sleep_kept}
+use Rattle.law_replies.proofs.Given.{ended_made, asked_leaves}
+use Rattle.law_replies.proofs.Keeping.{futures_kept, stood_standing}
+use Rattle.law_replies.proofs.Replacing.{unmade}
 
 sleeping_is : (a b : ℕ) → Sleeping a ≡ Sleeping b → a ≡ b
 sleeping_is a b e = ap (λ st. tag_in st) e

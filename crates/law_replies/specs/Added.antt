@@ -7,7 +7,7 @@ use Rattle.model_machine.specs.Extra.{Extra, called}
 use Rattle.model_machine.specs.Replies.{reply, woken}
 use Rattle.model_machine.specs.Sound.{IsStateSound}
 use Rattle.model_machine.specs.State.{Asked, Serving, State}
-use Rattle.law_inside.specs.InStep.{IsAsked, IsStepSound, RepliesInStep}
+use Rattle.law_replies.specs.InStep.{IsAsked, IsStepSound, RepliesInStep}
 
 pub record KeepsSound {S : Type 0} (added : Extra S) : Type 0 where
   -- a task's request, inside its step

@@ -1,4 +1,6 @@
-//! Laws of requests: each one that a task makes in its step is fit, and what it comes to is sound.
+//! Sound states inside a task's step: answers, waits and each request keep them.
 #![tactic(auto)]
 
+pub mod answers;
 pub mod requests;
+pub mod states;

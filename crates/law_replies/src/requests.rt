@@ -8,7 +8,7 @@ ghost use Rattle.model_machine.specs.Replies.{reply};
 ghost use Rattle.model_machine.specs.State.{State};
 ghost use Rattle.model_machine.specs.Step.{says_of};
 ghost use Rattle.law_turns.specs.Replied.{HasPlainFutures, IsFit};
-ghost use Rattle.law_inside.specs.InStep.{IsStepSound, RepliesInStep, is_added};
+ghost use Rattle.law_replies.specs.InStep.{IsStepSound, RepliesInStep, is_added};
 ghost use Rattle.law_replies.specs.Added.{KeepsSound};
 
 /// Each request that a task makes in its step is fit, and what it comes to is sound: inside the

@@ -26,35 +26,35 @@ use Rattle.model_machine.specs.State.{Standing, Asked, Sleeping, Leaving, Servin
 use Rattle.model_machine.specs.State.{ReadingAll, State, generator_of, noted, resumed, stands, unbooked_in}
 use Rattle.model_machine.specs.State.{with_loop}
 use Rattle.model_machine.specs.Step.{given_up, says_of}
-use Rattle.law_settling.specs.Frames.{taken}
+use Rattle.law_steps.specs.Frames.{taken}
 use Rattle.law_steps.proofs.Stepping.{taken-where}
-use Rattle.law_timeouts.proofs.Entries.{entries-fewer, of_tag}
-use Rattle.law_timeouts.proofs.Quiet.{handles-first}
+use Rattle.law_groups.proofs.Entries.{entries-fewer, of_tag}
+use Rattle.law_groups.proofs.Quiet.{handles-first}
 use Rattle.law_turns.specs.Replied.{RunsSound, RepliesSound, IsStanding}
 use Rattle.law_turns.proofs.Stepping.{runs, step_begins}
-use Rattle.law_after.specs.After.{is_step, IsAfter, IsLoopAfter}
-use Rattle.law_after.proofs.Parts.{refl_after, after_on, taken_after, revoke_after}
-use Rattle.law_after.proofs.Requests.{begin_after}
-use Rattle.law_after.proofs.Loops.{parts_loop, refl_loop}
-use Rattle.law_after.proofs.Exits.{exit_woken_loop, exit_woken_leaves}
+use Rattle.law_turns.specs.After.{is_step, IsAfter, IsLoopAfter}
+use Rattle.law_turns.proofs.Parts.{refl_after, after_on, taken_after, revoke_after}
+use Rattle.law_turns.proofs.Requests.{begin_after}
+use Rattle.law_turns.proofs.Loops.{parts_loop, refl_loop}
+use Rattle.law_turns.proofs.Exits.{exit_woken_loop, exit_woken_leaves}
 use Rattle.law_replies.specs.Added.{KeepsSound}
 use Rattle.law_cases.specs.Closed.{stands_at_streams}
-use Rattle.law_opened.specs.StreamReplies.{StreamReplies}
-use Rattle.law_opened.proofs.Replying.{streams_decide, woken_at}
-use Rattle.law_answered.proofs.Streaming.{streams_in, streams_leave}
-use Rattle.law_answered.proofs.Standing.{not_pause_at, streams_to, woken_asked, woken_tape, woken_opened}
+use Rattle.law_cases.specs.StreamReplies.{StreamReplies}
+use Rattle.law_cases.proofs.Replying.{streams_decide, woken_at}
+use Rattle.law_replies.proofs.Streaming.{streams_in, streams_leave}
+use Rattle.law_replies.proofs.Standing.{not_pause_at, streams_to, woken_asked, woken_tape, woken_opened}
 use Rattle.law_turns.proofs.Streaming.{streams_sound}
-use Rattle.law_inside.specs.InStep.{IsStepSound, IsAsked, RepliesInStep}
-use Rattle.law_answered.proofs.Answering.{left_before, step_to}
-use Rattle.law_inside.proofs.Blocks.{open_kept}
-use Rattle.law_inside.proofs.Counts.{and_first, and_second, not_true, lives_before, lives_within, no_sleep_of, sleep_none}
+use Rattle.law_replies.specs.InStep.{IsStepSound, IsAsked, RepliesInStep}
+use Rattle.law_replies.proofs.Answering.{left_before, step_to}
+use Rattle.law_replies.proofs.Blocks.{open_kept}
+use Rattle.law_replies.proofs.Counts.{and_first, and_second, not_true, lives_before, lives_within, no_sleep_of, sleep_none}
 use Rattle.law_replies.proofs.Exiting.{group_there, exits_in, leaving_is}
-use Rattle.law_inside.proofs.Given.{asked_leaves}
+use Rattle.law_replies.proofs.Given.{asked_leaves}
 use Rattle.law_replies.proofs.Innermost.{innermost_group}
-use Rattle.law_inside.proofs.Keeping.{IsApart, apart_of, open_of, with_open, futures_kept, loop_keeps, stays_stood}
-use Rattle.law_inside.proofs.Keeping.{leaves_none, stood_standing, stood_says, stood_blocks, stands_keeps}
+use Rattle.law_replies.proofs.Keeping.{IsApart, apart_of, open_of, with_open, futures_kept, loop_keeps, stays_stood}
+use Rattle.law_replies.proofs.Keeping.{leaves_none, stood_standing, stood_says, stood_blocks, stands_keeps}
 use Rattle.law_replies.proofs.Table.{same_tapes, sleeps_leaves}
-use Rattle.law_inside.proofs.Tapes.{past_default}
+use Rattle.law_replies.proofs.Tapes.{past_default}
 
 -- ---- tests of handles
 step_steps : (task other : ℕ) (action : Action) → steps task action ≡ true → is_step other action ≡ true → task ≡ other

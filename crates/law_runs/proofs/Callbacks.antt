@@ -31,29 +31,29 @@ use Rattle.model_machine.specs.Step.{most_answers, says_of, serve, serve_all, se
 use Rattle.model_machine.specs.Told.{told_by, told_in}
 use Rattle.model_machine.specs.Turn.{effect, ran, run_first}
 use Rattle.model_machine.specs.Went.{Went}
-use Rattle.law_settling.specs.Frames.{taken, is_followed}
+use Rattle.law_steps.specs.Frames.{taken, is_followed}
 use Rattle.law_sound.proofs.Steps.{dead_sound, off, tags_of_sound, unfollowed_sound}
 use Rattle.law_steps.proofs.Stepping.{taken-where}
-use Rattle.law_timeouts.proofs.Firing.{was_active}
+use Rattle.law_groups.proofs.Firing.{was_active}
 use Rattle.law_turns.specs.FitsTurn.{FitsAction, FitsLive}
 use Rattle.law_turns.specs.SoundState.{HasSoundLoop, LeavesSoundLoop}
 use Rattle.law_turns.proofs.Running.{first_sound}
 use Rattle.law_turns.proofs.Turning.{as_told, tells_none}
-use Rattle.law_after.specs.After.{is_step, IsLoopAfter}
-use Rattle.law_after.proofs.Deadlines.{fire_loop}
-use Rattle.law_after.proofs.Loops.{child_done_loop, loop_on, parts_loop}
-use Rattle.law_after.proofs.Parts.{settle_after, taken_after}
+use Rattle.law_turns.specs.After.{is_step, IsLoopAfter}
+use Rattle.law_turns.proofs.Deadlines.{fire_loop}
+use Rattle.law_turns.proofs.Loops.{child_done_loop, loop_on, parts_loop}
+use Rattle.law_turns.proofs.Parts.{settle_after, taken_after}
 use Rattle.law_replies.specs.Added.{KeepsSound}
-use Rattle.law_trees.specs.Trees.{is_of_streams}
-use Rattle.law_opened.proofs.Going.{effect_is}
+use Rattle.law_cases.specs.Trees.{is_of_streams}
+use Rattle.law_cases.proofs.Going.{effect_is}
 use Rattle.law_turns.proofs.Streaming.{streams_unfollowed}
-use Rattle.law_answered.proofs.Handling.{goes_in}
-use Rattle.law_inside.specs.InStep.{IsStepSound, LeavesStateSound, RepliesInStep}
+use Rattle.law_replies.proofs.Handling.{goes_in}
+use Rattle.law_replies.specs.InStep.{IsStepSound, LeavesStateSound, RepliesInStep}
 use Rattle.law_runs.proofs.Beginning.{begins_in}
 use Rattle.law_runs.proofs.Finishing.{returns_sound, raises_sound}
-use Rattle.law_inside.proofs.Given.{ended_made}
-use Rattle.law_inside.proofs.Keeping.{apart_of}
-use Rattle.law_inside.proofs.Nobody.{nobody, over_as}
+use Rattle.law_replies.proofs.Given.{ended_made}
+use Rattle.law_replies.proofs.Keeping.{apart_of}
+use Rattle.law_replies.proofs.Nobody.{nobody, over_as}
 use Rattle.law_replies.proofs.Replying.{reply_in}
 
 -- ---- a task's step

@@ -18,23 +18,23 @@ use Rattle.model_machine.specs.Sound.{IsStateSound, blocks_of, exchanges_of, nam
 use Rattle.model_machine.specs.State.{State, generator_of, unbooked_in}
 use Rattle.model_machine.specs.Step.{says_of}
 use Rattle.model_machine.specs.Told.{told_in}
-use Rattle.law_blocks.specs.Given.{InSaying}
-use Rattle.law_blocks.proofs.Growing.{over_returned, over_raised, same_blocks}
-use Rattle.law_blocks.specs.Opened.{entered_as}
+use Rattle.law_says.specs.Given.{InSaying}
+use Rattle.law_says.proofs.Growing.{over_returned, over_raised, same_blocks}
+use Rattle.law_says.specs.Opened.{entered_as}
 use Rattle.law_cancel.proofs.Effects.{settle-pending}
-use Rattle.law_settling.proofs.Settling.{settle_effect}
+use Rattle.law_steps.proofs.Settling.{settle_effect}
 use Rattle.law_sound.proofs.Steps.{finish_step_sound}
 use Rattle.law_turns.specs.Fits.{HasNoOpenGroup}
-use Rattle.law_after.specs.After.{IsLoopAfter, ResultIn}
-use Rattle.law_after.proofs.Loops.{parts_loop}
-use Rattle.law_after.proofs.Requests.{finish_after}
-use Rattle.law_inside.specs.InStep.{IsStepSound}
-use Rattle.law_answered.proofs.Answering.{left_before}
-use Rattle.law_inside.proofs.Blocks.{open_kept}
-use Rattle.law_inside.proofs.Counts.{lives_before, lives_within}
-use Rattle.law_inside.proofs.Given.{Made, said_made}
-use Rattle.law_inside.proofs.Keeping.{apart_of, joined, open_of, with_open, tapes_blocks, futures_kept, loop_keeps, stays_stood, leaves_none}
-use Rattle.law_inside.proofs.Tapes.{past_default}
+use Rattle.law_turns.specs.After.{IsLoopAfter, ResultIn}
+use Rattle.law_turns.proofs.Loops.{parts_loop}
+use Rattle.law_turns.proofs.Requests.{finish_after}
+use Rattle.law_replies.specs.InStep.{IsStepSound}
+use Rattle.law_replies.proofs.Answering.{left_before}
+use Rattle.law_replies.proofs.Blocks.{open_kept}
+use Rattle.law_replies.proofs.Counts.{lives_before, lives_within}
+use Rattle.law_replies.proofs.Given.{Made, said_made}
+use Rattle.law_replies.proofs.Keeping.{apart_of, joined, open_of, with_open, tapes_blocks, futures_kept, loop_keeps, stays_stood, leaves_none}
+use Rattle.law_replies.proofs.Tapes.{past_default}
 use Rattle.law_replies.proofs.Table.{same_tapes}
 
 settle_done : (id : ℕ) (outcome : Outcome) (p : Parts) → is_pending (settle id outcome p) id ≡ false

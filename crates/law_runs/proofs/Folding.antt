@@ -13,7 +13,7 @@ use Rattle.model_machine.specs.Turn.{call_of, is_stalled, next_below, run_below,
 use Rattle.model_machine.specs.Turn.{woken_by}
 use Rattle.model_machine.specs.Went.{Went, Goes, Stops, answered_by, fitted, state_of, went_on}
 use Rattle.law_replies.specs.Added.{KeepsSound}
-use Rattle.law_inside.specs.InStep.{LeavesStateSound}
+use Rattle.law_replies.specs.InStep.{LeavesStateSound}
 use Rattle.law_runs.proofs.Callbacks.{callback_in}
 use Rattle.law_runs.proofs.Turning.{noted_in, pending_in, woken_in}
 

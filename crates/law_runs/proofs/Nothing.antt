@@ -11,10 +11,10 @@ use Rattle.model_machine.specs.Extra.{no_extra, unknown_code}
 use Rattle.model_machine.specs.Replies.{given, reply, serves, woken}
 use Rattle.model_machine.specs.Sound.{names_made}
 use Rattle.model_machine.specs.State.{Asked, Serving, State, resumed}
-use Rattle.law_after.proofs.Loops.{refl_loop}
+use Rattle.law_turns.proofs.Loops.{refl_loop}
 use Rattle.law_replies.specs.Added.{KeepsSound}
-use Rattle.law_inside.specs.InStep.{IsAsked, IsStepSound, RepliesInStep}
-use Rattle.law_answered.proofs.Answering.{step_to}
+use Rattle.law_replies.specs.InStep.{IsAsked, IsStepSound, RepliesInStep}
+use Rattle.law_replies.proofs.Answering.{step_to}
 use Rattle.law_replies.proofs.Table.{same_tapes, thrown}
 use Rattle.law_runs.proofs.Beginning.{serving_leaves}
 

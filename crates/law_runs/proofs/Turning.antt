@@ -36,14 +36,14 @@ use Rattle.model_machine.specs.Turn.{turn_over, turn_unless, turned_by, woken_by
 use Rattle.model_machine.specs.Went.{Went, Goes, Stops, answered_by, fitted, went_on}
 use Rattle.law_sound.proofs.Steps.{end_of_run_sound}
 use Rattle.law_turns.proofs.Turning.{as_told, at_time_sound, items_sound, soon_all-append, woken_sound}
-use Rattle.law_after.specs.After.{IsAfter, IsLoopAfter}
-use Rattle.law_after.proofs.Loops.{book_loop, parts_loop, refl_loop}
-use Rattle.law_after.proofs.Made.{due_after}
-use Rattle.law_after.proofs.Parts.{refl_after, after_on, same_after, soon_after}
-use Rattle.law_after.proofs.Requests.{each_after}
+use Rattle.law_turns.specs.After.{IsAfter, IsLoopAfter}
+use Rattle.law_turns.proofs.Loops.{book_loop, parts_loop, refl_loop}
+use Rattle.law_turns.proofs.Made.{due_after}
+use Rattle.law_turns.proofs.Parts.{refl_after, after_on, same_after, soon_after}
+use Rattle.law_turns.proofs.Requests.{each_after}
 use Rattle.law_replies.specs.Added.{KeepsSound}
-use Rattle.law_inside.specs.InStep.{AreStatesSound, Afterwards, IsRunSound, LeavesStateSound}
-use Rattle.law_inside.proofs.Nobody.{nobody, over_as}
+use Rattle.law_replies.specs.InStep.{AreStatesSound, Afterwards, IsRunSound, LeavesStateSound}
+use Rattle.law_replies.proofs.Nobody.{nobody, over_as}
 use Rattle.law_runs.proofs.Callbacks.{callback_in}
 
 -- ---- what the outside is asked and answers tells no group

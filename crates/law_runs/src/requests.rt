@@ -19,7 +19,7 @@ ghost use Rattle.model_machine.specs.Step.{given_up, says_of, serve, step};
 ghost use Rattle.law_turns.specs.Fits.{HasNoOpenGroup};
 ghost use Rattle.law_turns.specs.Replied.{IsStanding};
 ghost use Rattle.law_replies.specs.Added.{KeepsSound};
-ghost use Rattle.law_inside.specs.InStep.{IsAsked, IsStepSound, LeavesStateSound, RepliesInStep};
+ghost use Rattle.law_replies.specs.InStep.{IsAsked, IsStepSound, LeavesStateSound, RepliesInStep};
 
 /// A step begins by a handle that steps its task, with an input that names tasks that were made.
 /// The task lives, and stands as the loop needs it; the coroutine asks what it asked before; and

@@ -13,7 +13,7 @@ ghost use Rattle.model_machine.specs.Sound.{IsStateSound};
 ghost use Rattle.model_machine.specs.State.{State, noted, start, unbooked_in};
 ghost use Rattle.model_machine.specs.Turn.{run_first, run_pending, turn, turn_over, woken_by};
 ghost use Rattle.law_replies.specs.Added.{KeepsSound};
-ghost use Rattle.law_inside.specs.InStep.{AreStatesSound, IsRunSound, LeavesStateSound};
+ghost use Rattle.law_replies.specs.InStep.{AreStatesSound, IsRunSound, LeavesStateSound};
 
 /// Where nothing is added to the loop's own requests, nothing of that makes a state unsound.
 pub fn nothing_added_keeps_it_sound()

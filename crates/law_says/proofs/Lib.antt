@@ -3,3 +3,7 @@ pub mod Sound
 pub mod Bodies
 pub mod Ends
 pub mod Counting
+pub mod Values
+pub mod Nesting
+pub mod BlockBodies
+pub mod Growing

@@ -1,6 +1,7 @@
-//! Laws of what coroutines say after their inputs.
+//! Laws of what coroutines say: longer tapes ask the same first, and blocks nest along a tape.
 #![tactic(auto)]
 
+pub mod blocks;
 mod tapes;
 
 pub use tapes::{

@@ -4,32 +4,32 @@ use Rattle.std.proofs.Common.{◌&&◌, ◌∙◌, ◌∷◌, ◌⊎◌}
 use Rattle.model_loop.specs.Parts.{Future, FutureKind, Handle, OfTask, Parts, Plain, Task}
 use Rattle.model_loop.specs.Tasks.{change_task, spawn, uncancel, waiter_of}
 use Rattle.model_loop.specs.Totals.{callbacks_at}
-use Rattle.law_numbers.proofs.Falling.{new_plain_numbers, spawn_numbers}
+use Rattle.law_changes.proofs.Falling.{new_plain_numbers, spawn_numbers}
 use Rattle.model_value.specs.Value.{Exc, Nothing, Outcome}
 use Rattle.model_loop.specs.Futures.{make_future, new_plain, register, settle}
 use Rattle.model_loop.specs.Handles.{soon}
-use Rattle.law_timeouts.proofs.Quiet.{asked_looks, change_task_quiet, make_quiet, mark_asked_quiet, quiet_on, refl_quiet, register_callbacks, register_quiet}
-use Rattle.law_timeouts.proofs.Quiet.{settle_quiet, soon_quiet}
-use Rattle.law_timeouts.proofs.Quiet.{spawn_quiet, taken_quiet}
+use Rattle.law_groups.proofs.Quiet.{asked_looks, change_task_quiet, make_quiet, mark_asked_quiet, quiet_on, refl_quiet, register_callbacks, register_quiet}
+use Rattle.law_groups.proofs.Quiet.{settle_quiet, soon_quiet}
+use Rattle.law_groups.proofs.Quiet.{spawn_quiet, taken_quiet}
 use Rattle.model_loop.specs.Groups.{begin_exit, child_done, create}
 use Rattle.model_loop.specs.Groups.{exit_begin, exit_woken, set_group}
 use Rattle.std.specs.Option.{option_map_or, option_to_list}
 use Rattle.model_loop.specs.Numbered.{IsNumbered}
 use Rattle.law_cancel.proofs.Effects.{register-tasks}
-use Rattle.law_settling.proofs.CancelSound.{plain_within, settled_callbacks}
+use Rattle.law_steps.proofs.CancelSound.{plain_within, settled_callbacks}
 use Rattle.model_loop.specs.Owning.{AreCallbacks, is_callback, is_no_callback, is_plain, is_plain_at}
 use Rattle.law_cancel.proofs.Lookups.{get-push_last, get-push_other}
 use Rattle.model_loop.specs.Ledger.{Booked, ByAbort, ByGroup, Origin, ask_cancel, request_each, uncancel_by}
-use Rattle.law_numbers.proofs.Numbering.{change_task_numbers, mark_asked_numbers, register_numbers, settle_numbers, soon_numbers, taken_numbers}
+use Rattle.law_changes.proofs.Numbering.{change_task_numbers, mark_asked_numbers, register_numbers, settle_numbers, soon_numbers, taken_numbers}
 use Rattle.model_loop.specs.Loop.{Group, Loop, book}
 use Rattle.model_loop.specs.Cancel.{cancel}
 use Rattle.model_value.specs.Action.{Action}
 use Rattle.model_loop.specs.Circles.{passes, passes_at}
-use Rattle.law_settling.proofs.Looks.{LooksSame, change_looks_same, same_callbacks, same_no_circle}
-use Rattle.law_made.proofs.Passing.{no_circle_more, same_tasks_no_circle, settle_no_circle}
+use Rattle.law_steps.proofs.Looks.{LooksSame, change_looks_same, same_callbacks, same_no_circle}
+use Rattle.law_steps.proofs.Passing.{no_circle_more, same_tasks_no_circle, settle_no_circle}
 use Rattle.law_cancel.proofs.Circling.{no_circle_kept, passes-same, register-view}
-use Rattle.law_timeouts.specs.Tags.{IsQuiet, is_deadline}
-use Rattle.law_settling.specs.Frames.{taken}
+use Rattle.law_groups.specs.Tags.{IsQuiet, is_deadline}
+use Rattle.law_steps.specs.Frames.{taken}
 use Rattle.law_changes.specs.Blocks.{OfRequest, cancels, keeps_asked, counts, marks}
 use Rattle.law_changes.specs.Blocks.{OfGroup, changes, aborts, waits, wakes, OfTold, in_told, requests, OfTaking, in_taking, takes, OfEnding}
 use Rattle.law_changes.specs.Blocks.{in_ending}
@@ -40,8 +40,8 @@ use Rattle.law_changes.proofs.BlockRows.{child_done_in, create_in, heard_in, tak
 use Rattle.law_changes.proofs.Folds.{fold}
 use Rattle.law_changes.proofs.PartsRows.{cancel_in, each_in}
 use Rattle.model_loop.specs.Deadlines.{fires}
-use Rattle.law_told.proofs.Holding.{settled_names}
-use Rattle.law_settling.proofs.Settling.{settle_cases}
+use Rattle.law_groups.proofs.Holding.{settled_names}
+use Rattle.law_steps.proofs.Settling.{settle_cases}
 use Rattle.std.specs.List.{count_by}
 use Rattle.model_value.specs.Input.{Input}
 use Rattle.model_value.specs.declared.outcome.Outcome.TheVariants.{Value as Returned, Cancelled}

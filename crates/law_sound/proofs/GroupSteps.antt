@@ -4,9 +4,9 @@ use Rattle.model_loop.specs.Groups.{child_done, create, enter_group, exit_begin,
 use Rattle.law_groups.proofs.Entering.{entered_holds, entered_orderly, made_holds, made_orderly}
 use Rattle.law_sound.proofs.Steps.{build, holds_of, off, rest_of, tells_of}
 use Rattle.law_changes.specs.Changes.{MakesGroup, ChangesGroup}
-use Rattle.law_ledger.proofs.Quietly.{change_tells, create_tells, woken_tells}
+use Rattle.law_changes.proofs.Quietly.{change_tells, create_tells, woken_tells}
 use Rattle.model_value.specs.Input.{Input}
-use Rattle.law_ledger.proofs.Booking.{begin_tells, child_done_tells}
+use Rattle.law_changes.proofs.Booking.{begin_tells, child_done_tells}
 use Rattle.law_sound.proofs.Carrying.{LoopCarries, begin_loop, child_done_loop, create_loop, group_loop, loop_on, parts_loop, refl_carries, taken_carries}
 use Rattle.law_sound.proofs.Carrying.{woken_loop}
 use Rattle.model_loop.specs.Deadlines.{HasTag, fires}
@@ -14,17 +14,17 @@ use Rattle.model_value.specs.declared.action.Action.TheVariants.{GroupDone}
 use Rattle.model_loop.specs.Children.{told_more}
 use Rattle.model_loop.specs.Sound.{IsSound}
 use Rattle.law_groups.proofs.Orderly.{child_done_orderly, create_orderly}
-use Rattle.law_settling.specs.Frames.{taken}
-use Rattle.law_ledger.proofs.LoopBalance.{child_done_keeps, create_keeps, exit_begin_keeps, exit_woken_keeps}
+use Rattle.law_steps.specs.Frames.{taken}
+use Rattle.law_changes.proofs.LoopBalance.{child_done_keeps, create_keeps, exit_begin_keeps, exit_woken_keeps}
 use Rattle.law_groups.proofs.ChildDone.{child_done_sound, told_within}
 use Rattle.model_value.specs.Value.{Exc}
 use Rattle.model_loop.specs.Loop.{Loop, Timeout, in_parts}
 use Rattle.law_groups.proofs.Creating.{create_holds}
 use Rattle.model_loop.specs.Timeouts.{no_timeout, timeout_of}
-use Rattle.law_timeouts.proofs.Quiet.{tag_kept, timed_kept}
+use Rattle.law_groups.proofs.Quiet.{tag_kept, timed_kept}
 use Rattle.law_groups.proofs.Exits.{exit_woken_sound}
 use Rattle.law_groups.proofs.ExitBegins.{begin_well}
-use Rattle.law_timeouts.specs.Tags.{IsQuiet}
+use Rattle.law_groups.specs.Tags.{IsQuiet}
 use Rattle.model_loop.specs.Tasks.{lives}
 use Rattle.model_loop.specs.Parts.{Handle}
 

@@ -18,14 +18,14 @@ use Rattle.model_loop.specs.Totals.{callbacks_at, pending_where}
 use Rattle.model_loop.specs.Ways.{steps}
 use Rattle.law_cancel.proofs.Effects.{register-tasks}
 use Rattle.law_cancel.proofs.Lookups.{get-set_kept}
-use Rattle.law_made.proofs.Registering.{callback_living, callback_sound}
-use Rattle.law_settling.specs.Frames.{Follows, is_followed}
-use Rattle.law_settling.proofs.Looks.{LooksSame, follow_steps, follow_tells, handles_look_same}
-use Rattle.law_settling.proofs.Settling.{soon-where}
-use Rattle.law_timeouts.specs.Tags.{is_deadline}
-use Rattle.law_told.specs.Holds.{Holds}
-use Rattle.law_told.proofs.Holding.{holds_on, looks_holds}
-use Rattle.law_told.proofs.Told.{framed_told}
+use Rattle.law_steps.proofs.Registering.{callback_living, callback_sound}
+use Rattle.law_steps.specs.Frames.{Follows, is_followed}
+use Rattle.law_steps.proofs.Looks.{LooksSame, follow_steps, follow_tells, handles_look_same}
+use Rattle.law_steps.proofs.Settling.{soon-where}
+use Rattle.law_groups.specs.Tags.{is_deadline}
+use Rattle.law_groups.specs.Holds.{Holds}
+use Rattle.law_groups.proofs.Holding.{holds_on, looks_holds}
+use Rattle.law_groups.proofs.Told.{framed_told}
 use Rattle.law_sound.proofs.Carrying.{register_carries, soon_carries}
 use Rattle.law_sound.proofs.Steps.{holds_of, parts_sound}
 

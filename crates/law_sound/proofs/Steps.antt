@@ -1,20 +1,20 @@
 -- Each kind of step keeps a sound state sound.
 use Rattle.std.proofs.Common.{◌≡◌, ℕ, Bool, Err, List, None, Ok, Option, Result, Some, ap, arith, cond, false, inl, inr, not, refl, slice_get, slice_index_or}
 use Rattle.std.proofs.Common.{subst, sym, true, ◌&&◌, ◌+◌, ◌<◌, ◌==◌, ◌∙◌, ◌∷◌, ◌⊎◌}
-use Rattle.law_numbers.proofs.Falling.{due_numbers, new_many_numbers}
-use Rattle.law_numbers.proofs.Numbering.{later_numbers, revoke_numbers, taken_numbers}
+use Rattle.law_changes.proofs.Falling.{due_numbers, new_many_numbers}
+use Rattle.law_changes.proofs.Numbering.{later_numbers, revoke_numbers, taken_numbers}
 use Rattle.model_loop.specs.Balance.{Balances, TasksBalance, lowers}
-use Rattle.law_timeouts.proofs.Entries.{entries-later}
-use Rattle.law_settling.proofs.CancelSound.{plain_no_task}
+use Rattle.law_groups.proofs.Entries.{entries-later}
+use Rattle.law_steps.proofs.CancelSound.{plain_no_task}
 use Rattle.model_loop.specs.Ledger.{Booked, ByEnd, Origin, ask_cancel, request_each, uncancel_by}
 use Rattle.std.specs.List.{All, count_by, range_with_len}
-use Rattle.law_ledger.specs.Telling.{IsOther, Tells}
+use Rattle.law_changes.specs.Telling.{IsOther, Tells}
 use Rattle.model_value.specs.Input.{Input}
-use Rattle.law_told.proofs.Holding.{cancel_holds, looks_holds, request_each_holds, settle_holds}
+use Rattle.law_groups.proofs.Holding.{cancel_holds, looks_holds, request_each_holds, settle_holds}
 use Rattle.law_changes.specs.Changes.{AsksCancel, TakesBack}
-use Rattle.law_ledger.proofs.Quietly.{book_tells, change_tells, each_tells, suspend_none}
-use Rattle.law_timeouts.specs.Tags.{HaveTags, IsQuiet, KeepsTags}
-use Rattle.law_settling.proofs.Looks.{LooksSame, handles_look_same}
+use Rattle.law_changes.proofs.Quietly.{book_tells, change_tells, each_tells, suspend_none}
+use Rattle.law_groups.specs.Tags.{HaveTags, IsQuiet, KeepsTags}
+use Rattle.law_steps.proofs.Looks.{LooksSame, handles_look_same}
 use Rattle.law_sound.proofs.Carrying.{Carries, LoopCarries, book_loop, cancel_carries, carries_on, change_carries, each_carries, looks_carries, parts_loop}
 use Rattle.law_sound.proofs.Carrying.{plain_carries, settle_carries, soon_carries, spawn_carries, taken_carries, uncancel_carries}
 use Rattle.model_loop.specs.Loop.{Loop, Timeout, book, in_parts}
@@ -22,39 +22,39 @@ use Rattle.model_value.specs.Action.{Action}
 use Rattle.model_loop.specs.Tasks.{begin_step, cancelling, change_task, finish, future_of, next_task, pause, set_waiter, spawn, uncancel, unmark}
 use Rattle.model_loop.specs.Parts.{Future, Handle, Many, Parts, Plain, Task, Timer}
 use Rattle.model_loop.specs.Sound.{HasNoCircle, IsSound}
-use Rattle.law_told.proofs.StepHolds.{suspend_names, suspend_holds, begin_holds, finish_holds, pause_holds}
+use Rattle.law_groups.proofs.StepHolds.{suspend_names, suspend_holds, begin_holds, finish_holds, pause_holds}
 use Rattle.model_loop.specs.Children.{IsOrderly}
 use Rattle.model_loop.specs.Entries.{AreTimed, ends_sleep_on, entries, no_sleep_as, timers_where, untimed}
-use Rattle.law_ledger.proofs.Balancing.{request_balances, request_each_balances, suspend_balances, uncancel_balances}
+use Rattle.law_changes.proofs.Balancing.{request_balances, request_each_balances, suspend_balances, uncancel_balances}
 use Rattle.model_loop.specs.Numbered.{IsNumbered}
 use Rattle.model_loop.specs.Timeouts.{no_timeout, timeout_of}
-use Rattle.law_timeouts.proofs.Quiet.{begin_quiet, handles-first, make_quiet, suspend_quiet, tag_kept, timed_kept}
-use Rattle.law_told.proofs.SpawnHolds.{spawn_holds}
+use Rattle.law_groups.proofs.Quiet.{begin_quiet, handles-first, make_quiet, suspend_quiet, tag_kept, timed_kept}
+use Rattle.law_groups.proofs.SpawnHolds.{spawn_holds}
 use Rattle.model_loop.specs.Deadlines.{HasTag, fires, fires_any, fires_as, others_as}
-use Rattle.law_settling.specs.Frames.{Follows, is_followed, taken}
+use Rattle.law_steps.specs.Frames.{Follows, is_followed, taken}
 use Rattle.model_loop.specs.Futures.{is_pending, new_many, new_plain, next_future, settle}
 use Rattle.std.proofs.lemmas.Bool.{cases_eq, eq-eqb, ne_eqb}
 use Rattle.model_loop.specs.Suspend.{suspend}
-use Rattle.law_made.proofs.Passing.{begin_no_circle, make_no_circle, same_tasks_no_circle}
+use Rattle.law_steps.proofs.Passing.{begin_no_circle, make_no_circle, same_tasks_no_circle}
 use Rattle.model_loop.specs.Owning.{is_plain, is_plain_at}
-use Rattle.law_told.specs.Holds.{Holds}
-use Rattle.law_made.proofs.Making.{plain_old}
+use Rattle.law_groups.specs.Holds.{Holds}
+use Rattle.law_steps.proofs.Making.{plain_old}
 use Rattle.law_cancel.proofs.Counting.{change_task-kept}
-use Rattle.law_told.proofs.MakingHolds.{make_holds}
+use Rattle.law_groups.proofs.MakingHolds.{make_holds}
 use Rattle.std.specs.Option.{option_map_or}
 use Rattle.law_steps.proofs.Stepping.{taken-where, uncancel_fewer, uncancel_looks_same}
 use Rattle.law_cancel.proofs.Effects.{change_task-futures, settle-tasks}
 use Rattle.model_value.specs.Value.{Exc, Outcome, Value}
 use Rattle.std.proofs.lemmas.List.Sums.{sum_by_push}
-use Rattle.law_timeouts.proofs.Revoking.{revoke_times, sleep_looks_same, sleep_tags}
+use Rattle.law_groups.proofs.Revoking.{revoke_times, sleep_looks_same, sleep_tags}
 use Rattle.law_cancel.proofs.Circling.{suspend_makes_none}
 use Rattle.model_loop.specs.Groups.{group_of}
-use Rattle.law_timeouts.proofs.Due.{due-tasks, due_looks_same, due_quiet}
-use Rattle.law_numbers.proofs.StepNumbers.{begin_step_numbers, suspend_numbers}
+use Rattle.law_groups.proofs.Due.{due-tasks, due_looks_same, due_quiet}
+use Rattle.law_changes.proofs.StepNumbers.{begin_step_numbers, suspend_numbers}
 use Rattle.model_value.specs.declared.action.Action.TheVariants.{SleepDone, Step}
 use Rattle.model_loop.specs.Ways.{steps}
 use Rattle.model_loop.specs.Ending.{cancel_everything}
-use Rattle.law_ledger.proofs.LoopBalance.{book_keeps, spawn_counts}
+use Rattle.law_changes.proofs.LoopBalance.{book_keeps, spawn_counts}
 use Rattle.model_loop.specs.Handles.{due, later, revoke}
 
 -- ---- what a sound state says, by concern

@@ -2,42 +2,42 @@
 use Rattle.std.proofs.Common.{◌≡◌, ℕ, Bool, List, None, Option, Some, ap, arith, cond, false, length, nat_le, not, option_map, refl, slice_get, slice_index_or}
 use Rattle.std.proofs.Common.{subst, sym, true, ℤ, ◌&&◌, ◌<◌, ◌==◌, ◌∙◌, ◌∷◌}
 use Rattle.model_loop.specs.Parts.{Handle, Parts, Task, Timer}
-use Rattle.law_ledger.proofs.LoopBalance.{enter_timeout_keeps, exit_timeout_keeps, fire_keeps, reschedule_keeps}
-use Rattle.law_settling.specs.Frames.{Follows, taken}
-use Rattle.law_timeouts.specs.Tags.{AddsNoTimes, HaveTags}
+use Rattle.law_changes.proofs.LoopBalance.{enter_timeout_keeps, exit_timeout_keeps, fire_keeps, reschedule_keeps}
+use Rattle.law_steps.specs.Frames.{Follows, taken}
+use Rattle.law_groups.specs.Tags.{AddsNoTimes, HaveTags}
 use Rattle.std.proofs.lemmas.List.Sums.{sum_by_push}
-use Rattle.law_timeouts.proofs.Quiet.{change_task_quiet, handles-first, refl_quiet, timed_kept, times_on}
+use Rattle.law_groups.proofs.Quiet.{change_task_quiet, handles-first, refl_quiet, timed_kept, times_on}
 use Rattle.model_loop.specs.Deadlines.{fires, others_as}
 use Rattle.model_loop.specs.Loop.{Active, Created, Expired, Expiring, Finished, Group, Loop, TimeoutState, in_parts}
 use Rattle.model_loop.specs.Timeouts.{enter_timeout, exit_timeout, fire, give_up, is_active, leave_from, make_timeout, moment, next_timeout, reschedule}
 use Rattle.model_loop.specs.Timeouts.{reschedule_where, schedule, set_timeout, timeout_of, with_deadline, without_handle}
 use Rattle.model_loop.specs.Groups.{group_of, new_group}
-use Rattle.law_settling.proofs.Looks.{LooksSame, handles_look_same, looks_on, refl_looks, same_no_circle}
+use Rattle.law_steps.proofs.Looks.{LooksSame, handles_look_same, looks_on, refl_looks, same_no_circle}
 use Rattle.std.proofs.lemmas.Bool.{and_from, and_parts, false≢true}
 use Rattle.model_loop.specs.Sound.{IsSound}
-use Rattle.law_timeouts.proofs.Firing.{within, enter_tags, exit_tags, fire_tags, make_timeout_tags, was_active}
-use Rattle.law_timeouts.proofs.Entries.{entries-fewer, entries-later, entries-soon, of_tag}
+use Rattle.law_groups.proofs.Firing.{within, enter_tags, exit_tags, fire_tags, make_timeout_tags, was_active}
+use Rattle.law_groups.proofs.Entries.{entries-fewer, entries-later, entries-soon, of_tag}
 use Rattle.model_value.specs.Action.{Action}
-use Rattle.law_timeouts.proofs.Revoking.{revoke_looks_same, revoke_times}
+use Rattle.law_groups.proofs.Revoking.{revoke_looks_same, revoke_times}
 use Rattle.model_loop.specs.Tasks.{future_of, is_marked, uncancel}
 use Rattle.model_loop.specs.Entries.{ends_sleep_on, entries, untimed}
 use Rattle.law_sound.proofs.Steps.{build, holds_of, off, tags_of_sound, taken_looks, tells_of}
-use Rattle.law_told.specs.Holds.{Holds}
+use Rattle.law_groups.specs.Holds.{Holds}
 use Rattle.model_loop.specs.Handles.{deadline, later, soon}
-use Rattle.law_ledger.proofs.Booking.{exit_tells, fire_tells}
+use Rattle.law_changes.proofs.Booking.{exit_tells, fire_tells}
 use Rattle.model_loop.specs.Children.{IsOrderly}
 use Rattle.law_sound.proofs.Carrying.{Carries, cancel_carries}
 use Rattle.law_steps.proofs.Stepping.{uncancel_fewer, uncancel_looks_same}
 use Rattle.model_loop.specs.Balance.{TasksBalance}
-use Rattle.law_told.proofs.Holding.{cancel_holds, looks_holds}
+use Rattle.law_groups.proofs.Holding.{cancel_holds, looks_holds}
 use Rattle.std.specs.Option.{option_map_or}
-use Rattle.law_ledger.proofs.Quietly.{enter_tells, reschedule_tells}
-use Rattle.law_timeouts.proofs.Tagging.{reschedule_tags}
+use Rattle.law_changes.proofs.Quietly.{enter_tells, reschedule_tells}
+use Rattle.law_groups.proofs.Tagging.{reschedule_tags}
 use Rattle.model_value.specs.declared.action.Action.TheVariants.{Fires}
-use Rattle.law_ledger.specs.Telling.{Tells, is_open}
+use Rattle.law_changes.specs.Telling.{Tells, is_open}
 use Rattle.model_value.specs.Value.{Exc}
-use Rattle.law_settling.proofs.Settling.{soon-where}
-use Rattle.law_made.proofs.Passing.{same_tasks_no_circle}
+use Rattle.law_steps.proofs.Settling.{soon-where}
+use Rattle.law_steps.proofs.Passing.{same_tasks_no_circle}
 use Rattle.model_loop.specs.Cancel.{cancel}
 
 -- where the parts look the same and their tags are kept by themselves

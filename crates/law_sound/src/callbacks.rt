@@ -9,8 +9,8 @@ ghost use Rattle.model_loop.specs.Futures.{register};
 ghost use Rattle.model_loop.specs.Handles.{soon};
 ghost use Rattle.model_loop.specs.Owning.{is_callback};
 ghost use Rattle.model_loop.specs.Sound.{IsSound};
-ghost use Rattle.law_settling.specs.Frames.{is_followed, taken};
-ghost use Rattle.law_timeouts.specs.Tags.{is_deadline};
+ghost use Rattle.law_steps.specs.Frames.{is_followed, taken};
+ghost use Rattle.law_groups.specs.Tags.{is_deadline};
 
 /// One is called soon, waits for a future or is called soon where that is done, and its handle is
 /// taken out.

@@ -9,7 +9,7 @@ ghost use Rattle.model_loop.specs.Tasks.{lives};
 ghost use Rattle.model_loop.specs.Groups.{group_of, make_group, enter_group, create, child_done, exit_begin, exit_woken};
 ghost use Rattle.model_loop.specs.Children.{told_more};
 ghost use Rattle.model_loop.specs.Sound.{IsSound};
-ghost use Rattle.law_settling.specs.Frames.{taken};
+ghost use Rattle.law_steps.specs.Frames.{taken};
 
 /// It is made, entered by a task that lives, and a task is made in it.
 pub fn a_group_grows()

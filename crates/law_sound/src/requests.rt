@@ -4,7 +4,7 @@ ghost use Rattle.std.specs.Prelude.{ℕ, List, Option};
 ghost use Rattle.model_loop.specs.Ledger.{Origin, ask_cancel, uncancel_by};
 ghost use Rattle.model_loop.specs.Loop.{Loop, book};
 ghost use Rattle.model_loop.specs.Sound.{IsSound};
-ghost use Rattle.law_ledger.specs.Telling.{IsOther};
+ghost use Rattle.law_changes.specs.Telling.{IsOther};
 
 /// A future's cancel is asked for, and a task's count falls.
 pub fn a_cancel_is_asked_and_taken_back()

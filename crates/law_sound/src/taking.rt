@@ -10,7 +10,7 @@ ghost use Rattle.model_loop.specs.Futures.{settle};
 ghost use Rattle.model_loop.specs.Owning.{is_plain};
 ghost use Rattle.model_loop.specs.Entries.{entries, no_sleep_as};
 ghost use Rattle.model_loop.specs.Sound.{IsSound};
-ghost use Rattle.law_settling.specs.Frames.{taken};
+ghost use Rattle.law_steps.specs.Frames.{taken};
 
 /// Timers fall due.
 pub fn timers_fall_due()

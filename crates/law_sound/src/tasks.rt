@@ -13,7 +13,7 @@ ghost use Rattle.model_loop.specs.Groups.{group_of};
 ghost use Rattle.model_loop.specs.Owning.{is_plain};
 ghost use Rattle.model_loop.specs.Ways.{steps};
 ghost use Rattle.model_loop.specs.Sound.{IsSound};
-ghost use Rattle.law_settling.specs.Frames.{taken};
+ghost use Rattle.law_steps.specs.Frames.{taken};
 
 /// A step begins, by the handle that is taken out.
 pub fn a_step_begins()

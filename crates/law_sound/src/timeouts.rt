@@ -6,8 +6,8 @@ ghost use Rattle.model_loop.specs.Parts.{Handle};
 ghost use Rattle.model_loop.specs.Loop.{Loop, in_parts};
 ghost use Rattle.model_loop.specs.Timeouts.{timeout_of, enter_timeout, reschedule, fire, exit_timeout};
 ghost use Rattle.model_loop.specs.Sound.{IsSound};
-ghost use Rattle.law_settling.specs.Frames.{taken};
-ghost use Rattle.law_ledger.specs.Telling.{is_open};
+ghost use Rattle.law_steps.specs.Frames.{taken};
+ghost use Rattle.law_changes.specs.Telling.{is_open};
 
 /// Its block is entered, gets another deadline, and is left.
 pub fn a_timeout_is_entered_and_left()

@@ -13,8 +13,8 @@ use Rattle.model_loop.specs.Tasks.{lives, future_of, is_marked, unmark, pause, f
 use Rattle.model_loop.specs.Ways.{one_if, steps, steps_among, is_running, ways, wanted, resumes, wakes}
 use Rattle.model_loop.specs.Marks.{MayBeMarked}
 use Rattle.model_loop.specs.Sound.{ArePartsSound}
-use Rattle.law_settling.proofs.Settling.{soon-where, settle_effect}
-use Rattle.law_settling.proofs.Looks.{future_of-same, spent-futures, change_looks_same}
+use Rattle.law_steps.proofs.Settling.{soon-where, settle_effect}
+use Rattle.law_steps.proofs.Looks.{future_of-same, spent-futures, change_looks_same}
 use Rattle.law_steps.proofs.Stepping.{steps_one, running_is, unmark_sound, finished_sound, resumes_steps}
 use Rattle.model_loop.specs.Totals.{pending_where}
 

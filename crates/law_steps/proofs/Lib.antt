@@ -1,5 +1,14 @@
+pub mod Settling
+pub mod SettleWays
+pub mod Spreading
+pub mod Looks
+pub mod CancelSound
 pub mod Stepping
 pub mod Ending
 pub mod Waiting
 pub mod Taking
 pub mod Bridge
+pub mod Spawning
+pub mod Making
+pub mod Registering
+pub mod Passing

@@ -19,12 +19,12 @@ use Rattle.law_cancel.proofs.Counting.{change_task-kept}
 use Rattle.law_cancel.proofs.Effects.{change_task-futures}
 use Rattle.model_loop.specs.Owning.{owner_at, owner_of, own_future, is_no_callback}
 use Rattle.model_loop.specs.Sound.{ArePartsSound}
-use Rattle.law_settling.specs.Frames.{taken}
-use Rattle.law_settling.proofs.Settling.{IsSettled, fewer_pending}
-use Rattle.law_settling.proofs.SettleWays.{settled-waiter, settled-future, settled-pending, settled-lives, settled-ways, settled-wakeups, settled-gone}
-use Rattle.law_settling.proofs.Looks.{future_of-same, spent-futures, change_looks_same, change_task-pending, LooksSame}
-use Rattle.law_settling.proofs.CancelSound.{settled_may, settled_marked, settled_settled, settled_owns, same_sound, settled_callbacks, settled_ready}
-use Rattle.law_settling.proofs.CancelSound.{wakes_steps}
+use Rattle.law_steps.specs.Frames.{taken}
+use Rattle.law_steps.proofs.Settling.{IsSettled, fewer_pending}
+use Rattle.law_steps.proofs.SettleWays.{settled-waiter, settled-future, settled-pending, settled-lives, settled-ways, settled-wakeups, settled-gone}
+use Rattle.law_steps.proofs.Looks.{future_of-same, spent-futures, change_looks_same, change_task-pending, LooksSame}
+use Rattle.law_steps.proofs.CancelSound.{settled_may, settled_marked, settled_settled, settled_owns, same_sound, settled_callbacks, settled_ready}
+use Rattle.law_steps.proofs.CancelSound.{wakes_steps}
 use Rattle.model_value.specs.Input.{Input}
 
 -- ---- what a task waits for, and a mark, by its number

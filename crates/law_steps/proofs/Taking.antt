@@ -6,9 +6,9 @@ use Rattle.law_steps.proofs.Stepping.{taken-where, taken_fewer}
 use Rattle.model_loop.specs.Ways.{resumes, steps, steps_among, wakes}
 use Rattle.model_loop.specs.Sound.{ArePartsSound}
 use Rattle.model_loop.specs.Marks.{MayBeMarked}
-use Rattle.law_settling.specs.Frames.{taken}
+use Rattle.law_steps.specs.Frames.{taken}
 use Rattle.model_loop.specs.Parts.{Handle, Parts}
-use Rattle.law_settling.proofs.Looks.{spent-futures}
+use Rattle.law_steps.proofs.Looks.{spent-futures}
 
 pub taken_sound : (handle : Handle) (rest : List Handle) (p : Parts) → p.pending ≡ handle ∷ rest
     → ((task : ℕ) → steps task handle.action ≡ false) → ArePartsSound None None p → ArePartsSound None None (taken rest p)

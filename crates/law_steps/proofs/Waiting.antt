@@ -25,11 +25,11 @@ use Rattle.law_cancel.proofs.Effects.{change_task-there, change_task-futures, re
 use Rattle.law_cancel.proofs.Answering.{with_answer_spent, with_still}
 use Rattle.model_loop.specs.Owning.{owner_at, owner_of, own_future, is_plain, is_plain_at, is_no_callback}
 use Rattle.model_loop.specs.Sound.{ArePartsSound}
-use Rattle.law_settling.proofs.Looks.{future_of-same, spent_grows_below, change_task-pending}
-use Rattle.law_settling.proofs.CancelSound.{cancel_sound, wakes_steps}
+use Rattle.law_steps.proofs.Looks.{future_of-same, spent_grows_below, change_task-pending}
+use Rattle.law_steps.proofs.CancelSound.{cancel_sound, wakes_steps}
 use Rattle.law_steps.proofs.Stepping.{at_task, running_is, unmarked, unmark_sound, resumes_steps}
 use Rattle.law_steps.proofs.Ending.{pending_there, soon_step_sound}
-use Rattle.law_settling.proofs.Settling.{fewer_pending}
+use Rattle.law_steps.proofs.Settling.{fewer_pending}
 
 -- From p to q the task began to wait for a pending future.
 pub record IsWaiting (task on : ℕ) (p q : Parts) : Type 0 where

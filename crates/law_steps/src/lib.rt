@@ -1,5 +1,8 @@
-//! Laws of a task's step: what begins it, what it does and what ends it keep tasks and futures
+//! Laws of outcomes, requests and steps of tasks, and of what is made: they keep tasks and futures
 //! sound.
 #![tactic(auto)]
 
+pub mod circles;
+pub mod made;
+pub mod requests;
 pub mod steps;

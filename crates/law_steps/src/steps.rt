@@ -9,7 +9,7 @@ ghost use Rattle.model_loop.specs.Tasks.{begin_step, pause, finish};
 ghost use Rattle.model_loop.specs.Suspend.{suspend};
 ghost use Rattle.model_loop.specs.Ways.{steps, HasOneWayOn};
 ghost use Rattle.model_loop.specs.Sound.{ArePartsSound};
-ghost use Rattle.law_settling.specs.Frames.{taken};
+ghost use Rattle.law_steps.specs.Frames.{taken};
 
 /// A step begins, by the handle that runs.
 pub fn a_step_begins_sound()

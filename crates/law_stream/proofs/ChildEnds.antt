@@ -25,11 +25,11 @@ use Rattle.model_stream.specs.Receivers.{give_up_read, wait_for_data, wakes}
 use Rattle.model_stream.specs.Senders.{Sender, Drain, close_sender, drain_sender, has_unsent, is_closing, is_lost, schedule_loss, send_more, write}
 use Rattle.model_stream.specs.Sending.{is_nothing}
 use Rattle.model_stream.specs.Watching.{entry_if, watched_child}
-use Rattle.law_sender.specs.SoundSenders as senders
-use Rattle.law_sender.specs.SoundSenders.{IsSoundSender}
-use Rattle.law_sender.specs.Ways.{Move, Always}
-use Rattle.law_sender.proofs.Along.{always_if, always_into, always_map}
-use Rattle.law_sender.proofs.SenderRuns.{along}
+use Rattle.law_stream.specs.SoundSenders as senders
+use Rattle.law_stream.specs.SoundSenders.{IsSoundSender}
+use Rattle.law_stream.specs.Ways.{Move, Always}
+use Rattle.law_stream.proofs.Along.{always_if, always_into, always_map}
+use Rattle.law_stream.proofs.SenderRuns.{along}
 use Rattle.law_stream.specs.ChildEnds.{is_over}
 use Rattle.law_stream.specs.ChildSteps.{ChildStep, IsWritable, Loses, IsTold, Closes, Writes, Drains, SetsLimits, WaitsFor, IsKilled, Takes}
 use Rattle.law_stream.specs.ChildSteps.{ChildComes, Rests, Steps, May, done}

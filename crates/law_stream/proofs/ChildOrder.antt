@@ -19,12 +19,12 @@ use Rattle.model_stream.specs.Receivers.{Receiver, takes_more, receive, receive_
 use Rattle.model_stream.specs.Senders.{Sender, Drain, has_unsent, is_closing, is_flushed, schedule_loss, send_more, write, close_sender}
 use Rattle.model_stream.specs.Senders.{drain_sender, limits_sender, lose_sender}
 use Rattle.model_stream.specs.Sending.{put_answer, written_of}
-use Rattle.law_sender.specs.SoundSenders.{IsSoundSender, KeepsSender, MayLose}
-use Rattle.law_sender.specs.Ways.{Move, Did, Always}
-use Rattle.law_sender.proofs.Along.{always_if, always_into, always_map, always_then}
-use Rattle.law_sender.proofs.SenderRuns.{along, keeps_both}
-use Rattle.law_sender.proofs.SoundSenders.{keeps_still, keeps_quiet, live_of, nothing_by, close_keeps, schedule_keeps}
-use Rattle.law_sender.proofs.SoundSends.{write_keeps, send_keeps, lose_keeps, drain_keeps, limits_keeps}
+use Rattle.law_stream.specs.SoundSenders.{IsSoundSender, KeepsSender, MayLose}
+use Rattle.law_stream.specs.Ways.{Move, Did, Always}
+use Rattle.law_stream.proofs.Along.{always_if, always_into, always_map, always_then}
+use Rattle.law_stream.proofs.SenderRuns.{along, keeps_both}
+use Rattle.law_stream.proofs.SoundSenders.{keeps_still, keeps_quiet, live_of, nothing_by, close_keeps, schedule_keeps}
+use Rattle.law_stream.proofs.SoundSends.{write_keeps, send_keeps, lose_keeps, drain_keeps, limits_keeps}
 use Rattle.law_stream.specs.ChildSteps.{ChildStep, IsWritable, Loses, IsTold, Closes, Writes, Drains, SetsLimits, WaitsFor, IsKilled, Takes}
 use Rattle.law_stream.specs.ChildSteps.{ChildComes, KeepsChild, Rests, Steps, May, done, ran_in, written_in, written_to}
 use Rattle.law_stream.specs.SoundReceivers as receivers

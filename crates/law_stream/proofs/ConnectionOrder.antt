@@ -6,11 +6,11 @@ use Rattle.model_stream.specs.declared.put.Limited.{Limited}
 use Rattle.model_stream.specs.Connections.{Connection, write_to, drain_of, limits_of}
 use Rattle.model_stream.specs.Senders.{Drain}
 use Rattle.model_stream.specs.Sending.{put_answer, written_of}
-use Rattle.law_sender.specs.SoundSenders.{IsSoundSender, KeepsConnection}
-use Rattle.law_sender.specs.Ways.{Move, Always}
-use Rattle.law_sender.proofs.Along.{always_into}
-use Rattle.law_sender.proofs.SenderRuns.{along, keeps_both}
-use Rattle.law_sender.proofs.SoundSenders.{keeps_still}
+use Rattle.law_stream.specs.SoundSenders.{IsSoundSender, KeepsConnection}
+use Rattle.law_stream.specs.Ways.{Move, Always}
+use Rattle.law_stream.proofs.Along.{always_into}
+use Rattle.law_stream.proofs.SenderRuns.{along, keeps_both}
+use Rattle.law_stream.proofs.SoundSenders.{keeps_still}
 use Rattle.law_stream.specs.ConnectionSteps.{ConnectionStep, IsReadable, IsWritable, Loses, Closes, HandlerEnds, WritesEnd, Writes, Drains, SetsLimits, Takes}
 use Rattle.law_stream.specs.ConnectionSteps.{ConnectionComes, Rests, Steps, May, done, ran_in, written_in}
 use Rattle.law_stream.specs.SoundReceivers as receivers

@@ -1,3 +1,12 @@
+pub mod LineEnds
+pub mod LinesByUntil
+pub mod ReaderOrder
+pub mod SoundWriters
+pub mod WriterOrder
+pub mod Along
+pub mod SenderRuns
+pub mod SoundSenders
+pub mod SoundSends
 pub mod ChildEnds
 pub mod ChildOrder
 pub mod ConnectionOrder

@@ -8,10 +8,10 @@ use Rattle.model_stream.specs.Doing.{Doing, Ends, Changes, Asks, MakeFuture, Set
 use Rattle.model_stream.specs.Reading.{Reading, Take, Taken, take_read}
 use Rattle.model_stream.specs.Receivers.{Receiver, StreamGot, AllGot, wakes, second_waiter, wait_for_data, read, read_as, read_all, all_taken}
 use Rattle.model_stream.specs.Senders.{Sender}
-use Rattle.law_sender.specs.SoundSenders.{IsSoundSender, KeepsSender}
-use Rattle.law_sender.specs.Ways.{Did, Always}
-use Rattle.law_sender.proofs.Along.{always_map}
-use Rattle.law_sender.proofs.SoundSenders.{keeps_still, keeps_quiet, make_quiet, settle_quiet}
+use Rattle.law_stream.specs.SoundSenders.{IsSoundSender, KeepsSender}
+use Rattle.law_stream.specs.Ways.{Did, Always}
+use Rattle.law_stream.proofs.Along.{always_map}
+use Rattle.law_stream.proofs.SoundSenders.{keeps_still, keeps_quiet, make_quiet, settle_quiet}
 use Rattle.law_stream.specs.SoundReceivers as receivers
 
 -- ---- what a receiver does makes and settles futures alone

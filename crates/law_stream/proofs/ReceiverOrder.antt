@@ -7,11 +7,11 @@ use Rattle.model_stream.specs.declared.read_op.Taken.TheVariants as taken
 use Rattle.model_stream.specs.Doing.{Doing, Ends, Changes, MakeFuture, and_then}
 use Rattle.model_stream.specs.Reading.{Reading, ReadOp, Take, Taken, take_read, needs, feed, feed_eof, fail}
 use Rattle.model_stream.specs.Receivers.{Receiver, StreamGot, AllGot, wakes, second_waiter, wait_for_data, read, read_as, read_all, all_taken, give_up_read}
-use Rattle.law_bytes.specs.ReaderSteps.{TakesFront, Gives as GivesFront, taken_away}
-use Rattle.law_bytes.proofs.ReaderOrder.{takes_front, taken_order}
-use Rattle.law_sender.specs.Ways.{Move, Always}
-use Rattle.law_sender.proofs.Along.{always_into}
-use Rattle.law_sender.proofs.SenderRuns.{along}
+use Rattle.law_stream.specs.ReaderSteps.{TakesFront, Gives as GivesFront, taken_away}
+use Rattle.law_stream.proofs.ReaderOrder.{takes_front, taken_order}
+use Rattle.law_stream.specs.Ways.{Move, Always}
+use Rattle.law_stream.proofs.Along.{always_into}
+use Rattle.law_stream.proofs.SenderRuns.{along}
 use Rattle.law_stream.specs.SoundReceivers.{ReceiverStep, Receives, ReceivesEnd, IsLost, Reads, ReadsAll, GivesUp}
 use Rattle.law_stream.specs.ReceiverOrder.{received_in, went, looked, with_none, gives_in, InOrder, ReceiverGives, Still, Gives}
 

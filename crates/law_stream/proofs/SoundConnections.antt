@@ -21,12 +21,12 @@ use Rattle.model_stream.specs.Senders.{Sender, Drain, has_unsent, is_closing, is
 use Rattle.model_stream.specs.Senders.{write, send_more, close_sender, fail_sender, lose_sender, drain_sender}
 use Rattle.model_stream.specs.Senders.{limits_sender, is_flushed, loss_of}
 use Rattle.model_stream.specs.Sending.{put_answer, set_eof, written_of}
-use Rattle.law_sender.specs.Ways.{Move, Did, Heard, Always, handed_in, losses, offers, closes, is_close, is_offer, is_loss, one_if}
-use Rattle.law_sender.specs.SoundSenders.{outlet_of, is_losing, is_broken, IsSoundSender, KeepsSender, MayLose}
-use Rattle.law_sender.proofs.Along.{always_if, always_into, always_map, always_then}
-use Rattle.law_sender.proofs.SenderRuns.{keeps_both}
-use Rattle.law_sender.proofs.SoundSenders.{keeps_still, keeps_quiet, live_of, nothing_by, fail_keeps, close_keeps}
-use Rattle.law_sender.proofs.SoundSends.{write_keeps, send_keeps, lose_keeps, drain_keeps, limits_keeps, eof_keeps}
+use Rattle.law_stream.specs.Ways.{Move, Did, Heard, Always, handed_in, losses, offers, closes, is_close, is_offer, is_loss, one_if}
+use Rattle.law_stream.specs.SoundSenders.{outlet_of, is_losing, is_broken, IsSoundSender, KeepsSender, MayLose}
+use Rattle.law_stream.proofs.Along.{always_if, always_into, always_map, always_then}
+use Rattle.law_stream.proofs.SenderRuns.{keeps_both}
+use Rattle.law_stream.proofs.SoundSenders.{keeps_still, keeps_quiet, live_of, nothing_by, fail_keeps, close_keeps}
+use Rattle.law_stream.proofs.SoundSends.{write_keeps, send_keeps, lose_keeps, drain_keeps, limits_keeps, eof_keeps}
 
 -- ---- calls that are no matter of the sender
 pub record IsNeutral (whom : Handed) (call : Call) : Type 0 where

@@ -17,9 +17,9 @@ use Rattle.model_stream.specs.Receivers.{Receiver, StreamGot, AllGot, wakes, rec
 use Rattle.model_stream.specs.Receivers.{read_all}
 use Rattle.model_stream.specs.Receivers.{all_taken, give_up_read}
 use Rattle.model_stream.specs.Sending.{is_nothing}
-use Rattle.law_sender.specs.Ways.{Move, Did, Heard, Always}
-use Rattle.law_sender.proofs.Along.{always_into, always_map}
-use Rattle.law_sender.proofs.SenderRuns.{along}
+use Rattle.law_stream.specs.Ways.{Move, Did, Heard, Always}
+use Rattle.law_stream.proofs.Along.{always_into, always_map}
+use Rattle.law_stream.proofs.SenderRuns.{along}
 use Rattle.law_stream.specs.SoundReceivers.{IsSoundReceiver, IsWaiting, KeepsReceiver, ReceiverComes, Rests, Steps, ReceiverStep, Receives, ReceivesEnd, IsLost}
 use Rattle.law_stream.specs.SoundReceivers.{Reads, ReadsAll, GivesUp, began_in, done, many_of, one_if_same, told, waits_on}
 

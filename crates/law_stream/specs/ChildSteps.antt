@@ -8,9 +8,9 @@ use Rattle.model_stream.specs.Children.{tell_child, wait_child, write_child}
 use Rattle.model_stream.specs.Doing.{Doing, Ends, and_then, on}
 use Rattle.model_stream.specs.Senders.{is_closing}
 use Rattle.model_stream.specs.Sending.{put_answer, written_of}
-use Rattle.law_sender.specs.SenderSteps.{Leads}
-use Rattle.law_sender.specs.SoundSenders.{KeepsSender, MayLose}
-use Rattle.law_sender.specs.Ways.{Move}
+use Rattle.law_stream.specs.SenderSteps.{Leads}
+use Rattle.law_stream.specs.SoundSenders.{KeepsSender, MayLose}
+use Rattle.law_stream.specs.Ways.{Move}
 use Rattle.law_stream.specs.SoundReceivers as receivers
 
 pub data ChildStep : Type 0 where

@@ -3,9 +3,9 @@ use Rattle.std.specs.Prelude.{◌≡◌, ℕ, ◌+◌, ℤ, Bool, List, [], ◌+
 use Rattle.model_stream.specs.Connections.{Connection, close, drain_of, handler_done, its_receiver, limits_of, lose, readable, writable, write_eof, write_to}
 use Rattle.model_stream.specs.Doing.{Doing, Ends, and_then, on}
 use Rattle.model_stream.specs.Sending.{put_answer, written_of}
-use Rattle.law_sender.specs.SenderSteps.{Leads}
-use Rattle.law_sender.specs.SoundSenders.{MayLose}
-use Rattle.law_sender.specs.Ways.{Move}
+use Rattle.law_stream.specs.SenderSteps.{Leads}
+use Rattle.law_stream.specs.SoundSenders.{MayLose}
+use Rattle.law_stream.specs.Ways.{Move}
 use Rattle.law_stream.specs.SoundReceivers as receivers
 
 pub data ConnectionStep : Type 0 where

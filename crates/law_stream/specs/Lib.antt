@@ -1,3 +1,9 @@
+pub mod LinesByUntil
+pub mod ReaderSteps
+pub mod WriterSteps
+pub mod SenderSteps
+pub mod SoundSenders
+pub mod Ways
 pub mod ChildEnds
 pub mod ChildSteps
 pub mod ConnectionSteps

@@ -3,9 +3,9 @@ use Rattle.std.specs.Prelude.{◌≡◌, ℕ, List, [], ◌++◌}
 use Rattle.model_stream.specs.declared.answers.StreamGot.TheVariants as got_as
 use Rattle.model_stream.specs.Doing.{Doing, Ends, and_then}
 use Rattle.model_stream.specs.Receivers.{Receiver, StreamGot, read, read_all}
-use Rattle.law_bytes.specs.ReaderSteps.{taken_away}
-use Rattle.law_sender.specs.SenderSteps.{Leads}
-use Rattle.law_sender.specs.Ways.{Move}
+use Rattle.law_stream.specs.ReaderSteps.{taken_away}
+use Rattle.law_stream.specs.SenderSteps.{Leads}
+use Rattle.law_stream.specs.Ways.{Move}
 use Rattle.law_stream.specs.SoundReceivers.{ReceiverStep, Receives, ReceivesEnd, IsLost, Reads, ReadsAll, GivesUp, done}
 
 abbrev pub received_in : ReceiverStep → List ℕ

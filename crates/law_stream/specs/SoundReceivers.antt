@@ -3,8 +3,8 @@ use Rattle.std.specs.Prelude.{◌≡◌, ℕ, ◌+◌, ◌≤◌, false, if◌th
 use Rattle.model_value.specs.Value.{Exc}
 use Rattle.model_stream.specs.Doing.{Doing, Ends, MakeFuture, CallSoon, Settle, and_then}
 use Rattle.model_stream.specs.Reading.{Reading, ReadOp}
-use Rattle.law_sender.specs.SenderSteps.{Leads}
-use Rattle.law_sender.specs.Ways.{Move, Did, Heard}
+use Rattle.law_stream.specs.SenderSteps.{Leads}
+use Rattle.law_stream.specs.Ways.{Move, Did, Heard}
 use Rattle.model_stream.specs.Receivers.{Receiver, receive, receive_end, receive_loss, read, read_all, give_up_read}
 
 -- a reader for which one may wait: it takes more, and neither ended nor failed

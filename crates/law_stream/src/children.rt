@@ -2,8 +2,8 @@
 ghost use Rattle.std.specs.Prelude.{◌≡◌, ℕ, true, List, [], Some};
 ghost use Rattle.model_stream.specs.Children.{Child};
 ghost use Rattle.model_stream.specs.Watching.{watched_child};
-ghost use Rattle.law_sender.specs.SoundSenders.{IsSoundSender};
-ghost use Rattle.law_sender.specs.Ways.{Always, Move};
+ghost use Rattle.law_stream.specs.SoundSenders.{IsSoundSender};
+ghost use Rattle.law_stream.specs.Ways.{Always, Move};
 ghost use Rattle.law_stream.specs.ChildEnds.{is_over};
 ghost use Rattle.law_stream.specs.ChildSteps.{ChildComes, ChildStep, KeepsChild, May, done, ran_in, written_in};
 

@@ -8,8 +8,8 @@ ghost use Rattle.model_stream.specs.Connections.{Connection, close, drain_of, fl
 ghost use Rattle.model_stream.specs.Doing.{Ends, on};
 ghost use Rattle.model_stream.specs.Senders.{Sender, Outlet, Drain, has_unsent, is_closing, close_sender, fail_sender};
 ghost use Rattle.model_stream.specs.Sending.{put_answer, written_of};
-ghost use Rattle.law_sender.specs.SoundSenders.{AnsweringConnection, IsSoundSender, KeepsConnection, MayLose};
-ghost use Rattle.law_sender.specs.Ways.{Always, Move};
+ghost use Rattle.law_stream.specs.SoundSenders.{AnsweringConnection, IsSoundSender, KeepsConnection, MayLose};
+ghost use Rattle.law_stream.specs.Ways.{Always, Move};
 ghost use Rattle.law_stream.specs.ConnectionSteps.{ConnectionComes};
 
 /// A loss comes without an exception only where nothing is unsent: closing waits for what is

@@ -1,7 +1,9 @@
-//! What holds of connections and children for every list of calls. Each function has no body: its
-//! clauses are the law.
+//! Laws of writers and readers, of sending sides, and of connections and children.
 #![tactic(auto)]
 
 pub mod children;
 pub mod connections;
+pub mod readers;
 pub mod receivers;
+pub mod senders;
+pub mod writers;

@@ -2,7 +2,7 @@
 //! child.
 ghost use Rattle.std.specs.Prelude.{◌≡◌, ◌+◌, ◌++◌, ◌≤◌, List, None, ℕ};
 ghost use Rattle.model_stream.specs.Receivers.{Receiver};
-ghost use Rattle.law_sender.specs.Ways.{Always, Move};
+ghost use Rattle.law_stream.specs.Ways.{Always, Move};
 ghost use Rattle.law_stream.specs.ReceiverOrder.{InOrder, ReceiverGives, gives_in, received_in};
 ghost use Rattle.law_stream.specs.SoundReceivers.{KeepsReceiver, ReceiverComes, ReceiverStep, began_in, done, many_of, told, waits_on};
 

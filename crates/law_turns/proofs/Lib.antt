@@ -1,3 +1,10 @@
+pub mod Deadlines
+pub mod Exits
+pub mod Frame
+pub mod Loops
+pub mod Made
+pub mod Parts
+pub mod Requests
 pub mod Replying
 pub mod Running
 pub mod Serving

@@ -26,7 +26,7 @@ use Rattle.model_machine.specs.Replies.{RequestReply, replied, shown_all, alarme
 use Rattle.model_machine.specs.State.{State, with_loop}
 use Rattle.model_machine.specs.Told.{told_by, told_in}
 use Rattle.law_cancel.proofs.Lookups.{get-push_last}
-use Rattle.law_ledger.specs.Telling.{IsOther}
+use Rattle.law_changes.specs.Telling.{IsOther}
 use Rattle.law_sound.proofs.Steps.{pause_step_sound, suspend_step_sound, plain_step_sound, settle_step_sound, request_step_sound, uncancel_step_sound}
 use Rattle.law_sound.proofs.Steps.{spawn_step_sound, later_step_sound}
 use Rattle.law_sound.proofs.GroupSteps.{make_group_sound, enter_group_sound, create_sound, exit_begin_sound}

@@ -21,10 +21,10 @@ use Rattle.model_machine.specs.Step.{step}
 use Rattle.model_machine.specs.Told.{told_by, told_in}
 use Rattle.model_machine.specs.Turn.{effect, run_first, run_if, next_below, run_below, run_pending}
 use Rattle.model_machine.specs.Went.{Went, Goes, Stops, went_on}
-use Rattle.law_settling.specs.Frames.{taken, is_followed}
+use Rattle.law_steps.specs.Frames.{taken, is_followed}
 use Rattle.law_sound.proofs.Steps.{idle_sound}
-use Rattle.law_trees.specs.Trees.{is_of_streams}
-use Rattle.law_opened.proofs.Going.{effect_is}
+use Rattle.law_cases.specs.Trees.{is_of_streams}
+use Rattle.law_cases.proofs.Going.{effect_is}
 use Rattle.law_turns.specs.Fits.{FitsStep}
 use Rattle.law_turns.specs.FitsTurn.{AreSound, GoesOnFit, FitsAction, FitsLive, FitsIf, FitsNext, FitsBelow, FitsPending}
 use Rattle.law_turns.specs.Replied.{IsStanding}

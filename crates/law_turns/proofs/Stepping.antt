@@ -28,18 +28,18 @@ use Rattle.model_machine.specs.State.{Standing, Asked, Sleeping, Leaving, Servin
 use Rattle.model_machine.specs.State.{Reading, ReadingAll, State, noted, stands, unbooked_in, with_loop}
 use Rattle.model_machine.specs.Step.{given_up}
 use Rattle.model_machine.specs.Told.{told_by, told_in}
-use Rattle.law_settling.specs.Frames.{taken}
-use Rattle.law_timeouts.proofs.Quiet.{handles-first}
+use Rattle.law_steps.specs.Frames.{taken}
+use Rattle.law_groups.proofs.Quiet.{handles-first}
 use Rattle.law_groups.proofs.Waits.{waits_pending}
 use Rattle.law_sound.proofs.Steps.{begin_step_sound, revoke_step_sound, suspend_step_sound}
 use Rattle.law_sound.proofs.GroupSteps.{exit_woken_step_sound}
 use Rattle.law_turns.specs.Replied.{RunsSound, RepliesSound, IsStanding}
 use Rattle.law_turns.specs.SoundState.{HasSoundLoop}
 use Rattle.law_turns.proofs.Turning.{as_told, tells_none}
-use Rattle.law_after.proofs.Requests.{begin_after}
-use Rattle.law_trees.proofs.Composing.{streams_more}
-use Rattle.law_opened.specs.StreamReplies.{StreamReplies}
-use Rattle.law_opened.proofs.Replying.{streams_decide, woken_at}
+use Rattle.law_turns.proofs.Requests.{begin_after}
+use Rattle.law_cases.proofs.Composing.{streams_more}
+use Rattle.law_cases.specs.StreamReplies.{StreamReplies}
+use Rattle.law_cases.proofs.Replying.{streams_decide, woken_at}
 use Rattle.law_turns.proofs.Replying.{replied_sound}
 use Rattle.law_turns.proofs.Streaming.{streams_sound}
 

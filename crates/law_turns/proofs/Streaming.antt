@@ -16,20 +16,20 @@ use Rattle.model_machine.specs.Sound.{AreStreamsFutures}
 use Rattle.model_machine.specs.State.{Standing, Asked, State}
 use Rattle.model_machine.specs.Told.{told_in}
 use Rattle.model_machine.specs.Went.{Went}
-use Rattle.law_settling.specs.Frames.{is_followed}
-use Rattle.law_timeouts.specs.Tags.{is_deadline}
+use Rattle.law_steps.specs.Frames.{is_followed}
+use Rattle.law_groups.specs.Tags.{is_deadline}
 use Rattle.law_changes.specs.Changes.{PartsChange, CallsSoon, CallsLater, Revokes, MakesFuture, Settles, Registers, KeepsAsked, MakesTask, WaitsFor, Marks}
 use Rattle.law_changes.specs.Changes.{Unmarks, Counts, Uncounts, Passes, FallsDue, LeavesPending, made_of_parts}
 use Rattle.law_changes.specs.Reaches.{Reaches, stays, goes}
 use Rattle.law_sound.proofs.Registering.{register_step_sound, soon_step_sound}
 use Rattle.law_sound.proofs.Steps.{pause_step_sound, plain_step_sound, settle_step_sound, spawn_step_sound, suspend_step_sound}
-use Rattle.law_trees.specs.Trees.{is_of_streams}
+use Rattle.law_cases.specs.Trees.{is_of_streams}
 use Rattle.law_cases.specs.Closed.{is_to_streams}
 use Rattle.law_cases.proofs.Cases.{reply_is}
-use Rattle.law_opened.specs.StreamReplies.{StreamReplies, refuses, tells, hands_on, awaits, halts, answers, raises, waits_on, stands_on, yields}
-use Rattle.law_opened.specs.StreamReplies.{StreamGoes, stays_so, goes_so, stops, handles}
-use Rattle.law_opened.specs.TreeEnd.{IsTreeEnd, MayInTree}
-use Rattle.law_opened.proofs.Replying.{streams_reply}
+use Rattle.law_cases.specs.StreamReplies.{StreamReplies, refuses, tells, hands_on, awaits, halts, answers, raises, waits_on, stands_on, yields}
+use Rattle.law_cases.specs.StreamReplies.{StreamGoes, stays_so, goes_so, stops, handles}
+use Rattle.law_cases.specs.TreeEnd.{IsTreeEnd, MayInTree}
+use Rattle.law_cases.proofs.Replying.{streams_reply}
 use Rattle.law_turns.specs.Replied.{HasPlainFutures, IsFit, RepliesSound, RunsSound}
 use Rattle.law_turns.specs.SoundState.{HasSoundLoop, LeavesSoundLoop}
 use Rattle.law_turns.proofs.Replying.{case_sound, replied_sound}

@@ -28,11 +28,11 @@ use Rattle.model_loop.specs.Handles.{soon, soon_all}
 use Rattle.model_machine.specs.State.{State, noted, start, unbooked_in}
 use Rattle.model_machine.specs.Told.{told_by, told_in}
 use Rattle.model_machine.specs.Turn.{at_time, woken_by, cancelled_if, finished_if, turn_over, effect, ran, run_first}
-use Rattle.law_settling.specs.Frames.{taken, is_followed}
-use Rattle.law_settling.proofs.Looks.{handles_look_same}
-use Rattle.law_told.proofs.Holding.{looks_holds}
-use Rattle.law_timeouts.proofs.Quiet.{same_quiet}
-use Rattle.law_timeouts.specs.Tags.{is_deadline}
+use Rattle.law_steps.specs.Frames.{taken, is_followed}
+use Rattle.law_steps.proofs.Looks.{handles_look_same}
+use Rattle.law_groups.proofs.Holding.{looks_holds}
+use Rattle.law_groups.proofs.Quiet.{same_quiet}
+use Rattle.law_groups.specs.Tags.{is_deadline}
 use Rattle.law_sound.proofs.Beginning.{first_sound}
 use Rattle.law_sound.proofs.Carrying.{looks_carries}
 use Rattle.law_sound.proofs.Registering.{soon_step_sound}

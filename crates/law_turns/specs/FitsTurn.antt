@@ -14,7 +14,7 @@ use Rattle.model_machine.specs.Sound.{AreStreamsFutures}
 use Rattle.model_machine.specs.State.{State, generator_of, noted, unbooked_in}
 use Rattle.model_machine.specs.Turn.{effect, run_first}
 use Rattle.model_machine.specs.Went.{Went, Goes, Stops}
-use Rattle.law_trees.specs.Trees.{is_of_streams}
+use Rattle.law_cases.specs.Trees.{is_of_streams}
 use Rattle.law_turns.specs.Fits.{FitsStep}
 use Rattle.law_turns.specs.Replied.{IsStanding}
 use Rattle.law_turns.specs.SoundState.{HasSoundLoop, LeavesSoundLoop}

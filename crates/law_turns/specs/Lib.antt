@@ -1,3 +1,4 @@
+pub mod After
 pub mod Fits
 pub mod FitsTurn
 pub mod Replied

@@ -14,7 +14,7 @@ use Rattle.model_machine.specs.Sound.{AreStreamsFutures}
 use Rattle.model_machine.specs.State.{Standing, Asked, Sleeping, Leaving, Serving, Connecting, Yielding, Reading, ReadingAll, State}
 use Rattle.model_machine.specs.Told.{told_in}
 use Rattle.law_cases.specs.Closed.{is_to_streams}
-use Rattle.law_ledger.specs.Telling.{is_open}
+use Rattle.law_changes.specs.Telling.{is_open}
 use Rattle.law_turns.specs.SoundState.{HasSoundLoop}
 
 -- inside a step of the task

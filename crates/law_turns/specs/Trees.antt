@@ -8,8 +8,8 @@ use Rattle.model_loop.specs.Owning.{is_plain}
 use Rattle.model_stream.specs.Doing as doing
 use Rattle.model_stream.specs.Doing.{Doing, Ends, Changes, Asks}
 use Rattle.model_machine.specs.Does.{changed}
-use Rattle.law_settling.specs.Frames.{is_followed}
-use Rattle.law_timeouts.specs.Tags.{is_deadline}
+use Rattle.law_steps.specs.Frames.{is_followed}
+use Rattle.law_groups.specs.Tags.{is_deadline}
 
 abbrev pub FitsChange : doing.Change → Loop → Type 0
 FitsChange doing.MakeFuture l = Unit {0}

@@ -1,6 +1,8 @@
-//! Laws of turns: what a turn does besides the steps of tasks keeps the machine's loop sound.
+//! What each step of the loop leaves, and laws of the machine's turns.
 #![tactic(auto)]
 
-pub mod requests;
+pub mod blocks;
+pub mod steps;
+pub mod tasks;
 pub mod trees;
 pub mod turns;

@@ -8,7 +8,7 @@ use Rattle.model_stream.specs.Doing.{Doing, Ends, Changes, Asks}
 use Rattle.model_stream.specs.Requests.{write, drain, limits, write_eof, close, drop_connect, read, read_all, wait, kill}
 use Rattle.model_stream.specs.Streams.{Streams, act, listen, connect, launch, close_server}
 use Rattle.model_machine.specs.State.{State}
-use Rattle.law_sender.specs.Ways.{Move, Always}
+use Rattle.law_stream.specs.Ways.{Move, Always}
 use Rattle.law_walk.specs.Walks.{AreTrees, BeginWith, Doer, GoesOn, In, Walks}
 
 -- anything goes on

@@ -54,7 +54,7 @@ use Rattle.model_loop.specs.Parts.{Parts, Plain}
 use Rattle.model_value.specs.declared.action.Action.TheVariants as action
 use Rattle.model_machine.specs.Replies.{alarmed, waits}
 use Rattle.model_machine.specs.State.{unbooked_in}
-use Rattle.law_sender.specs.Ways.{Move, Always}
+use Rattle.law_stream.specs.Ways.{Move, Always}
 use Rattle.law_walk.specs.Walks.{Anyone, AreTrees, Doer, EndsInStep, GivesUp, GoesOn, In, IsHere, LeavesBy, says}
 use Rattle.law_walk.proofs.Trees.{asked_comes, does_comes, drop_kept, heard_kept, tree_kept}
 

@@ -14,7 +14,7 @@ use Rattle.model_machine.specs.Does.{changed, does}
 use Rattle.model_machine.specs.State.{State, noted, unbooked_in, with_streams}
 use Rattle.model_machine.specs.Went.{answered_so, ask_so, fitted_so}
 use Rattle.law_reach.specs.Reaches.{IsUnmet}
-use Rattle.law_sender.specs.Ways.{Move, Did, Heard, Always, told_by}
+use Rattle.law_stream.specs.Ways.{Move, Did, Heard, Always, told_by}
 use Rattle.law_walk.specs.Walks.{Anyone, Doer, EndsInStep, GivesUp, In, IsHere, hears, is_aside, made_on}
 
 -- ---- a tree in the machine

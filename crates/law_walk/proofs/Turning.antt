@@ -37,7 +37,7 @@ use Rattle.model_machine.specs.Turn.{wait_of}
 use Rattle.law_changes.specs.Changes.{MakesTask, Registers, Revokes, Settles}
 use Rattle.law_walk.proofs.Rows as loops
 use Rattle.law_reach.specs.Reaches.{IsUnmet}
-use Rattle.law_sender.specs.Ways.{Move, Always}
+use Rattle.law_stream.specs.Ways.{Move, Always}
 use Rattle.law_walk.specs.Walks.{AfterTurn, Anyone, AreAllIn, AreTrees, Doer, EndsInStep, GoesOn, In, IsHere, IsRunIn, LeavesBy, LeavesTo, Runs}
 use Rattle.law_walk.specs.Walks.{Walks, acts_alone, is_step}
 use Rattle.law_walk.proofs.Trees.{asked_comes, does_comes, moved_holds, tree_kept}

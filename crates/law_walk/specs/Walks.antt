@@ -30,7 +30,7 @@ use Rattle.model_machine.specs.Turn.{turn, woken_by}
 use Rattle.model_machine.specs.Went.{Went, Goes, Stops}
 use Rattle.law_changes.specs.Changes.{PartsChange, CallsSoon, CallsLater, Registers, LeavesPending, LoopChange, OfParts, made_of_parts}
 use Rattle.law_reach.specs.Reaches.{IsUnmet}
-use Rattle.law_sender.specs.Ways.{Move, Did, Heard, Always, told_by}
+use Rattle.law_stream.specs.Ways.{Move, Did, Heard, Always, told_by}
 
 -- ---- what holds of a state, told by its streams, its events and the loop's parts
 abbrev pub In : {S : Type 0} → (Streams → List Event → Parts → Type 0) → State S → Type 0

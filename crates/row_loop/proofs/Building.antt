@@ -20,11 +20,11 @@ use Rattle.model_loop.specs.Suspend.{suspend}
 use Rattle.model_loop.specs.Tasks.{begin_step, finish, lives, pause, spawn}
 use Rattle.model_loop.specs.Timeouts.{enter_timeout, exit_timeout, fire, timeout_of}
 use Rattle.model_loop.specs.Ways.{steps}
-use Rattle.law_ledger.specs.Telling.{is_open}
-use Rattle.law_settling.specs.Frames.{taken}
-use Rattle.law_settling.proofs.Looks.{handles_look_same}
-use Rattle.law_timeouts.proofs.Quiet.{same_quiet}
-use Rattle.law_told.proofs.Holding.{looks_holds}
+use Rattle.law_changes.specs.Telling.{is_open}
+use Rattle.law_steps.specs.Frames.{taken}
+use Rattle.law_steps.proofs.Looks.{handles_look_same}
+use Rattle.law_groups.proofs.Quiet.{same_quiet}
+use Rattle.law_groups.proofs.Holding.{looks_holds}
 use Rattle.law_sound.proofs.Carrying.{looks_carries}
 use Rattle.law_sound.proofs.GroupSteps as group
 use Rattle.law_sound.proofs.Registering.{register_step_sound}

@@ -15,8 +15,8 @@ use Rattle.model_loop.specs.Sound.{IsSound}
 use Rattle.model_loop.specs.Tasks.{cancelling, change_task, is_marked}
 use Rattle.model_loop.specs.Ways.{one_if}
 use Rattle.law_cancel.proofs.Counting.{change_task-kept}
-use Rattle.law_settling.proofs.Looks.{change_looks_same}
-use Rattle.law_told.proofs.Holding.{looks_holds}
+use Rattle.law_steps.proofs.Looks.{change_looks_same}
+use Rattle.law_groups.proofs.Holding.{looks_holds}
 use Rattle.law_sound.proofs.Beginning.{nobody, no_loop_sound as nothing}
 use Rattle.law_sound.proofs.Carrying.{change_carries}
 use Rattle.law_sound.proofs.Steps as step

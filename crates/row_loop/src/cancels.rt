@@ -7,7 +7,7 @@ ghost use Rattle.model_loop.specs.Spent.{is_spent};
 ghost use Rattle.model_loop.specs.Circles.{leads};
 ghost use Rattle.model_loop.specs.Ledger.{unbooked};
 ghost use Rattle.model_loop.specs.Suspend.{suspend};
-ghost use Rattle.law_settling.specs.Frames.{taken};
+ghost use Rattle.law_steps.specs.Frames.{taken};
 ghost use Rattle.row_loop.specs.Steps.{sleeping, woken_at_once, woken_and_marked, begun};
 ghost use Rattle.row_loop.specs.Cancels.{chain, chain_cancelled, chain_cancelled_twice, chain_cut, one_of_two, one_of_two_cancelled, two_on_one, two_on_one_cancelled, twice_to_one, twice_to_one_cancelled, two_ways, two_ways_cancelled, awaited_runs, refused, refused_marked, member_runs, member_refused, member_refused_marked, free_task, free_task_cancelled, full_count, full_count_cancelled, all_done};
 

@@ -5,7 +5,7 @@ ghost use Rattle.model_value.specs.Value.{Nothing};
 ghost use Rattle.model_loop.specs.Tasks.{cancelled_error};
 ghost use Rattle.model_loop.specs.Groups.{NotEntered, IsFinished, IsShuttingDown, refusal, refusal_text, make_group, enter_group, create, child_done, exit_begin, exit_woken, Waits, Passes, Raises, exception_group};
 ghost use Rattle.model_loop.specs.Loop.{in_parts};
-ghost use Rattle.law_settling.specs.Frames.{taken};
+ghost use Rattle.law_steps.specs.Frames.{taken};
 ghost use Rattle.row_loop.specs.Family.{loop_of, a, b, c, group_error, unentered, in_block, parent_alone, parent_with_child, waiting_for_child, child_failed, failure_counted, parent_woken, failure_left, both_failed, body_failed, told_nothing, told_one, told_both, all_woken, all_left, cancelled_body, cancelled_left, asked_before, tells_second, three_children, three_aborted, last_was_told, passed, passed_on, nested};
 
 /// A group is made, entered and given a task.

@@ -12,7 +12,7 @@ ghost use Rattle.model_loop.specs.Tasks.{spawn, pause, begin_step, cancelled_err
 ghost use Rattle.model_loop.specs.Circles.{circle, circle_fault};
 ghost use Rattle.model_loop.specs.Ledger.{Asked, ByWait, unbooked};
 ghost use Rattle.model_loop.specs.Suspend.{suspend};
-ghost use Rattle.law_settling.specs.Frames.{taken};
+ghost use Rattle.law_steps.specs.Frames.{taken};
 ghost use Rattle.row_loop.specs.Made.{handle, value_error};
 ghost use Rattle.row_loop.specs.Steps.{nothing_made, one_task, two_tasks, running, running_marked, sleeping, woken_at_once, running_over_none, waits_for_none, begun, woken_and_marked, paused, ended_as, ended_marked_as, ended_counted_as, awaited, handled, handler_runs, handler_ended, three_timers, two_due, two_revoked};
 

@@ -6,7 +6,7 @@ ghost use Rattle.model_value.specs.Value.{exception_of};
 ghost use Rattle.model_loop.specs.Loop.{Active, Expiring, Expired, Finished, in_parts};
 ghost use Rattle.model_loop.specs.Tasks.{cancelled_error};
 ghost use Rattle.model_loop.specs.Timeouts.{enter_timeout, reschedule, reschedule_fault, fire, exit_timeout, has_expired};
-ghost use Rattle.law_settling.specs.Frames.{taken};
+ghost use Rattle.law_steps.specs.Frames.{taken};
 ghost use Rattle.row_loop.specs.Made.{handle, value_error};
 ghost use Rattle.row_loop.specs.Nested.{before, entered, both_due, outer_fired, both_fired, stepping, both_asked, inner_took, outer_took, alone_due, alone_later, alone_soon, alone_never, alone_left, alone_waiting, alone_waited, expiring_alone, expiring_and_asked, expiring_and_lowered, fires_inner, left};
 

@@ -9,7 +9,7 @@ use Rattle.model_text.specs.Words as plain
 use Rattle.model_text.specs.Terms.{Term, height}
 use Rattle.model_text.specs.Levels.{all_of, term_of}
 use Rattle.model_text.specs.Places.{most_height, heights}
-use Rattle.law_reading.specs.Operands.{Operand, Fits, TooHigh, capped, that_fits}
+use Rattle.algorithm_reading.specs.Operands.{Operand, Fits, TooHigh, capped, that_fits}
 use Rattle.script_term.specs.declared.lexeme.Lexeme.{Lexeme}
 use Rattle.script_form.specs.Parts.{plain_part}
 use Rattle.script_form.specs.Fitting.{fitting}

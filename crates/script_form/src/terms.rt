@@ -4,7 +4,7 @@ ghost use Rattle.std.specs.Rc.{rc_str_bytes};
 ghost use Rattle.model_text.specs.Terms.{Term as PlainTerm, height};
 ghost use Rattle.model_text.specs.Levels.{term_of, all_of, bare_name, from_bare, arguments_of};
 ghost use Rattle.model_text.specs.Places.{heights};
-ghost use Rattle.law_reading.specs.Operands.{that_fits};
+ghost use Rattle.algorithm_reading.specs.Operands.{that_fits};
 ghost use Rattle.script_term.specs.Lexeme.{plain_lexeme};
 ghost use Rattle.script_term.specs.Operand.{plain_operand};
 ghost use Rattle.script_term.specs.Spelled.{plain_arguments};

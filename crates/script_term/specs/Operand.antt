@@ -1,8 +1,8 @@
 -- What was read, seen as plain data, and what operators between operands build.
--- Source: the definition of what is kept of an expression (law_reading, specs/Operands.antt).
+-- Source: the definition of what is kept of an expression (algorithm_reading, specs/Operands.antt).
 use Rattle.std.specs.Prelude.{List, [], ◌∷◌, ◌++◌, Option, option_map, option_and_then}
 use Rattle.model_text.specs.Terms.{Term, Or, And, Compare, Calculate, Index}
-use Rattle.law_reading.specs.Operands as plain
+use Rattle.algorithm_reading.specs.Operands as plain
 use Rattle.script_term.specs.declared.operand.Operand.{Operand}
 use Rattle.script_term.specs.declared.operand.Operand.TheVariants.{Fits, TooHigh}
 use Rattle.script_term.specs.declared.operand.Join.{Join}

@@ -2,7 +2,7 @@
 ghost use Rattle.std.specs.Prelude.{◌≡◌, IfOk, map, option_map};
 ghost use Rattle.model_text.specs.Terms.{Not, Negate};
 ghost use Rattle.model_text.specs.Levels.{all_of};
-ghost use Rattle.law_reading.specs.Operands.{capped, of_one, of_two, that_fits};
+ghost use Rattle.algorithm_reading.specs.Operands.{capped, of_one, of_two, that_fits};
 ghost use Rattle.script_term.specs.Operand.{plain_operand, build_of, with_last};
 
 use crate::term::Term;

@@ -1,8 +1,8 @@
 -- A count of prefix operators, one less.
 use Rattle.std.proofs.Common.{◌≡◌, ℕ, suc, ◌+◌, ◌-◌, ◌<◌, ap, arith}
 use Rattle.model_text.specs.Terms.{Not, Negate}
-use Rattle.law_reading.specs.Operands.{Operand, of_one}
-use Rattle.law_reading.specs.Pending.{with_nots, with_minuses}
+use Rattle.algorithm_reading.specs.Operands.{Operand, of_one}
+use Rattle.algorithm_reading.specs.Pending.{with_nots, with_minuses}
 
 one_less : (count done : ℕ) → done < count → count - done ≡ suc (count - (done + 1))
 one_less count done below = omega arith

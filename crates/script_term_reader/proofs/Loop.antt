@@ -4,10 +4,10 @@ use Rattle.std.proofs.lemmas.List.{map-append, take-append-drop, take_all, map_m
 use Rattle.std.proofs.lemmas.List.Sums.{fold-append}
 use Rattle.model_text.specs.Words as plain
 use Rattle.model_text.specs.Levels.{term_of}
-use Rattle.law_reading.specs.Operands.{capped}
-use Rattle.law_reading.specs.Reader.{Open, TermProgress, ReaderState, reading, start}
-use Rattle.law_reading.specs.Feeding.{fed, feed, finished, finish}
-use Rattle.law_terms.proofs.Read.{read-is}
+use Rattle.algorithm_reading.specs.Operands.{capped}
+use Rattle.algorithm_reading.specs.Reader.{Open, TermProgress, ReaderState, reading, start}
+use Rattle.algorithm_reading.specs.Feeding.{fed, feed, finished, finish}
+use Rattle.algorithm_reading.proofs.Read.{read-is}
 use Rattle.script_term.specs.declared.lexeme.Lexeme.{Lexeme}
 use Rattle.script_term.specs.Lexeme.{plain_lexeme}
 

@@ -3,10 +3,10 @@ use Rattle.std.proofs.Common.{◌≡◌, Bool, true, false, List, [], ◌∷◌,
 use Rattle.std.specs.Prelude.{if◌then◌else◌}
 use Rattle.std.proofs.lemmas.List.{reverse-append}
 use Rattle.model_text.specs.Words.{Lexeme, is_sign}
-use Rattle.law_reading.specs.Operands.{Operand}
-use Rattle.law_reading.specs.Pending.{no_loose}
-use Rattle.law_reading.specs.Reader.{Bracket, Open, TermProgress, AtNot, BehindOperand, reading}
-use Rattle.law_reading.specs.Ends.{parted, at_comma, closing, whole, at_closing}
+use Rattle.algorithm_reading.specs.Operands.{Operand}
+use Rattle.algorithm_reading.specs.Pending.{no_loose}
+use Rattle.algorithm_reading.specs.Reader.{Bracket, Open, TermProgress, AtNot, BehindOperand, reading}
+use Rattle.algorithm_reading.specs.Ends.{parted, at_comma, closing, whole, at_closing}
 use Rattle.script_term_reader.specs.Closed.{parted_open, closed}
 
 pub reverse-push : {A : Type 0} (xs : List A) (last : A) → reverse (xs ++ last ∷ []) ≡ last ∷ reverse xs

@@ -2,10 +2,10 @@
 use Rattle.std.proofs.Common.{◌≡◌, List, option_and_then, refl}
 use Rattle.model_text.specs.declared.symbol.Symbol.{Symbol as AnySymbol}
 use Rattle.model_text.specs.declared.symbol.Symbol.TheVariants as symbol
-use Rattle.law_reading.specs.Operands.{Operand}
-use Rattle.law_reading.specs.Pending.{Loose, Tight}
-use Rattle.law_reading.specs.Reader.{Open, AtOperand, reading}
-use Rattle.law_reading.specs.Feeding.{infix_of, behind_infix, at_symbol}
+use Rattle.algorithm_reading.specs.Operands.{Operand}
+use Rattle.algorithm_reading.specs.Pending.{Loose, Tight}
+use Rattle.algorithm_reading.specs.Reader.{Open, AtOperand, reading}
+use Rattle.algorithm_reading.specs.Feeding.{infix_of, behind_infix, at_symbol}
 
 pub at_symbol-other : (s : AnySymbol) (loose : Loose) (tight : Tight) (operand : Operand) (opened : List Open) → (s ≡ symbol.LeftBracket → ⊥)
     → option_and_then (λ pending. reading (AtOperand loose pending) opened) (option_and_then (behind_infix tight operand) (infix_of s))

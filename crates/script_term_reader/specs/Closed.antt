@@ -1,9 +1,9 @@
 -- What a comma makes of the innermost bracket, and how far the expression before it has come once it closes.
--- Source: the definition of where an expression ends (law_reading, specs/Ends.antt).
+-- Source: the definition of where an expression ends (algorithm_reading, specs/Ends.antt).
 use Rattle.std.specs.Prelude.{Option, None, option_map, if◌then◌else◌}
 use Rattle.model_text.specs.Words.{Lexeme, is_sign}
-use Rattle.law_reading.specs.Reader.{Open, TermProgress, BehindOperand}
-use Rattle.law_reading.specs.Ends.{parted, closing, whole}
+use Rattle.algorithm_reading.specs.Reader.{Open, TermProgress, BehindOperand}
+use Rattle.algorithm_reading.specs.Ends.{parted, closing, whole}
 
 abbrev pub parted_open : Open → TermProgress → Option Open
 parted_open innermost progress =

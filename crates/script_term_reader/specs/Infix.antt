@@ -1,6 +1,6 @@
 -- An operator between operands, by its level, seen as plain data.
--- Source: the definition of how an expression is read (law_reading, specs/Feeding.antt).
-use Rattle.law_reading.specs.Feeding as plain
+-- Source: the definition of how an expression is read (algorithm_reading, specs/Feeding.antt).
+use Rattle.algorithm_reading.specs.Feeding as plain
 use Rattle.script_term_reader.specs.declared.feeding.Infix.{Infix}
 use Rattle.script_term_reader.specs.declared.feeding.Infix.TheVariants.{Compares, Adds, Multiplies}
 

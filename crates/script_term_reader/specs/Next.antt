@@ -1,7 +1,7 @@
 -- What one lexeme makes of the innermost expression, whatever brackets are open around it.
--- Source: the definition of how an expression is read (law_reading, specs/Feeding.antt).
+-- Source: the definition of how an expression is read (algorithm_reading, specs/Feeding.antt).
 use Rattle.std.specs.Prelude.{◌≡◌, List, ◌∷◌, Option, None, Result, IfOk, option_and_then, reverse}
-use Rattle.law_reading.specs.Reader.{Open, TermProgress, ReaderState, reading}
+use Rattle.algorithm_reading.specs.Reader.{Open, TermProgress, ReaderState, reading}
 use Rattle.script_term_reader.specs.declared.reader.AfterLexeme.{AfterLexeme}
 use Rattle.script_term_reader.specs.declared.reader.AfterLexeme.TheVariants.{Goes, Opens, Fails}
 

@@ -1,7 +1,7 @@
 -- Operators that still want their right operand, seen as plain data.
--- Source: the definition of what is pending (law_reading, specs/Pending.antt).
+-- Source: the definition of what is pending (algorithm_reading, specs/Pending.antt).
 use Rattle.std.specs.Prelude.{option_map}
-use Rattle.law_reading.specs.Pending as plain
+use Rattle.algorithm_reading.specs.Pending as plain
 use Rattle.script_term.specs.Operand.{plain_operand}
 use Rattle.script_term_reader.specs.declared.pending.Loose.TheInside.{Inside as LooseInside}
 use Rattle.script_term_reader.specs.declared.pending.Tight.TheInside.{Inside as TightInside}

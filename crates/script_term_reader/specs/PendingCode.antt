@@ -1,5 +1,5 @@
 -- What is pending as plain values that have codes. By it types of code may be seen as what is pending.
--- Source: the definition of what is pending (law_reading, specs/Pending.antt).
+-- Source: the definition of what is pending (algorithm_reading, specs/Pending.antt).
 use denote.Enum.Declared.{tag_of}
 use Rattle.std.specs.Prelude.{◌≡◌, ℕ, [], ◌∷◌, Option, Some, None, slice_index_or, refl}
 use Rattle.std.specs.Coded.{Coded, code_by, coded_ℕ, coded×, coded_option}
@@ -10,8 +10,8 @@ use Rattle.model_tree.specs.contracts.operator.Comparison.{the_type as compariso
 use Rattle.model_tree.specs.declared.operator.Comparison.{Comparison}
 use Rattle.model_tree.specs.declared.operator.Comparison.TheVariants as comparison
 use Rattle.model_text.specs.Terms.{Term}
-use Rattle.law_reading.specs.Operands.{Operand, Fits, TooHigh, that_fits}
-use Rattle.law_reading.specs.Pending.{Loose, Tight}
+use Rattle.algorithm_reading.specs.Operands.{Operand, Fits, TooHigh, that_fits}
+use Rattle.algorithm_reading.specs.Pending.{Loose, Tight}
 use Rattle.script_term.specs.TermCode.{coded_term}
 
 abbrev operator_from : ℕ → Operator

@@ -1,7 +1,7 @@
 -- What stands left of an operator, seen as plain data.
--- Source: the definition of what is pending (law_reading, specs/Pending.antt).
+-- Source: the definition of what is pending (algorithm_reading, specs/Pending.antt).
 use Rattle.std.specs.Prelude.{Option, option_map}
-use Rattle.law_reading.specs.Operands as model
+use Rattle.algorithm_reading.specs.Operands as model
 use Rattle.script_term.specs.declared.operand.Operand.{Operand}
 use Rattle.script_term.specs.Operand.{plain_operand}
 

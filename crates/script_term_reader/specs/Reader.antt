@@ -1,8 +1,8 @@
 -- What a reader of an expression knows behind some lexemes, seen as plain data. The code has the innermost bracket last.
--- Source: the definition of a reader (law_reading, specs/Reader.antt).
+-- Source: the definition of a reader (algorithm_reading, specs/Reader.antt).
 use Rattle.std.specs.Prelude.{map, option_map}
 use Rattle.std.specs.Rc.{rc_str_bytes}
-use Rattle.law_reading.specs.Reader as plain
+use Rattle.algorithm_reading.specs.Reader as plain
 use Rattle.script_term.specs.Operand.{plain_operand}
 use Rattle.script_term_reader.specs.declared.reader.Bracket.{Bracket}
 use Rattle.script_term_reader.specs.declared.reader.Bracket.TheVariants.{Group, Item, Items, Arguments}

@@ -1,12 +1,13 @@
 -- What a reader of an expression knows as plain values that have codes. By it types of code may be seen as what a reader knows.
--- Source: the definition of a reader (law_reading, specs/Reader.antt).
+-- Source: the definition of a reader (algorithm_reading, specs/Reader.antt).
 use Rattle.std.specs.Prelude.{◌≡◌, ℕ, List, [], ◌∷◌, Option, None, slice_index_or, refl}
 use Rattle.std.specs.Coded.{Coded, code_by, coded_ℕ, coded×, coded_list, coded_option}
 use Rattle.model_tree.specs.Syntax.{Name}
-use Rattle.law_reading.specs.Operands.{Operand, TooHigh}
-use Rattle.law_reading.specs.Pending.{Loose, Tight, no_loose, no_tight}
-use Rattle.law_reading.specs.Reader.{Bracket, Group, Item, Items, Arguments, Open, TermProgress, Start, AtNot, AtOperand, BehindName, BehindOperand, AtKind}
-use Rattle.law_reading.specs.Reader.{BehindKind}
+use Rattle.algorithm_reading.specs.Operands.{Operand, TooHigh}
+use Rattle.algorithm_reading.specs.Pending.{Loose, Tight, no_loose, no_tight}
+use Rattle.algorithm_reading.specs.Reader.{Bracket, Group, Item, Items, Arguments, Open, TermProgress, Start, AtNot, AtOperand, BehindName, BehindOperand}
+use Rattle.algorithm_reading.specs.Reader.{AtKind}
+use Rattle.algorithm_reading.specs.Reader.{BehindKind}
 use Rattle.script_term_reader.specs.PendingCode.{coded_operand, coded_loose, coded_tight}
 
 abbrev coded_name : Coded Name

@@ -3,10 +3,10 @@ ghost use Rattle.std.specs.Prelude.{◌≡◌, None, Some, map, option_map, [], 
 ghost use Rattle.std.specs.Rc.{rc_str_bytes};
 ghost use Rattle.model_text.specs.Words.{Sign};
 ghost use Rattle.model_text.specs.Terms.{Variable};
-ghost use Rattle.law_reading.specs.Operands.{Fits, list_of, call, call_of};
-ghost use Rattle.law_reading.specs.Pending.{disjunction_of};
-ghost use Rattle.law_reading.specs.Reader.{Items, Arguments, BehindOperand};
-ghost use Rattle.law_reading.specs.Ends.{ended, parted, at_comma, filled, empty, with_kind, whole, closing, at_closing};
+ghost use Rattle.algorithm_reading.specs.Operands.{Fits, list_of, call, call_of};
+ghost use Rattle.algorithm_reading.specs.Pending.{disjunction_of};
+ghost use Rattle.algorithm_reading.specs.Reader.{Items, Arguments, BehindOperand};
+ghost use Rattle.algorithm_reading.specs.Ends.{ended, parted, at_comma, filled, empty, with_kind, whole, closing, at_closing};
 ghost use Rattle.script_term.specs.Operand.{plain_operand};
 ghost use Rattle.script_term_reader.specs.Closed.{parted_open, closed};
 ghost use Rattle.script_term_reader.specs.Made.{Makes};

@@ -3,10 +3,10 @@ ghost use Rattle.std.specs.Prelude.{◌≡◌, [], None, suc, option_map, option
 ghost use Rattle.std.specs.Rc.{rc_str_bytes};
 ghost use Rattle.model_text.specs.Levels.{atom, constant_of_word};
 ghost use Rattle.model_text.specs.Words.{Reserved, Sign};
-ghost use Rattle.law_reading.specs.Operands.{Fits};
-ghost use Rattle.law_reading.specs.Pending.{behind_and, behind_or};
-ghost use Rattle.law_reading.specs.Reader.{Arguments, AtNot, AtOperand, BehindName, BehindOperand, reading};
-ghost use Rattle.law_reading.specs.Feeding.{opening, at_operand, at_not, infix_of, behind_infix, at_symbol, behind_operand, first_argument, behind_name, at_kind, fed_within, fed};
+ghost use Rattle.algorithm_reading.specs.Operands.{Fits};
+ghost use Rattle.algorithm_reading.specs.Pending.{behind_and, behind_or};
+ghost use Rattle.algorithm_reading.specs.Reader.{Arguments, AtNot, AtOperand, BehindName, BehindOperand, reading};
+ghost use Rattle.algorithm_reading.specs.Feeding.{opening, at_operand, at_not, infix_of, behind_infix, at_symbol, behind_operand, first_argument, behind_name, at_kind, fed_within, fed};
 ghost use Rattle.script_term.specs.Lexeme.{plain_lexeme};
 ghost use Rattle.script_term.specs.Operand.{plain_operand};
 ghost use Rattle.script_term_reader.specs.Infix.{plain_infix};

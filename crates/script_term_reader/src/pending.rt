@@ -1,7 +1,7 @@
 //! Operators that still want their right operand, at most one at each level.
 ghost use Rattle.std.specs.Prelude.{◌≡◌, option_map, suc};
-ghost use Rattle.law_reading.specs.Pending.{no_loose, no_tight, with_nots, with_minuses, calculated, compared, and_of, or_of, product_of, sum_of, comparison_of, conjunction_of, disjunction_of, behind_product, behind_sum, behind_comparison, behind_and, behind_or};
-ghost use Rattle.law_reading.specs.Feeding.{behind_compared};
+ghost use Rattle.algorithm_reading.specs.Pending.{no_loose, no_tight, with_nots, with_minuses, calculated, compared, and_of, or_of, product_of, sum_of, comparison_of, conjunction_of, disjunction_of, behind_product, behind_sum, behind_comparison, behind_and, behind_or};
+ghost use Rattle.algorithm_reading.specs.Feeding.{behind_compared};
 ghost use Rattle.script_term.specs.Operand.{plain_operand};
 ghost use Rattle.script_term_reader.specs.Made.{Makes};
 ghost use Rattle.script_term_reader.specs.PendingLeft.{plain_left};
@@ -33,7 +33,7 @@ pub struct Tight {
 }
 
 impl Model for Loose {
-    ghost use Rattle.law_reading.specs.Pending as plain;
+    ghost use Rattle.algorithm_reading.specs.Pending as plain;
     ghost use Rattle.script_term_reader.specs.PendingCode.{coded_loose};
 
     ghost Value = { plain.Loose };
@@ -46,7 +46,7 @@ impl Model for Loose {
 }
 
 impl Model for Tight {
-    ghost use Rattle.law_reading.specs.Pending as plain;
+    ghost use Rattle.algorithm_reading.specs.Pending as plain;
     ghost use Rattle.script_term_reader.specs.PendingCode.{coded_tight};
 
     ghost Value = { plain.Tight };

@@ -1,8 +1,8 @@
 //! Reading an expression.
 ghost use Rattle.std.specs.Prelude.{◌≡◌, IfOk, map, option_map, reverse};
 ghost use Rattle.model_text.specs.Levels.{term_of};
-ghost use Rattle.law_reading.specs.Operands.{capped};
-ghost use Rattle.law_reading.specs.Feeding.{finished};
+ghost use Rattle.algorithm_reading.specs.Operands.{capped};
+ghost use Rattle.algorithm_reading.specs.Feeding.{finished};
 ghost use Rattle.script_term.specs.Lexeme.{plain_lexeme};
 ghost use Rattle.script_term.specs.Operand.{plain_operand};
 

@@ -1,8 +1,8 @@
 //! What a reader of an expression knows behind some lexemes: what is pending, in
 //! each bracket that is open.
 ghost use Rattle.std.specs.Prelude.{◌≡◌};
-ghost use Rattle.law_reading.specs.Reader.{reading};
-ghost use Rattle.law_reading.specs.Feeding.{opening};
+ghost use Rattle.algorithm_reading.specs.Reader.{reading};
+ghost use Rattle.algorithm_reading.specs.Feeding.{opening};
 ghost use Rattle.script_term_reader.specs.Next.{Arrives};
 ghost use Rattle.script_term_reader.specs.Reader.{plain_bracket, plain_progress};
 
@@ -32,7 +32,7 @@ pub struct Open {
 }
 
 impl Model for Open {
-    ghost use Rattle.law_reading.specs.Reader as plain;
+    ghost use Rattle.algorithm_reading.specs.Reader as plain;
     ghost use Rattle.script_term_reader.specs.ReaderCode.{coded_open};
 
     ghost Value = { plain.Open };
@@ -67,7 +67,7 @@ pub enum Position {
 }
 
 impl Model for TermProgress {
-    ghost use Rattle.law_reading.specs.Reader as plain;
+    ghost use Rattle.algorithm_reading.specs.Reader as plain;
     ghost use Rattle.script_term_reader.specs.ReaderCode.{coded_progress};
 
     ghost Value = { plain.TermProgress };

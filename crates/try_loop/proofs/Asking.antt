@@ -3,7 +3,7 @@ use Rattle.std.proofs.Common.{◌≡◌, ℕ, zero, suc, pos, List, Option, refl
 use Rattle.model_machine.specs.Extra as extra
 use Rattle.model_machine.specs.Extra.{ExtraAnswer}
 use Rattle.model_machine.specs.State.{State}
-use Rattle.law_handles.proofs.Appending.{extends_same}
+use Rattle.refine_parts.proofs.Appending.{extends_same}
 use Rattle.aio_task.specs.Keeps.{Ties}
 use Rattle.aio_task.specs.View.{View}
 use Rattle.aio_extra.specs.Called.{CallsAs, IsServed, SaysAs}

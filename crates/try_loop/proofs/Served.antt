@@ -16,12 +16,12 @@ use Rattle.model_machine.specs.Extra as extra
 use Rattle.model_machine.specs.Extra.{ExtraCall, Settles, called}
 use Rattle.model_machine.specs.State.{State}
 use Rattle.law_cancel.proofs.Lookups.{get-push_last, get-push_other}
-use Rattle.law_settling.proofs.CancelSound.{plain_within}
-use Rattle.law_settling.proofs.Settling.{IsSettled, settle_cases}
-use Rattle.law_handles.proofs.Appending.{extends_on, extends_same, kept_soon}
-use Rattle.law_kept.proofs.Calls.{keeps_plain, kept_settle, new_stays}
-use Rattle.law_kept.proofs.Only.{make_ties}
-use Rattle.law_kept.proofs.Telling.{next_kept, owner_kept}
+use Rattle.law_steps.proofs.CancelSound.{plain_within}
+use Rattle.law_steps.proofs.Settling.{IsSettled, settle_cases}
+use Rattle.refine_parts.proofs.Appending.{extends_on, extends_same, kept_soon}
+use Rattle.refine_parts.proofs.Calls.{keeps_plain, kept_settle, new_stays}
+use Rattle.refine_parts.proofs.Only.{make_ties}
+use Rattle.refine_parts.proofs.Telling.{next_kept, owner_kept}
 use Rattle.aio_ready.specs.Queue as queue
 use Rattle.aio_ready.specs.Queue.{Queue}
 use Rattle.aio_future.specs.Settled as settled

@@ -7,7 +7,7 @@ use Rattle.model_value.specs.Value.{Value, Bytes, Nothing as no_value}
 use Rattle.model_value.specs.declared.input.Input.TheVariants.{Send, Throw}
 use Rattle.model_machine.specs.Extra.{Extra, ExtraAnswer, Answers, Raises, Asks, ExtraSaid, WakesFall, key_of, unknown_code}
 use Rattle.model_machine.specs.State.{State}
-use Rattle.law_extras.specs.Allowed.{IsAnswerAllowed, MakesAllowedSteps}
+use Rattle.law_runs.specs.Allowed.{IsAnswerAllowed, MakesAllowedSteps}
 use Rattle.aio_extra.specs.Added.{Added}
 use Rattle.aio_extra.specs.declared.asked.Asked.{Asked}
 use Rattle.aio_extra.specs.declared.asked.Asked.TheVariants.{Answer, Raise, Outside}

@@ -14,8 +14,8 @@ use Rattle.model_machine.specs.Extra.{Extra, ExtraAnswer, Answers, Raises, Waits
 use Rattle.model_machine.specs.Extra.{key_of, unknown_code}
 use Rattle.model_machine.specs.Sound.{names_made}
 use Rattle.model_machine.specs.State.{State}
-use Rattle.law_extras.specs.Allowed.{AreAllowed, IsAnswerAllowed, IsSaidAllowed, MakesAllowedSteps}
-use Rattle.law_settling.proofs.CancelSound.{plain_within}
+use Rattle.law_runs.specs.Allowed.{AreAllowed, IsAnswerAllowed, IsSaidAllowed, MakesAllowedSteps}
+use Rattle.law_steps.proofs.CancelSound.{plain_within}
 use Rattle.aio_task.specs.Keeps.{Ties}
 use Rattle.aio_extra.specs.Added.{Added, GoesBeside}
 use Rattle.try_loop.specs.Wanted.{wanted_by, told}

@@ -1,7 +1,7 @@
 //! Its callbacks that ask the outside.
 ghost use Rattle.std.specs.Prelude.{◌≡◌, None, OnOk};
 ghost use Rattle.model_stream.specs.Children as plain;
-ghost use Rattle.law_doing.specs.Follows.{Follows, after_of, reach};
+ghost use Rattle.aio_exchange.specs.Follows.{Follows, after_of, reach};
 ghost use Rattle.aio_change.specs.Seen.{seen_changed};
 ghost use Rattle.aio_child.specs.Owned.{OwnsChild};
 

@@ -2,7 +2,7 @@
 ghost use Rattle.std.specs.Prelude.{◌≡◌, None, OnOk};
 ghost use Rattle.model_stream.specs.Children as plain;
 ghost use Rattle.model_stream.specs.Receivers as receivers;
-ghost use Rattle.law_doing.specs.Tells.{Tells};
+ghost use Rattle.aio_exchange.specs.Tells.{Tells};
 ghost use Rattle.aio_change.specs.Seen.{seen_changed};
 ghost use Rattle.aio_child.specs.Owned.{OwnsChild};
 

@@ -1,8 +1,8 @@
 //! Requests that concern more than its standard input alone, or its exit.
 ghost use Rattle.std.specs.Prelude.{◌≡◌, None, IfOk, OnOk, length};
 ghost use Rattle.model_stream.specs.Children as plain;
-ghost use Rattle.law_doing.specs.Follows.{Follows, after_of, reach, with_after};
-ghost use Rattle.law_doing.specs.Tells.{Tells};
+ghost use Rattle.aio_exchange.specs.Follows.{Follows, after_of, reach, with_after};
+ghost use Rattle.aio_exchange.specs.Tells.{Tells};
 ghost use Rattle.aio_task.specs.View.{View};
 ghost use Rattle.aio_change.specs.Seen.{seen_changed};
 ghost use Rattle.aio_child.specs.Owned.{OwnsChild};

@@ -2,7 +2,7 @@
 ghost use Rattle.std.specs.Prelude.{◌≡◌, None, OnOk};
 ghost use Rattle.model_stream.specs.Children as child;
 ghost use Rattle.model_stream.specs.Streams.{its_children, on_one};
-ghost use Rattle.law_doing.specs.Follows.{reach};
+ghost use Rattle.aio_exchange.specs.Follows.{reach};
 ghost use Rattle.aio_children.specs.Owned.{OwnsChildren};
 ghost use Rattle.aio_children.specs.Standing.{Comes, Told};
 

@@ -2,7 +2,7 @@
 ghost use Rattle.std.specs.Prelude.{◌≡◌, ◌<◌, ◌^◌, ◌++◌, ◌∷◌, [], true, None, OnOk, length, nat_lt};
 ghost use Rattle.model_stream.specs.Answers.{is_child};
 ghost use Rattle.model_stream.specs.Streams as plain;
-ghost use Rattle.law_doing.specs.Follows.{reach};
+ghost use Rattle.aio_exchange.specs.Follows.{reach};
 ghost use Rattle.aio_children.specs.Owned.{OwnsChildren};
 ghost use Rattle.aio_children.specs.Standing.{Launches};
 

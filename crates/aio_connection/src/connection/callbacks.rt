@@ -3,7 +3,7 @@ ghost use Rattle.std.specs.Prelude.{◌≡◌, true, None, Some, IfOk, OnOk};
 ghost use Rattle.model_value.specs.declared.outcome.Outcome.TheVariants.{Failed};
 ghost use Rattle.model_stream.specs.Connections as plain;
 ghost use Rattle.model_stream.specs.Senders.{loss_of};
-ghost use Rattle.law_doing.specs.Tells.{Tells};
+ghost use Rattle.aio_exchange.specs.Tells.{Tells};
 ghost use Rattle.aio_task.specs.View.{View};
 ghost use Rattle.aio_change.specs.Seen.{seen_changed};
 ghost use Rattle.aio_connection.specs.Owned.{OwnsConnection};

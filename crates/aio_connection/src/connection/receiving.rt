@@ -3,7 +3,7 @@ ghost use Rattle.std.specs.Prelude.{◌≡◌, false, None, IfOk, OnOk, length};
 ghost use Rattle.model_stream.specs.Connections.{its_receiver};
 ghost use Rattle.model_stream.specs.Doing.{asked_on, on};
 ghost use Rattle.model_stream.specs.Receivers as receivers;
-ghost use Rattle.law_doing.specs.Tells.{Tells};
+ghost use Rattle.aio_exchange.specs.Tells.{Tells};
 ghost use Rattle.aio_task.specs.View.{View};
 ghost use Rattle.aio_change.specs.Seen.{seen_changed};
 ghost use Rattle.aio_receiver.specs.Gotten.{all_got};

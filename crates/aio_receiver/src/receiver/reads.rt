@@ -1,7 +1,7 @@
 //! Reads: each looks at what is held, and waits where that is too little.
 ghost use Rattle.std.specs.Prelude.{◌≡◌, None, IfOk, OnOk, length};
 ghost use Rattle.model_stream.specs.Receivers as plain;
-ghost use Rattle.law_doing.specs.Tells.{Tells};
+ghost use Rattle.aio_exchange.specs.Tells.{Tells};
 ghost use Rattle.aio_change.specs.Owned.{IsOwnIfAny};
 ghost use Rattle.aio_change.specs.Seen.{seen_changed};
 ghost use Rattle.aio_receiver.specs.Gotten.{all_got};

@@ -1,7 +1,7 @@
 //! What comes wakes the read that waits, which then looks again.
 ghost use Rattle.std.specs.Prelude.{◌≡◌, false, None, OnOk};
 ghost use Rattle.model_stream.specs.Receivers as plain;
-ghost use Rattle.law_doing.specs.Tells.{Tells};
+ghost use Rattle.aio_exchange.specs.Tells.{Tells};
 ghost use Rattle.aio_change.specs.Owned.{IsOwnIfAny};
 ghost use Rattle.aio_change.specs.Seen.{seen_changed};
 

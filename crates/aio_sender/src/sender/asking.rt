@@ -1,8 +1,8 @@
 //! What asks the outside.
 ghost use Rattle.std.specs.Prelude.{◌≡◌, None, OnOk};
 ghost use Rattle.model_stream.specs.Senders as plain;
-ghost use Rattle.law_doing.specs.Follows.{Follows, after_of, reach, with_after};
-ghost use Rattle.law_sender.specs.SoundSenders.{outlet_of};
+ghost use Rattle.aio_exchange.specs.Follows.{Follows, after_of, reach, with_after};
+ghost use Rattle.law_stream.specs.SoundSenders.{outlet_of};
 ghost use Rattle.aio_change.specs.Seen.{seen_changed};
 ghost use Rattle.aio_sender.specs.Offers.{offers};
 ghost use Rattle.aio_sender.specs.Owned.{OwnsSender};

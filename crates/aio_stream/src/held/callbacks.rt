@@ -1,8 +1,8 @@
 //! Callbacks of one.
 ghost use Rattle.std.specs.Prelude.{◌≡◌, None, OnOk};
 ghost use Rattle.model_stream.specs.Connections as plain;
-ghost use Rattle.law_doing.specs.Follows.{Follows, after_of, reach};
-ghost use Rattle.law_doing.specs.Tells.{Tells};
+ghost use Rattle.aio_exchange.specs.Follows.{Follows, after_of, reach};
+ghost use Rattle.aio_exchange.specs.Tells.{Tells};
 ghost use Rattle.aio_change.specs.Seen.{seen_changed};
 ghost use Rattle.aio_connection.specs.Owned.{OwnsConnection};
 

@@ -5,7 +5,7 @@ ghost use Rattle.model_loop.specs.Parts as plain;
 ghost use Rattle.model_loop.specs.Futures.{is_pending_at, outcome_at};
 ghost use Rattle.model_loop.specs.Totals.{callbacks_at};
 ghost use Rattle.model_loop.specs.Owning.{owner_at};
-ghost use Rattle.law_parts.specs.Forgotten.{released};
+ghost use Rattle.algorithm_parts.specs.Forgotten.{released};
 ghost use Rattle.aio_ready.specs.Queue as queue;
 ghost use Rattle.aio_future.specs.Kinds.{is_asked};
 ghost use Rattle.aio_future.specs.Settled.{settled, called, registered, soon_if_done, asked};

@@ -2,7 +2,7 @@
 ghost use Rattle.std.specs.Prelude.{◌≡◌, None, IfOk, OnOk, length};
 ghost use Rattle.model_stream.specs.Requests as plain;
 ghost use Rattle.model_stream.specs.Streams as streams;
-ghost use Rattle.law_doing.specs.Follows.{reach};
+ghost use Rattle.aio_exchange.specs.Follows.{reach};
 ghost use Rattle.aio_task.specs.View.{View};
 ghost use Rattle.aio_transports.specs.Owned.{OwnsTransports};
 ghost use Rattle.aio_transports.specs.Standing.{Comes, Told, ToldWith};

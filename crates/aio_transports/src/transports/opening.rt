@@ -1,7 +1,7 @@
 //! How listeners, connections and children are opened.
 ghost use Rattle.std.specs.Prelude.{◌≡◌, ◌<◌, ◌^◌, true, None, OnOk, length};
 ghost use Rattle.model_stream.specs.Streams as plain;
-ghost use Rattle.law_doing.specs.Follows.{reach};
+ghost use Rattle.aio_exchange.specs.Follows.{reach};
 ghost use Rattle.aio_task.specs.View.{View};
 ghost use Rattle.aio_transports.specs.Kept.{with_launched};
 ghost use Rattle.aio_transports.specs.Owned.{OwnsTransports};

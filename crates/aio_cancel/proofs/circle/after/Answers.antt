@@ -1,5 +1,5 @@
 use Rattle.std.proofs.Common.{false}
-use Rattle.law_parts.proofs.WeightLemmas.{weigh_back, weigh_members}
+use Rattle.algorithm_parts.proofs.WeightLemmas.{weigh_back, weigh_members}
 use Rattle.aio_cancel.proofs.circle.after.Goals as goal
 
 pub returns-in-Waits-clause-falls : goal.returns-in-Waits-clause-falls

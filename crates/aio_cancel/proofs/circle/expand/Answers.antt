@@ -1,7 +1,7 @@
 use Rattle.std.proofs.Common.{sym, ap, false}
-use Rattle.law_parts.specs.Open.{passing}
-use Rattle.law_parts.proofs.WeightLemmas.{weigh_answer}
-use Rattle.law_parts.proofs.SeekLemmas.{seek_leaf, passes_done}
+use Rattle.algorithm_parts.specs.Open.{passing}
+use Rattle.algorithm_parts.proofs.WeightLemmas.{weigh_answer}
+use Rattle.algorithm_parts.proofs.SeekLemmas.{seek_leaf, passes_done}
 use Rattle.aio_cancel.specs.Awaitables.{parts}
 use Rattle.aio_cancel.specs.Noted.{noted}
 use Rattle.aio_cancel.proofs.circle.expand.Goals as goal

@@ -1,7 +1,7 @@
 use Rattle.std.proofs.Common.{false, []}
-use Rattle.law_parts.proofs.WeightLemmas.{weigh_answer, weigh_many}
-use Rattle.law_parts.proofs.RoomLemmas.{walk_opens}
-use Rattle.law_parts.proofs.SeekLemmas.{seek_opens}
+use Rattle.algorithm_parts.proofs.WeightLemmas.{weigh_answer, weigh_many}
+use Rattle.algorithm_parts.proofs.RoomLemmas.{walk_opens}
+use Rattle.algorithm_parts.proofs.SeekLemmas.{seek_opens}
 use Rattle.aio_cancel.specs.Noted.{noted}
 use Rattle.aio_cancel.proofs.circle.expand_many.Goals as goal
 

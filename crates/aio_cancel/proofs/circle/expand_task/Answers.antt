@@ -1,8 +1,8 @@
 use Rattle.std.proofs.Common.{sym, ap, ◌∙◌, false, arith}
 use Rattle.std.specs.Option.{option_map}
 use Rattle.model_loop.specs.Parts.{Task}
-use Rattle.law_parts.proofs.WeightLemmas.{weigh_answer, weigh_on}
-use Rattle.law_parts.proofs.SeekLemmas.{seek_seen, seek_no_task, seek_no_waiter, seek_waiter, walk_on}
+use Rattle.algorithm_parts.proofs.WeightLemmas.{weigh_answer, weigh_on}
+use Rattle.algorithm_parts.proofs.SeekLemmas.{seek_seen, seek_no_task, seek_no_waiter, seek_waiter, walk_on}
 use Rattle.aio_cancel.specs.Seen.{Marked}
 use Rattle.aio_cancel.specs.Awaitables.{parts}
 use Rattle.aio_cancel.proofs.PartsLemmas.{task_within, waits_for}

@@ -1,11 +1,11 @@
 use Rattle.std.proofs.Common.{refl, sym, subst, ◌∙◌, ℕ, List, []}
-use Rattle.law_parts.specs.declared.walk.WalkFrame.{WalkFrame}
-use Rattle.law_parts.specs.declared.walk.Go.{Go}
-use Rattle.law_parts.specs.declared.walk.Go.TheVariants.{Visit, Answer}
-use Rattle.law_parts.specs.Open.{CanWalk}
-use Rattle.law_parts.specs.Seek.{CanSeek}
-use Rattle.law_parts.proofs.RoomLemmas.{walk_begins}
-use Rattle.law_parts.proofs.SeekLemmas.{seek_begins, seek_found, seek_over}
+use Rattle.algorithm_parts.specs.declared.walk.WalkFrame.{WalkFrame}
+use Rattle.algorithm_parts.specs.declared.walk.Go.{Go}
+use Rattle.algorithm_parts.specs.declared.walk.Go.TheVariants.{Visit, Answer}
+use Rattle.algorithm_parts.specs.Open.{CanWalk}
+use Rattle.algorithm_parts.specs.Seek.{CanSeek}
+use Rattle.algorithm_parts.proofs.RoomLemmas.{walk_begins}
+use Rattle.algorithm_parts.proofs.SeekLemmas.{seek_begins, seek_found, seek_over}
 use Rattle.aio_cancel.specs.Awaitables.{parts}
 use Rattle.aio_cancel.specs.Noted.{noted}
 use Rattle.aio_cancel.proofs.circle.search.Goals as goal

@@ -1,8 +1,8 @@
 -- What was looked at, and what is left to look at, are all that is led to.
 use Rattle.std.proofs.Common.{◌≡◌, []}
-use Rattle.law_parts.specs.Weight.{weight}
-use Rattle.law_parts.specs.Open.{CanWalk}
-use Rattle.law_parts.specs.Seek.{CanSeek}
+use Rattle.algorithm_parts.specs.Weight.{weight}
+use Rattle.algorithm_parts.specs.Open.{CanWalk}
+use Rattle.algorithm_parts.specs.Seek.{CanSeek}
 use Rattle.aio_cancel.specs.Awaitables.{parts}
 use Rattle.aio_cancel.specs.Noted.{noted}
 use Rattle.aio_cancel.proofs.circle.search.Given as goal

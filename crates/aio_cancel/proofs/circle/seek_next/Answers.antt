@@ -1,7 +1,7 @@
 use Rattle.std.proofs.Common.{refl, [], false}
-use Rattle.law_parts.specs.Seek.{CanSeek}
-use Rattle.law_parts.proofs.WeightLemmas.{weigh_end}
-use Rattle.law_parts.proofs.SeekLemmas.{seek_member, seek_skips, seek_ends}
+use Rattle.algorithm_parts.specs.Seek.{CanSeek}
+use Rattle.algorithm_parts.proofs.WeightLemmas.{weigh_end}
+use Rattle.algorithm_parts.proofs.SeekLemmas.{seek_member, seek_skips, seek_ends}
 use Rattle.aio_cancel.specs.Awaitables.{parts}
 use Rattle.aio_cancel.proofs.MemberLemmas.{taken, room_to_take, taken_room, taken_walks, taken_falls}
 use Rattle.aio_cancel.proofs.circle.seek_next.Goals as goal

@@ -1,6 +1,6 @@
 use Rattle.std.proofs.Common.{sym, ◌∙◌, slice_get}
-use Rattle.law_parts.specs.Quiet.{over, visited}
-use Rattle.law_parts.proofs.QuietLemmas.{stage_done, stage_task}
+use Rattle.algorithm_parts.specs.Quiet.{over, visited}
+use Rattle.algorithm_parts.proofs.QuietLemmas.{stage_done, stage_task}
 use Rattle.aio_cancel.proofs.quiet.look.Goals as goal
 
 pub returns-in-Done : goal.returns-in-Done

@@ -1,6 +1,6 @@
 use Rattle.std.proofs.Common.{sym, slice_get, arith}
-use Rattle.law_parts.specs.Shape.{members_at}
-use Rattle.law_parts.proofs.QuietLemmas.{all_skip, all_more, all_whole, none_yet}
+use Rattle.algorithm_parts.specs.Shape.{members_at}
+use Rattle.algorithm_parts.proofs.QuietLemmas.{all_skip, all_more, all_whole, none_yet}
 use Rattle.law_cancel.proofs.Lookups.{get_within}
 use Rattle.aio_cancel.specs.Awaitables.{parts}
 use Rattle.aio_cancel.proofs.quiet.look_all.Goals as goal

@@ -1,7 +1,7 @@
 use Rattle.std.proofs.Common.{◌-◌, length, slice_get, take}
 use Rattle.model_loop.specs.Futures.{made_before}
-use Rattle.law_parts.specs.Shape.{members_at}
-use Rattle.law_parts.specs.Quiet.{QuietAll}
+use Rattle.algorithm_parts.specs.Shape.{members_at}
+use Rattle.algorithm_parts.specs.Quiet.{QuietAll}
 use Rattle.aio_cancel.specs.Awaitables.{parts}
 use Rattle.aio_cancel.proofs.quiet.look_all.Given as goal
 

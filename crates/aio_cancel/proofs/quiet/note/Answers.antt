@@ -1,4 +1,4 @@
-use Rattle.law_parts.proofs.QuietLemmas.{put_sound, asked_if}
+use Rattle.algorithm_parts.proofs.QuietLemmas.{put_sound, asked_if}
 use Rattle.aio_cancel.specs.Noted.{noted}
 use Rattle.aio_cancel.specs.Awaitables.{parts}
 use Rattle.aio_cancel.proofs.quiet.note.Goals as goal

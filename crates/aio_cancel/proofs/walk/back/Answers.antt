@@ -1,7 +1,7 @@
 use Rattle.std.proofs.Common.{refl, true}
-use Rattle.law_parts.proofs.WalkLemmas.{back_waits, resume-push}
-use Rattle.law_parts.proofs.WeightLemmas.{weigh_back, weigh_back_marked, weigh_members}
-use Rattle.law_parts.proofs.RoomLemmas.{walk_back}
+use Rattle.algorithm_parts.proofs.WalkLemmas.{back_waits, resume-push}
+use Rattle.algorithm_parts.proofs.WeightLemmas.{weigh_back, weigh_back_marked, weigh_members}
+use Rattle.algorithm_parts.proofs.RoomLemmas.{walk_back}
 use Rattle.aio_cancel.specs.Awaitables.{parts}
 use Rattle.aio_cancel.proofs.walk.back.Goals as goal
 

@@ -1,11 +1,11 @@
 use Rattle.std.proofs.Common.{◌∙◌, sym, ap, refl, List, ℕ, [], ◌≡◌, Bool, Option, Some, None, subst}
-use Rattle.law_parts.specs.declared.walk.WalkFrame.{WalkFrame}
-use Rattle.law_parts.specs.declared.walk.Go.{Go}
-use Rattle.law_parts.specs.declared.walk.Go.TheVariants.{Visit, Answer}
-use Rattle.law_parts.specs.Walk.{run}
-use Rattle.law_parts.specs.Open.{CanWalk}
-use Rattle.law_parts.proofs.QuietLemmas.{sound_later}
-use Rattle.law_parts.proofs.RoomLemmas.{walk_begins}
+use Rattle.algorithm_parts.specs.declared.walk.WalkFrame.{WalkFrame}
+use Rattle.algorithm_parts.specs.declared.walk.Go.{Go}
+use Rattle.algorithm_parts.specs.declared.walk.Go.TheVariants.{Visit, Answer}
+use Rattle.algorithm_parts.specs.Walk.{run}
+use Rattle.algorithm_parts.specs.Open.{CanWalk}
+use Rattle.algorithm_parts.proofs.QuietLemmas.{sound_later}
+use Rattle.algorithm_parts.proofs.RoomLemmas.{walk_begins}
 use Rattle.aio_cancel.specs.Noted.{noted}
 use Rattle.aio_cancel.specs.Awaitables.{parts}
 use Rattle.aio_cancel.proofs.PartsLemmas.{nothing_appended, appended_on}

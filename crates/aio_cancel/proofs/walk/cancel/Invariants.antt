@@ -1,10 +1,10 @@
 -- What is left of the request is the whole of it.
 use Rattle.std.proofs.Common.{◌≡◌}
 use Rattle.model_loop.specs.Cancel.{cancel as cancel_of}
-use Rattle.law_parts.specs.Walk.{run}
-use Rattle.law_parts.specs.Weight.{weight}
-use Rattle.law_parts.specs.Open.{CanWalk}
-use Rattle.law_parts.specs.Quiet.{Sound}
+use Rattle.algorithm_parts.specs.Walk.{run}
+use Rattle.algorithm_parts.specs.Weight.{weight}
+use Rattle.algorithm_parts.specs.Open.{CanWalk}
+use Rattle.algorithm_parts.specs.Quiet.{Sound}
 use Rattle.aio_cancel.specs.Noted.{noted}
 use Rattle.aio_cancel.specs.Awaitables.{parts, Appended}
 use Rattle.aio_cancel.proofs.walk.cancel.Given as goal

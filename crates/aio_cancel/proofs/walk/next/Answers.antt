@@ -1,10 +1,10 @@
 use Rattle.std.proofs.Common.{◌≡◌, sym, ap, ◌∙◌}
-use Rattle.law_parts.specs.declared.walk.Go.TheVariants.{Next}
-use Rattle.law_parts.specs.Walk.{resume, run}
-use Rattle.law_parts.proofs.WalkLemmas.{next_ends_where, next_past, next_member, resume-push}
-use Rattle.law_parts.proofs.WeightLemmas.{weigh_ask_where}
-use Rattle.law_parts.proofs.RoomLemmas.{walk_ends}
-use Rattle.law_parts.proofs.QuietLemmas.{sound_later, ask_where_later}
+use Rattle.algorithm_parts.specs.declared.walk.Go.TheVariants.{Next}
+use Rattle.algorithm_parts.specs.Walk.{resume, run}
+use Rattle.algorithm_parts.proofs.WalkLemmas.{next_ends_where, next_past, next_member, resume-push}
+use Rattle.algorithm_parts.proofs.WeightLemmas.{weigh_ask_where}
+use Rattle.algorithm_parts.proofs.RoomLemmas.{walk_ends}
+use Rattle.algorithm_parts.proofs.QuietLemmas.{sound_later, ask_where_later}
 use Rattle.aio_cancel.specs.Noted.{noted}
 use Rattle.aio_cancel.specs.Awaitables.{parts}
 use Rattle.aio_cancel.proofs.MemberLemmas.{taken, room_to_take, taken_room, taken_walks, taken_falls}

@@ -1,11 +1,11 @@
 use Rattle.std.proofs.Common.{sym, ap, ◌∙◌, true, false, slice_get}
 use Rattle.model_value.specs.declared.outcome.Outcome.TheVariants.{Cancelled}
-use Rattle.law_parts.specs.declared.walk.FutureState.TheVariants as stands
-use Rattle.law_parts.specs.Walk.{resume}
-use Rattle.law_parts.proofs.WalkLemmas.{visited_as}
-use Rattle.law_parts.proofs.WeightLemmas.{weigh_answer, weigh_settle, weigh_many}
-use Rattle.law_parts.proofs.RoomLemmas.{walk_settles, walk_opens}
-use Rattle.law_parts.proofs.QuietLemmas.{sound_later, settled_later, stage_plain, again_is}
+use Rattle.algorithm_parts.specs.declared.walk.FutureState.TheVariants as stands
+use Rattle.algorithm_parts.specs.Walk.{resume}
+use Rattle.algorithm_parts.proofs.WalkLemmas.{visited_as}
+use Rattle.algorithm_parts.proofs.WeightLemmas.{weigh_answer, weigh_settle, weigh_many}
+use Rattle.algorithm_parts.proofs.RoomLemmas.{walk_settles, walk_opens}
+use Rattle.algorithm_parts.proofs.QuietLemmas.{sound_later, settled_later, stage_plain, again_is}
 use Rattle.aio_cancel.specs.Noted.{noted}
 use Rattle.aio_cancel.specs.Awaitables.{parts}
 use Rattle.aio_cancel.proofs.walk.visit.Goals as goal

@@ -1,10 +1,10 @@
 use Rattle.std.proofs.Common.{sym, ap, ◌∙◌, refl, true, ◌++◌, ◌∷◌, []}
 use Rattle.model_loop.specs.Tasks.{raise_count}
-use Rattle.law_parts.specs.declared.walk.WalkFrame.TheVariants.{Waits}
-use Rattle.law_parts.specs.declared.walk.Go.TheVariants.{Visit}
-use Rattle.law_parts.proofs.WalkLemmas.{visit_waits}
-use Rattle.law_parts.proofs.WeightLemmas.{weigh_answer, weigh_marked, weigh_waits}
-use Rattle.law_parts.proofs.RoomLemmas.{room_for, mark_for, walk_waits, walk_marks}
+use Rattle.algorithm_parts.specs.declared.walk.WalkFrame.TheVariants.{Waits}
+use Rattle.algorithm_parts.specs.declared.walk.Go.TheVariants.{Visit}
+use Rattle.algorithm_parts.proofs.WalkLemmas.{visit_waits}
+use Rattle.algorithm_parts.proofs.WeightLemmas.{weigh_answer, weigh_marked, weigh_waits}
+use Rattle.algorithm_parts.proofs.RoomLemmas.{room_for, mark_for, walk_waits, walk_marks}
 use Rattle.aio_cancel.specs.Seen.{Stacked, Marked}
 use Rattle.aio_cancel.specs.Awaitables.{parts}
 use Rattle.aio_cancel.proofs.PartsLemmas.{waits_for}

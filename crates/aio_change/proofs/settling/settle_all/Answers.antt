@@ -1,6 +1,6 @@
 use Rattle.std.proofs.Common.{◌≡◌, [], ◌∷◌, ◌∙◌, sym, ap, subst, get_or}
 use Rattle.model_stream.specs.Doing.{Settle}
-use Rattle.law_doing.specs.Ways.{Did}
+use Rattle.aio_exchange.specs.Ways.{Did}
 use Rattle.aio_task.specs.View.{View}
 use Rattle.aio_change.specs.Owned.{AreOwn}
 use Rattle.aio_change.specs.Seen.{seen_changed}

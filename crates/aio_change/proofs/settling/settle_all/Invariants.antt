@@ -1,5 +1,5 @@
 use Rattle.std.proofs.Common.{◌≡◌, None, take}
-use Rattle.law_doing.specs.Ways.{changed_on}
+use Rattle.aio_exchange.specs.Ways.{changed_on}
 use Rattle.aio_change.specs.Owned.{AreOwn, settled_way}
 use Rattle.aio_change.specs.Seen.{seen_changed}
 use Rattle.aio_change.proofs.settling.settle_all.Given as goal

@@ -3,7 +3,7 @@ use Rattle.std.proofs.lemmas.Bool.{false≢true}
 use Rattle.std.proofs.lemmas.Int.{to_z-of_z}
 use Rattle.model_value.specs.Action.{Action}
 use Rattle.model_value.specs.declared.outcome.Outcome.TheVariants.{Value as Returned}
-use Rattle.law_trees.specs.Trees.{is_of_streams}
+use Rattle.law_cases.specs.Trees.{is_of_streams}
 use Rattle.aio_ready.specs.Queue.{soon_all}
 use Rattle.aio_future.specs.Settled as settled
 use Rattle.aio_future.specs.Settled.{called}

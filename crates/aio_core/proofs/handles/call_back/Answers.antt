@@ -1,6 +1,6 @@
 use Rattle.std.proofs.Common.{◌⊎◌, inl, inr, ◌∙◌, ap, sym, subst}
 use Rattle.model_value.specs.Action.{Action}
-use Rattle.law_trees.specs.Trees.{is_of_streams}
+use Rattle.law_cases.specs.Trees.{is_of_streams}
 use Rattle.aio_wire.specs.Port.{ported}
 use Rattle.aio_body.specs.Asking.{Comes}
 use Rattle.aio_streaming.specs.Acting as streaming

@@ -1,6 +1,6 @@
 use Rattle.std.proofs.Common.{sym, ap, ◌∙◌}
 use Rattle.model_says.specs.Variables.{assigned}
-use Rattle.law_locals.specs.Numbered.{holding}
+use Rattle.algorithm_locals.specs.Numbered.{holding}
 use Rattle.aio_expr.proofs.Variables.{assigned-number}
 use Rattle.aio_expr.proofs.env.assign_in.Goals as goal
 

@@ -1,7 +1,7 @@
 use Rattle.std.proofs.Common.{sym, ap, ◌∙◌}
 use Rattle.std.proofs.lemmas.Option.{IfSome_then}
 use Rattle.model_says.specs.Variables.{held}
-use Rattle.law_locals.specs.Numbered.{holding}
+use Rattle.algorithm_locals.specs.Numbered.{holding}
 use Rattle.aio_expr.proofs.Variables.{held-number}
 use Rattle.aio_expr.proofs.env.number_held_in.Goals as goal
 

@@ -1,5 +1,5 @@
 use Rattle.std.proofs.Common.{◌≡◌, ◌+◌, ◌*◌, map, take}
-use Rattle.law_locals.specs.Numbered.{numbered_expr}
+use Rattle.algorithm_locals.specs.Numbered.{numbered_expr}
 use Rattle.aio_syntax.specs.ExprSize.{expr_size, expr_list_size}
 use Rattle.aio_flat.proofs.exprs.+flat.Given as goal
 

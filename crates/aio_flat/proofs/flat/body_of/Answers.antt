@@ -1,9 +1,9 @@
 use Rattle.std.proofs.Common.{rules, ◌≡◌, List, length, refl, ap, subst, ◌∙◌}
 use Rattle.model_tree.specs.Syntax.{Name, Statement, Statements, statements}
 use Rattle.model_says.specs.Variables.{variables_of}
-use Rattle.law_locals.specs.Numbered.{locals, numbered_statements}
-use Rattle.law_flat.specs.Ops.{CoroutineCode}
-use Rattle.law_flat.specs.Laid.{LaidAll}
+use Rattle.algorithm_locals.specs.Numbered.{locals, numbered_statements}
+use Rattle.algorithm_flat.specs.Ops.{CoroutineCode}
+use Rattle.algorithm_flat.specs.Laid.{LaidAll}
 use Rattle.aio_flat.specs.Built.{built}
 use Rattle.aio_flat.proofs.flat.body_of.Goals as goal
 

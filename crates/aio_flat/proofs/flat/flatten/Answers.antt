@@ -1,5 +1,5 @@
 use Rattle.std.proofs.Common.{subst}
-use Rattle.law_locals.specs.Numbered.{numbered_program}
+use Rattle.algorithm_locals.specs.Numbered.{numbered_program}
 use Rattle.aio_flat.specs.Code.{AreBodiesOf}
 use Rattle.aio_flat.proofs.CodeLemmas.{laid-out, names-of}
 use Rattle.aio_flat.proofs.flat.flatten.Goals as goal

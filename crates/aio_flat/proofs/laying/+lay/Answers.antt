@@ -5,9 +5,9 @@ use Rattle.std.specs.Rc.{rc_str_bytes}
 use Rattle.std.proofs.lemmas.List.{take_more}
 use Rattle.std.proofs.lemmas.Result.{on_ok_weaker}
 use Rattle.model_tree.specs.Syntax.{statements, handlers}
-use Rattle.law_locals.specs.Numbered.{numbered_name, numbered_expr, numbered_manager, numbered_statement, numbered_statements, numbered_branch}
-use Rattle.law_locals.specs.Numbered.{numbered_handlers}
-use Rattle.law_flat.specs.Laid.{LaidAll, LaidHandlers, enter_op}
+use Rattle.algorithm_locals.specs.Numbered.{numbered_name, numbered_expr, numbered_manager, numbered_statement, numbered_statements, numbered_branch}
+use Rattle.algorithm_locals.specs.Numbered.{numbered_handlers}
+use Rattle.algorithm_flat.specs.Laid.{LaidAll, LaidHandlers, enter_op}
 use Rattle.aio_program.specs.StatementSize.{statement_size, statement_list_size, handler_size, handler_list_size}
 use Rattle.aio_program.specs.Target.{plain_branch, plain_manager}
 use Rattle.aio_flat.specs.Built.{built, Lays}

@@ -1,8 +1,8 @@
 use Rattle.std.proofs.Common.{◌+◌, ◌*◌, take}
 use Rattle.std.specs.Option.{option_copied}
 use Rattle.model_tree.specs.Syntax.{statements, handlers}
-use Rattle.law_locals.specs.Numbered.{numbered_statements, numbered_handlers}
-use Rattle.law_flat.specs.Laid.{LaidAll, LaidHandlers}
+use Rattle.algorithm_locals.specs.Numbered.{numbered_statements, numbered_handlers}
+use Rattle.algorithm_flat.specs.Laid.{LaidAll, LaidHandlers}
 use Rattle.aio_program.specs.StatementSize.{statement_size, statement_list_size, branch_size, handler_size, handler_list_size}
 use Rattle.aio_program.specs.Target.{plain_branch}
 use Rattle.aio_flat.specs.Built.{built, Lays}

@@ -1,8 +1,8 @@
 use Rattle.std.proofs.Common.{◌≡◌, suc, ◌+◌, ◌++◌, [], ◌∷◌, length, length-append, sym, ap, ap₂, ◌∙◌, zero-add, arith}
 use Rattle.model_value.specs.Value.{Value}
 use Rattle.model_says.specs.Variables.{Env, bound}
-use Rattle.law_locals.specs.Numbered.{local, locals, holding}
-use Rattle.law_locals.proofs.Coroutines.{locals-more, length-locals}
+use Rattle.algorithm_locals.specs.Numbered.{local, locals, holding}
+use Rattle.algorithm_locals.proofs.Coroutines.{locals-more, length-locals}
 use Rattle.aio_gen.specs.Plain.{value_at}
 use Rattle.aio_gen.proofs.Values.{bound-push, holding-push}
 use Rattle.aio_gen.proofs.calls.bound.Goals as goal

@@ -1,6 +1,6 @@
 use Rattle.std.proofs.Common.{◌≡◌, ◌≤◌, length}
 use Rattle.model_says.specs.Variables.{bound}
-use Rattle.law_locals.specs.Numbered.{locals, holding}
+use Rattle.algorithm_locals.specs.Numbered.{locals, holding}
 use Rattle.aio_gen.proofs.calls.bound.Given as goal
 
 abbrev pub invariant-loop-number : goal.invariant-loop-number

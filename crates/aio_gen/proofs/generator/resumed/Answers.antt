@@ -3,8 +3,8 @@ use Rattle.std.proofs.Common.{[], ◌∷◌, ◌++◌, ap, ◌∙◌}
 use Rattle.std.proofs.lemmas.Result.{IfOk-weaker}
 use Rattle.model_says.specs.Tape.{Resumed}
 use Rattle.model_says.specs.Says.{step_limit}
-use Rattle.law_locals.specs.Numbered.{numbered_program}
-use Rattle.law_flat.specs.Tapes.{after_input}
+use Rattle.algorithm_locals.specs.Numbered.{numbered_program}
+use Rattle.algorithm_flat.specs.Tapes.{after_input}
 use Rattle.aio_flat.specs.Code.{codes_of}
 use Rattle.aio_gen.specs.Gens.{plain_waiting}
 use Rattle.aio_gen.specs.Plain.{plain_frames}

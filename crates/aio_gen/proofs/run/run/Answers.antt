@@ -1,7 +1,7 @@
 use Rattle.std.proofs.Common.{sym, subst}
-use Rattle.law_flat.specs.Tapes.{ComesTo}
-use Rattle.law_flat.proofs.Nearer.{goes-nearer}
-use Rattle.law_flat.proofs.Tapes.{move-comes}
+use Rattle.algorithm_flat.specs.Tapes.{ComesTo}
+use Rattle.algorithm_flat.proofs.Nearer.{goes-nearer}
+use Rattle.algorithm_flat.proofs.Tapes.{move-comes}
 use Rattle.aio_flat.specs.Code.{codes_of}
 use Rattle.aio_gen.specs.Plain.{plain_frames}
 use Rattle.aio_gen.proofs.Running.{forward-in, size_of, within}

@@ -2,9 +2,9 @@ use Rattle.std.proofs.Common.{ℕ, List}
 use Rattle.model_value.specs.Value.{Value}
 use Rattle.model_tree.specs.Syntax.{Program}
 use Rattle.model_says.specs.Tape.{Tape}
-use Rattle.law_flat.specs.Nearer.{distance}
-use Rattle.law_flat.specs.Stands.{AllLaidOut}
-use Rattle.law_flat.specs.Tapes.{MovesFor}
+use Rattle.algorithm_flat.specs.Nearer.{distance}
+use Rattle.algorithm_flat.specs.Stands.{AllLaidOut}
+use Rattle.algorithm_flat.specs.Tapes.{MovesFor}
 use Rattle.aio_flat.specs.Code.{codes_of}
 use Rattle.aio_gen.specs.Plain.{plain_frames}
 use Rattle.aio_gen.proofs.Running.{size_of}

@@ -1,5 +1,5 @@
 use Rattle.std.proofs.Common.{◌≡◌, drop}
-use Rattle.law_flat.specs.Moves.{clause_for}
+use Rattle.algorithm_flat.specs.Moves.{clause_for}
 use Rattle.aio_gen.proofs.ways_out.clause_for.Given as goal
 
 abbrev pub invariant-loop-clause : goal.invariant-loop-clause

@@ -2,7 +2,7 @@ use Rattle.std.proofs.Common.{◌≡◌, ℕ, suc, ◌-◌, ◌<◌, Ok, Err, le
 use Rattle.std.proofs.lemmas.Result.{err_from_is_err_and}
 use Rattle.model_stream.specs.Streams.{accept_most}
 use Rattle.aio_wire.specs.declared.stop.Stop.TheVariants as stop
-use Rattle.law_doing.specs.Follows.{Reach, reach}
+use Rattle.aio_exchange.specs.Follows.{Reach, reach}
 use Rattle.aio_task.specs.View.{View}
 use Rattle.aio_stream.specs.Standing.{Comes}
 use Rattle.aio_listener.proofs.Accepts.{accepts_over, round_met, round_on, round_over, round_starved}

@@ -1,5 +1,5 @@
 use Rattle.std.proofs.Common.{length, sym}
-use Rattle.law_doing.specs.Follows.{Reach, reach}
+use Rattle.aio_exchange.specs.Follows.{Reach, reach}
 use Rattle.aio_task.specs.View.{View}
 use Rattle.aio_listener.proofs.Accepts.{listens_not, listens_so}
 use Rattle.aio_listener.proofs.accepting.readable_server.Goals as goal

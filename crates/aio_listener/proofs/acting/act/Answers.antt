@@ -4,7 +4,7 @@ use Rattle.model_value.specs.declared.action.Action.TheVariants as action
 use Rattle.model_value.specs.Action.{Action}
 use Rattle.model_stream.specs.Doing.{Ends}
 use Rattle.model_stream.specs.Streams.{Streams, act}
-use Rattle.law_doing.specs.Follows.{Reach, reach}
+use Rattle.aio_exchange.specs.Follows.{Reach, reach}
 use Rattle.aio_task.specs.View.{View}
 use Rattle.aio_stream.specs.Standing.{Comes}
 use Rattle.aio_listener.specs.Acts.{is_of_child}

@@ -1,6 +1,6 @@
 use Rattle.std.proofs.Common.{length, ◌∙◌, refl, sym}
 use Rattle.std.proofs.lemmas.Result.{err_from_is_err_and}
-use Rattle.law_doing.specs.Follows.{Reach, reach}
+use Rattle.aio_exchange.specs.Follows.{Reach, reach}
 use Rattle.aio_task.specs.View.{View}
 use Rattle.aio_listener.proofs.Connects.{connect_begins, connect_met, connect_refused, connect_starved}
 use Rattle.aio_listener.proofs.beginning.connect.Goals as goal

@@ -6,7 +6,7 @@ use Rattle.model_machine.specs.Arguments.{as_list}
 use Rattle.model_value.specs.declared.request.Request.TheVariants as request
 use Rattle.aio_wire.specs.Port.{ported}
 use Rattle.aio_body.specs.Asking.{Comes, serving}
-use Rattle.law_body.proofs.Alone.{serves_alone, serves_without}
+use Rattle.aio_body.proofs.Alone.{serves_alone, serves_without}
 use Rattle.aio_serve.proofs.Adding.{Asks, asks_answer, asks_go, asks_served}
 use Rattle.aio_serve.proofs.Meaning.{arguments_refused, code_refused}
 use Rattle.aio_serve.proofs.Saying.{raises_so}

@@ -5,9 +5,9 @@ use Rattle.model_says.specs.Operations.{out_of_range}
 use Rattle.model_loop.specs.Futures.{new_plain, next_future}
 use Rattle.model_machine.specs.Replies.{most_ids}
 use Rattle.model_machine.specs.State.{unbooked_in}
-use Rattle.law_kept.proofs.Telling.{next_kept}
-use Rattle.law_body.proofs.Making.{makes_so}
-use Rattle.law_body.proofs.May.{idle_some}
+use Rattle.refine_parts.proofs.Telling.{next_kept}
+use Rattle.aio_body.proofs.Making.{makes_so}
+use Rattle.aio_body.proofs.May.{idle_some}
 use Rattle.aio_body.specs.declared.reply.RequestReply.TheVariants.{Answers}
 use Rattle.aio_serve.proofs.Meaning.{one_more_made, none_made}
 use Rattle.aio_serve.proofs.Saying.{answers_so, raises_so}

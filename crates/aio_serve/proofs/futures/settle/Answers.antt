@@ -5,8 +5,8 @@ use Rattle.model_says.specs.Requests.{bad_argument}
 use Rattle.model_loop.specs.Futures.{settle}
 use Rattle.model_machine.specs.Replies.{invalid_state}
 use Rattle.model_machine.specs.State.{unbooked_in}
-use Rattle.law_body.proofs.Making.{settles_so}
-use Rattle.law_body.proofs.May.{idle_some}
+use Rattle.aio_body.proofs.Making.{settles_so}
+use Rattle.aio_body.proofs.May.{idle_some}
 use Rattle.aio_body.specs.declared.reply.RequestReply.TheVariants.{Answers}
 use Rattle.aio_serve.proofs.Meaning.{none_settled, settled_with_none, settled_twice, settled_once}
 use Rattle.aio_serve.proofs.Reading.{future_as, future_done, unowned, unowned_kept}

@@ -7,7 +7,7 @@ use Rattle.model_machine.specs.Replies.{most_ids}
 use Rattle.model_value.specs.Value.{Task}
 use Rattle.aio_body.specs.Asked.{Says}
 use Rattle.aio_body.specs.declared.reply.RequestReply.TheVariants.{Answers, Raises}
-use Rattle.law_body.proofs.May.{idle_some}
+use Rattle.aio_body.proofs.May.{idle_some}
 use Rattle.aio_serve.proofs.Grouping.{belong_some, create_refused, none_created, one_created}
 use Rattle.aio_serve.proofs.Saying.{raises_so}
 use Rattle.aio_serve.proofs.Creating.{creates_so, refuses_so}

@@ -8,7 +8,7 @@ use Rattle.model_machine.specs.Replies.{most_ids}
 use Rattle.model_machine.specs.State.{in_loop}
 use Rattle.aio_group.specs.Stands.{Came, Stands as GroupStands}
 use Rattle.aio_group.proofs.Going.{same_on}
-use Rattle.law_handles.proofs.Appending.{extends_same}
+use Rattle.refine_parts.proofs.Appending.{extends_same}
 use Rattle.aio_body.specs.declared.reply.RequestReply.TheVariants.{Answers}
 use Rattle.aio_serve.proofs.Grouping.{none_grouped, one_grouped}
 use Rattle.aio_serve.proofs.GroupsNeed.{same_many}

@@ -5,14 +5,14 @@ use Rattle.std.proofs.lemmas.Result.{IfOk-weaker}
 use Rattle.model_says.specs.Requests.{bad_argument}
 use Rattle.model_value.specs.declared.request.Request.TheVariants as request
 use Rattle.model_loop.specs.Groups.{exit_begin}
-use Rattle.law_inside.proofs.Counts.{own_there}
-use Rattle.law_body.proofs.May.{going_of, idle_of, running_of}
+use Rattle.law_replies.proofs.Counts.{own_there}
+use Rattle.aio_body.proofs.May.{going_of, idle_of, running_of}
 use Rattle.aio_body.specs.Asked.{Says}
 use Rattle.aio_task.specs.View.{View}
 use Rattle.aio_serve.proofs.GroupExits.{begins_freshly, exit_pends, exits_so}
 use Rattle.aio_serve.proofs.Grouping.{belong_may, exit_entered, exit_fresh, exit_means, exit_refused}
 use Rattle.aio_serve.proofs.GroupsOn.{exit_begin_leaves, groups_stand}
-use Rattle.law_body.proofs.HasSlot.{slot_there, within_going}
+use Rattle.aio_body.proofs.HasSlot.{slot_there, within_going}
 use Rattle.aio_serve.proofs.Saying.{raises_so}
 use Rattle.aio_serve.proofs.groups.exit_group.Goals as goal
 

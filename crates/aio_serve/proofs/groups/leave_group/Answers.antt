@@ -3,7 +3,7 @@ use Rattle.std.proofs.Math.Logic.{∥∥₁_elim}
 use Rattle.std.proofs.Props.{props}
 use Rattle.model_loop.specs.Groups.{exit_woken}
 use Rattle.model_machine.specs.State.{Leaving}
-use Rattle.law_inside.proofs.Counts.{own_there}
+use Rattle.law_replies.proofs.Counts.{own_there}
 use Rattle.aio_task.specs.View.{View}
 use Rattle.aio_serve.proofs.GroupExits.{woken_freshly, exit_pends, exits_so}
 use Rattle.aio_serve.proofs.Grouping.{belong_decides, exit_goes_on, idle_decides, running_decides, slot_decides, within_deciding}

@@ -1,7 +1,7 @@
 use Rattle.std.proofs.Common.{sym, subst}
 use Rattle.aio_wire.specs.Port.{ported}
 use Rattle.aio_body.specs.Asking.{Comes, serving}
-use Rattle.law_body.proofs.Alone.{serves_alone}
+use Rattle.aio_body.proofs.Alone.{serves_alone}
 use Rattle.aio_serve.proofs.table.reply.Goals as goal
 
 pub returns-then-is_own : goal.returns-then-is_own

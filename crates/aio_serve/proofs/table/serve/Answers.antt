@@ -1,5 +1,5 @@
 use Rattle.std.proofs.Common.{subst, ◌∙◌}
-use Rattle.law_body.proofs.May.{going_of, some_of}
+use Rattle.aio_body.proofs.May.{going_of, some_of}
 use Rattle.aio_body.specs.Asked.{IsAskingFor}
 use Rattle.aio_body.specs.Stands.{Possible}
 use Rattle.aio_serve.proofs.Owning.{lent_of}

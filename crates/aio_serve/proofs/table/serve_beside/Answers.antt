@@ -11,7 +11,7 @@ use Rattle.aio_body.specs.Asking.{Comes, or_stop, serving}
 use Rattle.aio_body.specs.Stands.{Possible}
 use Rattle.aio_body.specs.declared.body.Body.{Body}
 use Rattle.aio_body.specs.declared.reply.RequestReply.{RequestReply}
-use Rattle.law_body.proofs.Alone.{serves_alone}
+use Rattle.aio_body.proofs.Alone.{serves_alone}
 use Rattle.aio_serve.proofs.Owning.{is_of_loop}
 use Rattle.aio_serve.proofs.table.serve_beside.Goals as goal
 

@@ -2,7 +2,7 @@ use Rattle.std.proofs.Common.{◌≡◌, ap, sym, subst, ◌∙◌}
 use Rattle.std.proofs.lemmas.Bool.{true≢false}
 use Rattle.model_value.specs.Value.{Task}
 use Rattle.model_machine.specs.Replies.{reply}
-use Rattle.law_body.proofs.May.{going_of, some_of}
+use Rattle.aio_body.proofs.May.{going_of, some_of}
 use Rattle.aio_body.specs.Asked.{IsAskingFor}
 use Rattle.aio_body.specs.Stands.{Possible}
 use Rattle.aio_body.specs.declared.reply.RequestReply.TheVariants.{Answers}

@@ -5,9 +5,9 @@ use Rattle.model_says.specs.Requests.{bad_argument}
 use Rattle.model_loop.specs.Ledger.{ByScript, request}
 use Rattle.model_loop.specs.Loop.{book}
 use Rattle.model_machine.specs.State.{in_loop}
-use Rattle.law_kept.proofs.Telling.{answer_kept}
-use Rattle.law_body.proofs.May.{idle_some}
-use Rattle.law_body.proofs.Rooms.{requests_so}
+use Rattle.refine_parts.proofs.Telling.{answer_kept}
+use Rattle.aio_body.proofs.May.{idle_some}
+use Rattle.aio_body.proofs.Rooms.{requests_so}
 use Rattle.aio_body.specs.declared.reply.RequestReply.TheVariants.{Answers}
 use Rattle.aio_serve.proofs.Meaning.{cancel_means, cancel_refused}
 use Rattle.aio_serve.proofs.Reading.{awaited_as}

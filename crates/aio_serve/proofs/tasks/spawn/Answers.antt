@@ -7,7 +7,7 @@ use Rattle.model_machine.specs.Replies.{most_ids}
 use Rattle.model_machine.specs.State.{unbooked_in, with_coroutine}
 use Rattle.aio_body.specs.declared.body.Body.{Body}
 use Rattle.aio_body.specs.declared.reply.RequestReply.TheVariants.{Answers}
-use Rattle.law_body.proofs.May.{idle_some}
+use Rattle.aio_body.proofs.May.{idle_some}
 use Rattle.aio_serve.proofs.Resting.{none_spawned, one_spawned}
 use Rattle.aio_serve.proofs.Saying.{answers_so, raises_so}
 use Rattle.aio_serve.proofs.Spawning.{spawns_so}

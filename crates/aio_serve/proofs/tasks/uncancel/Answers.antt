@@ -6,7 +6,7 @@ use Rattle.model_loop.specs.Tasks.{cancelling}
 use Rattle.model_loop.specs.Ledger.{ByScript, uncancel_by}
 use Rattle.model_loop.specs.Loop.{book}
 use Rattle.model_machine.specs.State.{in_loop}
-use Rattle.law_body.proofs.May.{idle_some}
+use Rattle.aio_body.proofs.May.{idle_some}
 use Rattle.aio_body.specs.declared.reply.RequestReply.TheVariants.{Answers}
 use Rattle.aio_serve.proofs.Changing.{uncancels_so, few_left}
 use Rattle.aio_serve.proofs.Meaning.{uncancel_means, uncancel_refused}

@@ -8,8 +8,8 @@ use Rattle.model_machine.specs.Replies.{most_ids}
 use Rattle.model_machine.specs.State.{in_loop}
 use Rattle.aio_body.specs.Delay.{number_of}
 use Rattle.aio_body.specs.declared.reply.RequestReply.TheVariants.{Answers}
-use Rattle.law_body.proofs.May.{idle_of}
-use Rattle.law_body.proofs.TimeoutsOn.{enter_groups, goes_timed, leaves_enter, timeouts_of}
+use Rattle.aio_body.proofs.May.{idle_of}
+use Rattle.aio_body.proofs.TimeoutsOn.{enter_groups, goes_timed, leaves_enter, timeouts_of}
 use Rattle.aio_serve.proofs.Saying.{answers_so, raises_so}
 use Rattle.aio_serve.proofs.Timing.{count_is, delay_is, enter_full, enter_goes, enter_unfit, given_as, no_delay}
 use Rattle.aio_serve.proofs.timeouts.enter_timeout.Goals as goal

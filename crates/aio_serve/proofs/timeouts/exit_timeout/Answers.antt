@@ -8,8 +8,8 @@ use Rattle.model_machine.specs.Replies.{reply}
 use Rattle.model_machine.specs.State.{with_loop}
 use Rattle.aio_body.specs.declared.reply.RequestReply.{RequestReply}
 use Rattle.aio_body.specs.Asked.{Says}
-use Rattle.law_body.proofs.May.{going_of, idle_of, some_of}
-use Rattle.law_body.proofs.TimeoutsOn.{exit_groups, goes_timed, leaves_exit, timeouts_of}
+use Rattle.aio_body.proofs.May.{going_of, idle_of, some_of}
+use Rattle.aio_body.proofs.TimeoutsOn.{exit_groups, goes_timed, leaves_exit, timeouts_of}
 use Rattle.aio_serve.specs.Left.{left_as}
 use Rattle.aio_serve.proofs.Saying.{raises_so}
 use Rattle.aio_serve.proofs.Timing.{exit_goes, exit_there, exit_unfit, left_so, steps_none_some}

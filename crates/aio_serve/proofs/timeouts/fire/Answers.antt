@@ -1,8 +1,8 @@
 use Rattle.std.proofs.Common.{None, ◌∙◌}
 use Rattle.std.proofs.Math.Logic.{∥∥₁_elim}
 use Rattle.model_loop.specs.Timeouts.{fire}
-use Rattle.law_body.proofs.May.{same_prop}
-use Rattle.law_body.proofs.TimeoutsOn.{fire_groups, leaves_fire, stands_timed, timeouts_of}
+use Rattle.aio_body.proofs.May.{same_prop}
+use Rattle.aio_body.proofs.TimeoutsOn.{fire_groups, leaves_fire, stands_timed, timeouts_of}
 use Rattle.aio_serve.proofs.Timing.{fired_there}
 use Rattle.aio_serve.proofs.timeouts.fire.Goals as goal
 

@@ -5,8 +5,8 @@ use Rattle.model_loop.specs.Timeouts.{reschedule}
 use Rattle.aio_timeout.specs.States.{refused, state_of}
 use Rattle.aio_body.specs.Delay.{number_of}
 use Rattle.aio_body.specs.declared.reply.RequestReply.TheVariants.{Answers}
-use Rattle.law_body.proofs.May.{idle_some}
-use Rattle.law_body.proofs.TimeoutsOn.{goes_timed, leaves_reschedule, reschedule_groups, timeouts_of}
+use Rattle.aio_body.proofs.May.{idle_some}
+use Rattle.aio_body.proofs.TimeoutsOn.{goes_timed, leaves_reschedule, reschedule_groups, timeouts_of}
 use Rattle.aio_serve.proofs.Saying.{raises_so}
 use Rattle.aio_serve.proofs.Timing.{deadline_unfit, delay_is, finished_so, given_as, no_delay, refused_so, reschedule_unfit, rescheduled_so, steps_none_some}
 use Rattle.aio_serve.proofs.timeouts.reschedule.Goals as goal

@@ -1,6 +1,6 @@
 use Rattle.std.proofs.Common.{ap, ◌∙◌}
 use Rattle.aio_task.specs.View.{View}
-use Rattle.law_body.proofs.May.{idle_of}
+use Rattle.aio_body.proofs.May.{idle_of}
 use Rattle.aio_serve.proofs.waiting.alarm.Goals as goal
 
 pub new_plain-requires : goal.new_plain-requires

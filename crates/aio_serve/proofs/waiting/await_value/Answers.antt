@@ -8,8 +8,8 @@ use Rattle.model_machine.specs.Replies.{awaits_as}
 use Rattle.aio_body.specs.declared.reply.RequestReply.TheVariants.{Rests}
 use Rattle.aio_body.specs.Asked.{Says}
 use Rattle.aio_extra.specs.Added.{named_in}
-use Rattle.law_body.proofs.May.{going_of, idle_of, running_of}
-use Rattle.law_body.proofs.Rooms.{waits_so}
+use Rattle.aio_body.proofs.May.{going_of, idle_of, running_of}
+use Rattle.aio_body.proofs.Rooms.{waits_so}
 use Rattle.aio_serve.proofs.Reading.{awaited_as, outcome_read}
 use Rattle.aio_serve.proofs.Resting.{await_means, await_refused, awaited_spares, awaited_waits}
 use Rattle.aio_serve.proofs.Saying.{raises_so, replied_so}

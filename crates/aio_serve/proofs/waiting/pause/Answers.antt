@@ -1,5 +1,5 @@
-use Rattle.law_body.proofs.May.{idle_of, running_of}
-use Rattle.law_body.proofs.Rooms.{pauses_so}
+use Rattle.aio_body.proofs.May.{idle_of, running_of}
+use Rattle.aio_body.proofs.Rooms.{pauses_so}
 use Rattle.aio_serve.proofs.waiting.pause.Goals as goal
 
 pub pause-requires-clause-idle : goal.pause-requires-clause-idle

@@ -3,15 +3,15 @@ use Rattle.model_value.specs.declared.action.Action.TheVariants.{SleepDone}
 use Rattle.model_loop.specs.Futures.{is_pending_at}
 use Rattle.model_loop.specs.Parts.{Future, Plain}
 use Rattle.law_cancel.proofs.Lookups.{get-push_last}
-use Rattle.law_kept.proofs.Telling.{next_kept}
+use Rattle.refine_parts.proofs.Telling.{next_kept}
 use Rattle.aio_timer.specs.Schedule.{placed_after, timer}
 use Rattle.aio_body.specs.declared.body.Body.{Body}
 use Rattle.aio_body.specs.declared.standing.Standing.TheVariants.{Sleeping}
 use Rattle.aio_body.specs.Slots.{standing_at}
-use Rattle.law_body.proofs.Asleep.{sleeps_so}
-use Rattle.law_body.proofs.May.{idle_of, running_of}
-use Rattle.law_body.proofs.Sound.{plain_named}
-use Rattle.law_body.proofs.HasSlot.{slot_there, within_going}
+use Rattle.aio_body.proofs.Asleep.{sleeps_so}
+use Rattle.aio_body.proofs.May.{idle_of, running_of}
+use Rattle.aio_body.proofs.Sound.{plain_named}
+use Rattle.aio_body.proofs.HasSlot.{slot_there, within_going}
 use Rattle.aio_serve.proofs.waiting.sleep_for.Goals as goal
 
 pub suspend-suspension-requires-clause-idle : goal.suspend-suspension-requires-clause-idle

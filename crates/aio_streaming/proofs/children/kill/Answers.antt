@@ -5,11 +5,11 @@ use Rattle.model_loop.specs.Futures.{next_future}
 use Rattle.model_loop.specs.Owning.{is_plain}
 use Rattle.model_stream.specs.Requests.{kill}
 use Rattle.aio_wire.specs.Port.{ported}
-use Rattle.law_trees.proofs.Asking.{kills}
+use Rattle.law_cases.proofs.Asking.{kills}
 use Rattle.aio_body.specs.Asking.{Comes, serving}
-use Rattle.law_body.proofs.Alone.{refused_alone}
-use Rattle.law_does.proofs.Forgetting.{kill_forgets}
-use Rattle.law_does.proofs.Meaning.{kill_means, kill_refused}
+use Rattle.aio_body.proofs.Alone.{refused_alone}
+use Rattle.refine_streams.proofs.Forgetting.{kill_forgets}
+use Rattle.refine_streams.proofs.Meaning.{kill_means, kill_refused}
 use Rattle.aio_streaming.proofs.Ending.{done_so, events_beside}
 use Rattle.aio_streaming.proofs.children.kill.Goals as goal
 

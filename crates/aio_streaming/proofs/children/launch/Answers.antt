@@ -9,14 +9,14 @@ use Rattle.model_stream.specs.Streams.{launch}
 use Rattle.model_machine.specs.Replies.{launches_as}
 use Rattle.model_machine.specs.State.{State}
 use Rattle.aio_wire.specs.Port.{ported}
-use Rattle.law_trees.specs.Trees.{WaitsNever}
-use Rattle.law_trees.proofs.Opening.{launches}
+use Rattle.law_cases.specs.Trees.{WaitsNever}
+use Rattle.law_cases.proofs.Opening.{launches}
 use Rattle.aio_body.specs.Asking.{Comes, serving}
-use Rattle.law_body.proofs.Alone.{refused_alone, serves_without}
-use Rattle.law_does.proofs.Forgetting.{launch_forgets}
-use Rattle.law_does.proofs.Meaning.{launch_means, launch_past, launch_refused}
-use Rattle.law_does.proofs.Nexts.{launches_add}
-use Rattle.law_does.proofs.Served.{asking_idle, asking_owned}
+use Rattle.aio_body.proofs.Alone.{refused_alone, serves_without}
+use Rattle.refine_streams.proofs.Forgetting.{launch_forgets}
+use Rattle.refine_streams.proofs.Meaning.{launch_means, launch_past, launch_refused}
+use Rattle.refine_streams.proofs.Nexts.{launches_add}
+use Rattle.refine_streams.proofs.Served.{asking_idle, asking_owned}
 use Rattle.aio_streaming.specs.Answered.{answered_by, launched_as}
 use Rattle.aio_streaming.proofs.Answered.{answered_so}
 use Rattle.aio_streaming.proofs.children.launch.Goals as goal

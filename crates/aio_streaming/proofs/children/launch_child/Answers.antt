@@ -1,6 +1,6 @@
 use Rattle.std.proofs.Common.{length, rules}
 use Rattle.model_stream.specs.Streams.{launch as plain_launch}
-use Rattle.law_doing.specs.Follows.{reach}
+use Rattle.aio_exchange.specs.Follows.{reach}
 use Rattle.aio_transports.specs.Standing.{Answers as AnswersTree}
 use Rattle.aio_streaming.proofs.Through.{through}
 use Rattle.aio_streaming.proofs.children.launch_child.Goals as goal

@@ -4,8 +4,8 @@ use Rattle.model_says.specs.Requests.{bad_argument}
 use Rattle.model_machine.specs.Replies as plain
 use Rattle.model_machine.specs.Replies.{code_of}
 use Rattle.aio_body.specs.declared.reply.RequestReply.TheVariants as said
-use Rattle.law_body.proofs.Alone.{serves_answer, serves_raise}
-use Rattle.law_does.proofs.Meaning.{code_means, code_refused}
+use Rattle.aio_body.proofs.Alone.{serves_answer, serves_raise}
+use Rattle.refine_streams.proofs.Meaning.{code_means, code_refused}
 use Rattle.aio_streaming.proofs.children.returncode.Goals as goal
 
 pub returns-in-None : goal.returns-in-None

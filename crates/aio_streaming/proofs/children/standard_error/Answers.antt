@@ -3,8 +3,8 @@ use Rattle.model_value.specs.declared.request.Request.TheVariants as request
 use Rattle.model_value.specs.Value.{Errs}
 use Rattle.model_says.specs.Requests.{bad_argument}
 use Rattle.aio_body.specs.declared.reply.RequestReply.TheVariants as said
-use Rattle.law_body.proofs.Alone.{serves_answer, serves_raise}
-use Rattle.law_does.proofs.Meaning.{errors_mean, errors_refused}
+use Rattle.aio_body.proofs.Alone.{serves_answer, serves_raise}
+use Rattle.refine_streams.proofs.Meaning.{errors_mean, errors_refused}
 use Rattle.aio_streaming.proofs.children.standard_error.Goals as goal
 
 pub returns-in-None : goal.returns-in-None

@@ -7,13 +7,13 @@ use Rattle.model_loop.specs.Futures.{next_future}
 use Rattle.model_loop.specs.Owning.{is_plain}
 use Rattle.model_stream.specs.Requests.{wait}
 use Rattle.model_machine.specs.Replies.{awaits_exit_as}
-use Rattle.law_trees.specs.Trees.{ExitWaits, IsMade}
-use Rattle.law_trees.proofs.Asking.{waits}
+use Rattle.law_cases.specs.Trees.{ExitWaits, IsMade}
+use Rattle.law_cases.proofs.Asking.{waits}
 use Rattle.aio_body.specs.declared.reply.RequestReply.TheVariants as said
 use Rattle.aio_body.specs.Asked.{Serves}
-use Rattle.law_body.proofs.Alone.{serves_raise}
-use Rattle.law_does.proofs.Meaning.{wait_means, wait_refused}
-use Rattle.law_does.proofs.Served.{asking_answers, asking_idle, asking_owned, asking_pending, asking_rests, asking_running}
+use Rattle.aio_body.proofs.Alone.{serves_raise}
+use Rattle.refine_streams.proofs.Meaning.{wait_means, wait_refused}
+use Rattle.refine_streams.proofs.Served.{asking_answers, asking_idle, asking_owned, asking_pending, asking_rests, asking_running}
 use Rattle.aio_streaming.proofs.children.wait_child.Goals as goal
 
 pub returns-in_default : goal.returns-in_default

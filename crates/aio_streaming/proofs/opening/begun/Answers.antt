@@ -1,6 +1,6 @@
 use Rattle.std.proofs.Common.{length, rules}
 use Rattle.model_stream.specs.Streams.{connect as plain_connect}
-use Rattle.law_doing.specs.Follows.{reach}
+use Rattle.aio_exchange.specs.Follows.{reach}
 use Rattle.aio_transports.specs.Standing.{Answers as AnswersTree}
 use Rattle.aio_streaming.proofs.Through.{through}
 use Rattle.aio_streaming.proofs.opening.begun.Goals as goal

@@ -6,9 +6,9 @@ use Rattle.model_says.specs.Requests.{bad_argument}
 use Rattle.model_machine.specs.Replies.{bad_port}
 use Rattle.aio_wire.specs.Port.{ported}
 use Rattle.aio_body.specs.Asking.{Comes, serving}
-use Rattle.law_body.proofs.Alone.{refused_alone}
-use Rattle.law_does.proofs.Meaning.{connect_no_port, connect_past}
-use Rattle.law_does.proofs.Served.{asking_idle, asking_owned}
+use Rattle.aio_body.proofs.Alone.{refused_alone}
+use Rattle.refine_streams.proofs.Meaning.{connect_no_port, connect_past}
+use Rattle.refine_streams.proofs.Served.{asking_idle, asking_owned}
 use Rattle.aio_streaming.specs.Ports.{port_in}
 use Rattle.aio_streaming.proofs.Connects.{connect_fails, connect_idle, connect_pending, connect_raises, connect_running, connect_stands, connect_there}
 use Rattle.aio_streaming.proofs.Opens.{connects_nowhere, connects_to}

@@ -9,13 +9,13 @@ use Rattle.model_stream.specs.Streams.{listen}
 use Rattle.model_machine.specs.Replies.{bad_port, listens_as}
 use Rattle.model_machine.specs.State.{State}
 use Rattle.aio_wire.specs.Port.{ported}
-use Rattle.law_trees.specs.Trees.{WaitsNever}
-use Rattle.law_trees.proofs.Opening.{listens}
+use Rattle.law_cases.specs.Trees.{WaitsNever}
+use Rattle.law_cases.proofs.Opening.{listens}
 use Rattle.aio_body.specs.Asking.{Comes, serving}
-use Rattle.law_body.proofs.Alone.{refused_alone}
-use Rattle.law_does.proofs.Forgetting.{listen_forgets}
-use Rattle.law_does.proofs.Meaning.{listen_past, listen_refused}
-use Rattle.law_does.proofs.Nexts.{listens_add}
+use Rattle.aio_body.proofs.Alone.{refused_alone}
+use Rattle.refine_streams.proofs.Forgetting.{listen_forgets}
+use Rattle.refine_streams.proofs.Meaning.{listen_past, listen_refused}
+use Rattle.refine_streams.proofs.Nexts.{listens_add}
 use Rattle.aio_streaming.specs.Answered.{answered_by, listened_as}
 use Rattle.aio_streaming.specs.Ports.{port_in}
 use Rattle.aio_streaming.proofs.Answered.{answered_so}

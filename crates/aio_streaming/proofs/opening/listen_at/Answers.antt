@@ -1,6 +1,6 @@
 use Rattle.std.proofs.Common.{rules}
 use Rattle.model_stream.specs.Streams.{listen as plain_listen}
-use Rattle.law_doing.specs.Follows.{reach}
+use Rattle.aio_exchange.specs.Follows.{reach}
 use Rattle.aio_transports.specs.Standing.{Answers as AnswersTree}
 use Rattle.aio_streaming.proofs.Through.{through}
 use Rattle.aio_streaming.proofs.opening.listen_at.Goals as goal

@@ -6,8 +6,8 @@ use Rattle.model_says.specs.Requests.{bad_argument}
 use Rattle.model_stream.specs.declared.read_op.ReadOp.TheVariants.{UpTo}
 use Rattle.model_machine.specs.Replies.{reads, reads_all}
 use Rattle.aio_transports.specs.Readers.{reader_as}
-use Rattle.law_body.proofs.Alone.{serves_raise}
-use Rattle.law_does.proofs.Meaning.{read_no_count, read_of_none}
+use Rattle.aio_body.proofs.Alone.{serves_raise}
+use Rattle.refine_streams.proofs.Meaning.{read_no_count, read_of_none}
 use Rattle.aio_streaming.specs.Counts.{natural_in}
 use Rattle.aio_streaming.proofs.Looks.{possible_asking, read_counts, read_whole, serves_on}
 use Rattle.aio_streaming.proofs.reading.read.Goals as goal

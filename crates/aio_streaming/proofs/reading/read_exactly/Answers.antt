@@ -6,8 +6,8 @@ use Rattle.model_says.specs.Requests.{bad_argument}
 use Rattle.model_stream.specs.declared.read_op.ReadOp.TheVariants.{Exactly}
 use Rattle.model_machine.specs.Replies.{reads}
 use Rattle.aio_transports.specs.Readers.{reader_as}
-use Rattle.law_body.proofs.Alone.{serves_raise}
-use Rattle.law_does.proofs.Meaning.{exactly_means, exactly_no_count, exactly_of_none}
+use Rattle.aio_body.proofs.Alone.{serves_raise}
+use Rattle.refine_streams.proofs.Meaning.{exactly_means, exactly_no_count, exactly_of_none}
 use Rattle.aio_streaming.proofs.Looks.{possible_asking, serves_on}
 use Rattle.aio_streaming.proofs.reading.read_exactly.Goals as goal
 

@@ -5,8 +5,8 @@ use Rattle.model_says.specs.Requests.{bad_argument}
 use Rattle.model_stream.specs.declared.read_op.ReadOp.TheVariants.{Line}
 use Rattle.model_machine.specs.Replies.{reads}
 use Rattle.aio_transports.specs.Readers.{reader_as}
-use Rattle.law_body.proofs.Alone.{serves_raise}
-use Rattle.law_does.proofs.Meaning.{line_means, line_refused}
+use Rattle.aio_body.proofs.Alone.{serves_raise}
+use Rattle.refine_streams.proofs.Meaning.{line_means, line_refused}
 use Rattle.aio_streaming.proofs.Looks.{possible_asking, serves_on}
 use Rattle.aio_streaming.proofs.reading.read_line.Goals as goal
 

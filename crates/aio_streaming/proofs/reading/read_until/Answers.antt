@@ -6,8 +6,8 @@ use Rattle.model_stream.specs.declared.read_op.ReadOp.TheVariants.{Until}
 use Rattle.model_machine.specs.Arguments.{as_bytes}
 use Rattle.model_machine.specs.Replies.{reads}
 use Rattle.aio_transports.specs.Readers.{reader_as}
-use Rattle.law_body.proofs.Alone.{serves_raise}
-use Rattle.law_does.proofs.Meaning.{until_means, until_no_bytes, until_of_none}
+use Rattle.aio_body.proofs.Alone.{serves_raise}
+use Rattle.refine_streams.proofs.Meaning.{until_means, until_no_bytes, until_of_none}
 use Rattle.aio_streaming.proofs.Looks.{possible_asking, serves_on}
 use Rattle.aio_streaming.proofs.reading.read_until.Goals as goal
 

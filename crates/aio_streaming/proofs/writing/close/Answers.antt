@@ -8,14 +8,14 @@ use Rattle.model_stream.specs.Requests.{close}
 use Rattle.model_stream.specs.Streams.{close_server}
 use Rattle.model_machine.specs.Arguments.{AServer, AWriter}
 use Rattle.aio_wire.specs.Port.{ported}
-use Rattle.law_trees.proofs.Asking.{closes}
-use Rattle.law_trees.proofs.Opening.{closes_server}
+use Rattle.law_cases.proofs.Asking.{closes}
+use Rattle.law_cases.proofs.Opening.{closes_server}
 use Rattle.aio_opened.specs.Closing.{closable_as}
 use Rattle.aio_body.specs.Asking.{Comes, serving}
-use Rattle.law_body.proofs.Alone.{refused_alone}
-use Rattle.law_does.proofs.Forgetting.{close_forgets, close_server_forgets}
-use Rattle.law_does.proofs.Meaning.{close_means, close_refused}
-use Rattle.law_does.proofs.Served.{asking_idle, asking_owned}
+use Rattle.aio_body.proofs.Alone.{refused_alone}
+use Rattle.refine_streams.proofs.Forgetting.{close_forgets, close_server_forgets}
+use Rattle.refine_streams.proofs.Meaning.{close_means, close_refused}
+use Rattle.refine_streams.proofs.Served.{asking_idle, asking_owned}
 use Rattle.aio_streaming.specs.Done.{done_as}
 use Rattle.aio_streaming.proofs.Ending.{done_so, told_beside}
 use Rattle.aio_streaming.proofs.Writes.{told_so}

@@ -4,8 +4,8 @@ use Rattle.std.proofs.lemmas.Result.{IfOk-weaker}
 use Rattle.model_value.specs.declared.request.Request.TheVariants as request
 use Rattle.model_says.specs.Requests.{bad_argument}
 use Rattle.aio_body.specs.Asked.{Says}
-use Rattle.law_body.proofs.Alone.{serves_raise}
-use Rattle.law_does.proofs.Meaning.{drain_means, drain_refused}
+use Rattle.aio_body.proofs.Alone.{serves_raise}
+use Rattle.refine_streams.proofs.Meaning.{drain_means, drain_refused}
 use Rattle.aio_streaming.proofs.Writes.{runs_asked}
 use Rattle.aio_streaming.proofs.writing.drain.Goals as goal
 

@@ -5,10 +5,10 @@ use Rattle.model_says.specs.Requests.{bad_argument}
 use Rattle.model_loop.specs.Futures.{next_future}
 use Rattle.model_loop.specs.Owning.{is_plain}
 use Rattle.model_stream.specs.Requests.{limits}
-use Rattle.law_trees.proofs.Asking.{limits_keep}
+use Rattle.law_cases.proofs.Asking.{limits_keep}
 use Rattle.aio_body.specs.Delay.{number_of}
-use Rattle.law_body.proofs.Alone.{serves_raise}
-use Rattle.law_does.proofs.Meaning.{limits_mean, limits_no_high, limits_no_low, limits_to_none}
+use Rattle.aio_body.proofs.Alone.{serves_raise}
+use Rattle.refine_streams.proofs.Meaning.{limits_mean, limits_no_high, limits_no_low, limits_to_none}
 use Rattle.aio_streaming.proofs.Writes.{limited_so}
 use Rattle.aio_streaming.proofs.writing.limits.Goals as goal
 

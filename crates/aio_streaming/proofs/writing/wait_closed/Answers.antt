@@ -7,8 +7,8 @@ use Rattle.model_says.specs.Requests.{bad_argument}
 use Rattle.model_machine.specs.Replies.{awaits_closed_as}
 use Rattle.aio_body.specs.declared.reply.RequestReply.TheVariants.{Answers}
 use Rattle.aio_body.specs.Asked.{Says}
-use Rattle.law_body.proofs.Alone.{serves_answer, serves_raise}
-use Rattle.law_does.proofs.Meaning.{closed_means, closed_refused}
+use Rattle.aio_body.proofs.Alone.{serves_answer, serves_raise}
+use Rattle.refine_streams.proofs.Meaning.{closed_means, closed_refused}
 use Rattle.aio_streaming.proofs.Waits.{closed_kept, keeps_asked}
 use Rattle.aio_streaming.proofs.writing.wait_closed.Goals as goal
 

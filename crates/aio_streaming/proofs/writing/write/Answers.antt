@@ -10,14 +10,14 @@ use Rattle.model_stream.specs.Requests.{write}
 use Rattle.model_machine.specs.Replies.{writes_as}
 use Rattle.model_machine.specs.State.{State}
 use Rattle.aio_wire.specs.Port.{ported}
-use Rattle.law_trees.specs.Trees.{WaitsNever}
-use Rattle.law_trees.proofs.Asking.{writes}
+use Rattle.law_cases.specs.Trees.{WaitsNever}
+use Rattle.law_cases.proofs.Asking.{writes}
 use Rattle.aio_body.specs.Asking.{Comes, serving}
-use Rattle.law_body.proofs.Alone.{refused_alone}
-use Rattle.law_does.proofs.Forgetting.{write_forgets}
-use Rattle.law_does.proofs.Meaning.{write_means, write_of_none, write_to_none}
-use Rattle.law_does.proofs.Nexts.{writes_add}
-use Rattle.law_does.proofs.Served.{asking_idle, asking_owned}
+use Rattle.aio_body.proofs.Alone.{refused_alone}
+use Rattle.refine_streams.proofs.Forgetting.{write_forgets}
+use Rattle.refine_streams.proofs.Meaning.{write_means, write_of_none, write_to_none}
+use Rattle.refine_streams.proofs.Nexts.{writes_add}
+use Rattle.refine_streams.proofs.Served.{asking_idle, asking_owned}
 use Rattle.aio_streaming.specs.Answered.{answered_by, wrote_as}
 use Rattle.aio_streaming.proofs.Answered.{answered_so}
 use Rattle.aio_streaming.proofs.writing.write.Goals as goal

@@ -1,6 +1,6 @@
 use Rattle.std.proofs.Common.{rules}
 use Rattle.model_stream.specs.Requests.{write_eof as plain_write_eof}
-use Rattle.law_doing.specs.Follows.{reach}
+use Rattle.aio_exchange.specs.Follows.{reach}
 use Rattle.aio_transports.specs.Standing.{Comes as Changes}
 use Rattle.aio_streaming.proofs.Through.{through}
 use Rattle.aio_streaming.proofs.writing.write_end.Goals as goal

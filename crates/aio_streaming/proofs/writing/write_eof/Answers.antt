@@ -5,12 +5,12 @@ use Rattle.model_loop.specs.Futures.{next_future}
 use Rattle.model_loop.specs.Owning.{is_plain}
 use Rattle.model_stream.specs.Requests.{write_eof}
 use Rattle.aio_wire.specs.Port.{ported}
-use Rattle.law_trees.proofs.Asking.{ends}
+use Rattle.law_cases.proofs.Asking.{ends}
 use Rattle.aio_body.specs.Asking.{Comes, serving}
-use Rattle.law_body.proofs.Alone.{refused_alone}
-use Rattle.law_does.proofs.Forgetting.{write_eof_forgets}
-use Rattle.law_does.proofs.Meaning.{eof_means, eof_refused}
-use Rattle.law_does.proofs.Served.{asking_idle, asking_owned}
+use Rattle.aio_body.proofs.Alone.{refused_alone}
+use Rattle.refine_streams.proofs.Forgetting.{write_eof_forgets}
+use Rattle.refine_streams.proofs.Meaning.{eof_means, eof_refused}
+use Rattle.refine_streams.proofs.Served.{asking_idle, asking_owned}
 use Rattle.aio_streaming.proofs.Ending.{done_so}
 use Rattle.aio_streaming.proofs.writing.write_eof.Goals as goal
 

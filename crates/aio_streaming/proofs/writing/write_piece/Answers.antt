@@ -1,6 +1,6 @@
 use Rattle.std.proofs.Common.{rules}
 use Rattle.model_stream.specs.Requests.{write as plain_write}
-use Rattle.law_doing.specs.Follows.{reach}
+use Rattle.aio_exchange.specs.Follows.{reach}
 use Rattle.aio_transports.specs.Standing.{Answers as AnswersTree}
 use Rattle.aio_streaming.proofs.Through.{through}
 use Rattle.aio_streaming.proofs.writing.write_piece.Goals as goal

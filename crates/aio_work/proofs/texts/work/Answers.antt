@@ -2,9 +2,9 @@ use Rattle.std.proofs.Common.{◌++◌, ap, sym, ◌∙◌}
 use Rattle.model_text.specs.Scripts.{script_of}
 use Rattle.model_wire.specs.JournalText.{entries_of}
 use Rattle.model_work.specs.Work.{script, journal}
-use Rattle.law_work.proofs.Texts.{program-written}
-use Rattle.law_work.proofs.Scripts.{script-read}
-use Rattle.law_work.proofs.Journals.{entries-of-journal}
+use Rattle.law_journal.proofs.Texts.{program-written}
+use Rattle.law_journal.proofs.Scripts.{script-read}
+use Rattle.law_journal.proofs.WorkJournals.{entries-of-journal}
 use Rattle.aio_work.proofs.texts.work.Goals as goal
 
 pub returns-clause-accepted : goal.returns-clause-accepted

@@ -1,4 +1,4 @@
-use Rattle.law_answered.proofs.Answering.{plain_futures}
+use Rattle.law_replies.proofs.Answering.{plain_futures}
 use Rattle.law_replies.proofs.Replying.{fits_in, reply_in}
 use Rattle.law_replies.proofs.requests.requests_are_fit.Goals as goal
 

@@ -1,6 +1,6 @@
 use Rattle.model_machine.specs.Extra.{no_extra}
 use Rattle.model_machine.specs.State.{start}
-use Rattle.law_machine.proofs.Beginning.{begins_sound}
+use Rattle.law_runs.proofs.FirstState.{begins_sound}
 use Rattle.law_runs.proofs.Nothing.{nothing_keeps}
 use Rattle.law_runs.proofs.Turning.{run_in}
 use Rattle.law_runs.proofs.runs.every_state_of_a_run_is_sound.Goals as goal

@@ -3,7 +3,7 @@ use Rattle.std.proofs.lemmas.Bool.{false≢true}
 use Rattle.model_value.specs.Action.{Action}
 use Rattle.model_value.specs.declared.action.Action.TheVariants.{Fires}
 use Rattle.model_loop.specs.Deadlines.{fires}
-use Rattle.law_timeouts.specs.Tags.{is_deadline}
+use Rattle.law_groups.specs.Tags.{is_deadline}
 use Rattle.law_sound.proofs.Registering.{register_step_sound, soon_step_sound}
 use Rattle.law_sound.proofs.Steps.{unfollowed_sound}
 use Rattle.law_sound.proofs.callbacks.what_steps_nothing_comes_and_goes.Goals as goal

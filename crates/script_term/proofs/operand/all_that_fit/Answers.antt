@@ -1,7 +1,7 @@
 use Rattle.std.proofs.Common.{map, [], ◌∷◌, sym, ap, ◌∙◌}
 use Rattle.std.proofs.lemmas.List.{map-append}
 use Rattle.model_text.specs.Levels.{all_of}
-use Rattle.law_reading.specs.Operands.{that_fits}
+use Rattle.algorithm_reading.specs.Operands.{that_fits}
 use Rattle.script_term.specs.Operand.{plain_operand, with_last}
 use Rattle.script_term.proofs.Lists.{all_of-append_one}
 use Rattle.script_term.proofs.operand.all_that_fit.Goals as goal

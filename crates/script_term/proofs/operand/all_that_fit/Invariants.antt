@@ -1,6 +1,6 @@
 use Rattle.std.proofs.Common.{◌≡◌, map, option_map}
 use Rattle.model_text.specs.Levels.{all_of}
-use Rattle.law_reading.specs.Operands.{that_fits}
+use Rattle.algorithm_reading.specs.Operands.{that_fits}
 use Rattle.script_term.specs.Operand.{plain_operand}
 use Rattle.script_term.proofs.operand.all_that_fit.Given as goal
 

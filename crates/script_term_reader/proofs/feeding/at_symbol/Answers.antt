@@ -1,7 +1,7 @@
 use Rattle.std.proofs.Common.{◌≡◌, List, option_and_then, ◌∙◌}
 use Rattle.std.proofs.lemmas.Result.{IfOk-weaker}
-use Rattle.law_reading.specs.Reader.{Open as OpenBracket, AtOperand, reading}
-use Rattle.law_reading.specs.Feeding.{infix_of, behind_infix, at_symbol}
+use Rattle.algorithm_reading.specs.Reader.{Open as OpenBracket, AtOperand, reading}
+use Rattle.algorithm_reading.specs.Feeding.{infix_of, behind_infix, at_symbol}
 use Rattle.script_term.specs.Operand.{plain_operand}
 use Rattle.script_term_reader.specs.Next.{applied}
 use Rattle.script_term_reader.proofs.Others.{at_symbol-other}

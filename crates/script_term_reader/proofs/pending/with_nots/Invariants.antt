@@ -1,5 +1,5 @@
 use Rattle.std.proofs.Common.{◌≡◌, ◌-◌}
-use Rattle.law_reading.specs.Pending.{with_nots}
+use Rattle.algorithm_reading.specs.Pending.{with_nots}
 use Rattle.script_term.specs.Operand.{plain_operand}
 use Rattle.script_term_reader.proofs.pending.with_nots.Given as goal
 

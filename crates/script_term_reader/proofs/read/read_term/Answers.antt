@@ -1,9 +1,9 @@
 use Rattle.std.proofs.Common.{◌≡◌, ◌+◌, map, option_map, reverse, get_or, sym, ap, ◌∙◌, arith}
 use Rattle.std.proofs.lemmas.Result.{IfOk-weaker}
 use Rattle.model_text.specs.Levels.{term_of}
-use Rattle.law_reading.specs.Reader.{ReaderState}
-use Rattle.law_reading.specs.Operands.{capped}
-use Rattle.law_reading.specs.Feeding.{fed, finished}
+use Rattle.algorithm_reading.specs.Reader.{ReaderState}
+use Rattle.algorithm_reading.specs.Operands.{capped}
+use Rattle.algorithm_reading.specs.Feeding.{fed, finished}
 use Rattle.script_term.specs.declared.lexeme.Lexeme.{Lexeme}
 use Rattle.script_term.specs.Lexeme.{plain_lexeme}
 use Rattle.script_term.specs.Operand.{plain_operand}

@@ -1,6 +1,6 @@
 use Rattle.std.proofs.Common.{◌≡◌, map, take, reverse, fold}
-use Rattle.law_reading.specs.Reader.{reading, start}
-use Rattle.law_reading.specs.Feeding.{feed}
+use Rattle.algorithm_reading.specs.Reader.{reading, start}
+use Rattle.algorithm_reading.specs.Feeding.{feed}
 use Rattle.script_term.specs.Lexeme.{plain_lexeme}
 use Rattle.script_term_reader.proofs.read.read_term.Given as goal
 

@@ -3,7 +3,7 @@ use Rattle.std.proofs.lemmas.Result.{on_ok_weaker}
 use Rattle.model_stream.specs.Children.{Child, its_stdin, inlet}
 use Rattle.model_stream.specs.Doing.{on}
 use Rattle.model_stream.specs.Senders.{close_sender}
-use Rattle.law_doing.specs.Tells.{Tells}
+use Rattle.aio_exchange.specs.Tells.{Tells}
 use Rattle.aio_change.specs.Seen.{seen_changed}
 use Rattle.aio_change.proofs.ByPart.{told_on}
 use Rattle.aio_child.specs.Owned.{OwnsChild}

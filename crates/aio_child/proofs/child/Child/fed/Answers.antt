@@ -1,5 +1,5 @@
 use Rattle.std.proofs.Common.{◌∙◌, sym}
-use Rattle.law_doing.specs.Follows.{Reach, after_of, reach}
+use Rattle.aio_exchange.specs.Follows.{Reach, after_of, reach}
 use Rattle.aio_task.specs.View.{View}
 use Rattle.aio_child.proofs.Calling.{fed_loses, fed_on}
 use Rattle.aio_child.proofs.child.Child.fed.Goals as goal

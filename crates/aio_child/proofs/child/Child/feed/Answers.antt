@@ -3,7 +3,7 @@ use Rattle.model_stream.specs.declared.answers.Wrote.{Wrote}
 use Rattle.model_stream.specs.Children.{Child, its_stdin, inlet}
 use Rattle.model_stream.specs.Doing.{asked_on}
 use Rattle.model_stream.specs.Senders.{write}
-use Rattle.law_doing.specs.Follows.{Follows, Reach, with_after, reach}
+use Rattle.aio_exchange.specs.Follows.{Follows, Reach, with_after, reach}
 use Rattle.aio_task.specs.View.{View}
 use Rattle.aio_change.specs.Seen.{seen_changed}
 use Rattle.aio_change.proofs.ByPart.{went_asked_on}

@@ -5,7 +5,7 @@ use Rattle.model_pump.specs.declared.stream.Stream.TheVariants as stream
 use Rattle.model_stream.specs.Children.{Child, its_pipe}
 use Rattle.model_stream.specs.Doing.{asked_on}
 use Rattle.model_stream.specs.Receivers.{AllGot, read_all}
-use Rattle.law_doing.specs.Tells.{Tells}
+use Rattle.aio_exchange.specs.Tells.{Tells}
 use Rattle.aio_change.specs.Seen.{seen_changed}
 use Rattle.aio_change.proofs.ByPart.{told_asked_on}
 use Rattle.aio_receiver.specs.Gotten.{all_got}

@@ -1,6 +1,6 @@
 use Rattle.std.proofs.Common.{◌∙◌, sym}
 use Rattle.std.proofs.lemmas.Result.{err_from_is_err_and}
-use Rattle.law_doing.specs.Follows.{Reach, after_of, reach}
+use Rattle.aio_exchange.specs.Follows.{Reach, after_of, reach}
 use Rattle.aio_task.specs.View.{View}
 use Rattle.aio_child.proofs.Calling.{nothing_unsent, feeds_stopped, feeds_then}
 use Rattle.aio_child.proofs.child.Child.writable.Goals as goal

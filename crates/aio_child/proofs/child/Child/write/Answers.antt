@@ -1,5 +1,5 @@
 use Rattle.std.proofs.Common.{◌∙◌, sym}
-use Rattle.law_doing.specs.Follows.{Reach, reach, with_after}
+use Rattle.aio_exchange.specs.Follows.{Reach, reach, with_after}
 use Rattle.aio_task.specs.View.{View}
 use Rattle.aio_child.proofs.Calling.{dropped, writes}
 use Rattle.aio_child.proofs.child.Child.write.Goals as goal

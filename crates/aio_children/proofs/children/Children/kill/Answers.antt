@@ -1,7 +1,7 @@
 use Rattle.std.proofs.Common.{◌≡◌, List, None, Some, Ok, slice_get, subst}
 use Rattle.model_stream.specs.Children.{Child, kill}
 use Rattle.model_stream.specs.Requests as requests
-use Rattle.law_doing.specs.Follows.{Reach, reach}
+use Rattle.aio_exchange.specs.Follows.{Reach, reach}
 use Rattle.aio_task.specs.View.{View}
 use Rattle.aio_children.specs.Kept.{Kept}
 use Rattle.aio_children.specs.Standing.{Comes}

@@ -5,8 +5,8 @@ use Rattle.model_stream.specs.declared.put.Limited.TheVariants as limited
 use Rattle.model_stream.specs.Children.{Child, limits_child}
 use Rattle.model_stream.specs.Doing.{Doing}
 use Rattle.model_stream.specs.Requests.{limits}
-use Rattle.law_doing.specs.Tells.{Tells}
-use Rattle.law_doing.proofs.Telling.{tells_ends}
+use Rattle.aio_exchange.specs.Tells.{Tells}
+use Rattle.aio_exchange.proofs.Telling.{tells_ends}
 use Rattle.aio_change.specs.Seen.{seen_changed}
 use Rattle.aio_children.specs.Kept.{Kept}
 use Rattle.aio_children.specs.Owned.{OwnsChildren}

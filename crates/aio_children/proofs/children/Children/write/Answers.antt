@@ -2,7 +2,7 @@ use Rattle.std.proofs.Common.{Ok, slice_set, sym, subst}
 use Rattle.model_wire.specs.declared.event.Handed.TheVariants as to
 use Rattle.model_stream.specs.declared.answers.Wrote.TheVariants as wrote
 use Rattle.model_stream.specs.Requests.{write}
-use Rattle.law_doing.specs.Follows.{Reach, reach}
+use Rattle.aio_exchange.specs.Follows.{Reach, reach}
 use Rattle.aio_task.specs.View.{View}
 use Rattle.aio_children.specs.Kept.{Kept}
 use Rattle.aio_children.specs.Owned.{OwnsChildren}

@@ -1,5 +1,5 @@
 use Rattle.std.proofs.Common.{◌∙◌, sym}
-use Rattle.law_doing.specs.Follows.{Reach, reach}
+use Rattle.aio_exchange.specs.Follows.{Reach, reach}
 use Rattle.aio_task.specs.View.{View}
 use Rattle.aio_change.specs.Seen.{seen_changed}
 use Rattle.aio_connection.proofs.Calling.{down_before}

@@ -3,9 +3,9 @@ use Rattle.std.proofs.lemmas.Result.{err_from_is_err_and}
 use Rattle.model_wire.specs.declared.call.Call.TheVariants as call
 use Rattle.model_stream.specs.Connections.{close, unmade}
 use Rattle.model_stream.specs.Doing.{Ends}
-use Rattle.law_doing.specs.Follows.{Reach, reach}
-use Rattle.law_doing.proofs.Following.{follows_end, follows_starved}
-use Rattle.law_doing.proofs.Telling.{tells_follow}
+use Rattle.aio_exchange.specs.Follows.{Reach, reach}
+use Rattle.aio_exchange.proofs.Following.{follows_end, follows_starved}
+use Rattle.aio_exchange.proofs.Telling.{tells_follow}
 use Rattle.aio_task.specs.View.{View}
 use Rattle.aio_change.specs.Seen.{seen_changed}
 use Rattle.aio_change.proofs.AfterAsking.{asks_met, asks_on}

@@ -3,7 +3,7 @@ use Rattle.std.proofs.lemmas.Result.{IfOk-weaker, on_ok_weaker}
 use Rattle.model_stream.specs.Connections.{Connection, its_sender, outlet}
 use Rattle.model_stream.specs.Doing.{asked_on, on}
 use Rattle.model_stream.specs.Senders.{fail_sender}
-use Rattle.law_doing.specs.Tells.{Tells}
+use Rattle.aio_exchange.specs.Tells.{Tells}
 use Rattle.aio_change.specs.Seen.{seen_changed}
 use Rattle.aio_change.proofs.ByPart.{told_on}
 use Rattle.aio_connection.specs.Owned.{OwnsConnection}

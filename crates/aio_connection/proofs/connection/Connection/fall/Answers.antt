@@ -4,8 +4,8 @@ use Rattle.model_wire.specs.declared.call.Call.TheVariants as call
 use Rattle.model_stream.specs.Connections.{down, unmade, connect_refused}
 use Rattle.model_stream.specs.Doing.{Ends, Settle}
 use Rattle.model_value.specs.declared.outcome.Outcome.TheVariants.{Failed}
-use Rattle.law_doing.specs.Follows.{Reach, reach}
-use Rattle.law_doing.proofs.Following.{follows_end, follows_starved}
+use Rattle.aio_exchange.specs.Follows.{Reach, reach}
+use Rattle.aio_exchange.proofs.Following.{follows_end, follows_starved}
 use Rattle.aio_task.specs.View.{View}
 use Rattle.aio_change.specs.Seen.{seen_changed}
 use Rattle.aio_change.specs.Owned.{IsOwn, IsOwnIfAny}

@@ -2,8 +2,8 @@ use Rattle.std.proofs.Common.{◌∙◌, refl, sym}
 use Rattle.std.proofs.lemmas.Result.{err_from_is_err_and}
 use Rattle.model_wire.specs.declared.call.Call.TheVariants as call
 use Rattle.model_stream.specs.Doing.{Ends}
-use Rattle.law_doing.specs.Follows.{Reach, after_of, reach}
-use Rattle.law_doing.proofs.Following.{follows_ends}
+use Rattle.aio_exchange.specs.Follows.{Reach, after_of, reach}
+use Rattle.aio_exchange.proofs.Following.{follows_ends}
 use Rattle.aio_task.specs.View.{View}
 use Rattle.aio_change.specs.Seen.{seen_changed}
 use Rattle.aio_change.proofs.AfterAsking.{asks_met, asks_on}

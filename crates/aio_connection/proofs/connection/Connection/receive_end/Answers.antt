@@ -2,7 +2,7 @@ use Rattle.std.proofs.Common.{refl, sym, subst}
 use Rattle.model_stream.specs.Connections.{Connection, its_receiver}
 use Rattle.model_stream.specs.Doing.{on}
 use Rattle.model_stream.specs.Receivers.{receive_end}
-use Rattle.law_doing.specs.Tells.{Tells}
+use Rattle.aio_exchange.specs.Tells.{Tells}
 use Rattle.aio_change.specs.Seen.{seen_changed}
 use Rattle.aio_change.proofs.ByPart.{told_on}
 use Rattle.aio_change.proofs.Owning.{told_keeps}

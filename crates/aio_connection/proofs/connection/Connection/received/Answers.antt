@@ -3,7 +3,7 @@ use Rattle.std.proofs.lemmas.Result.{on_ok_weaker}
 use Rattle.model_wire.specs.declared.answer.Answer.TheVariants as answer
 use Rattle.model_wire.specs.Call.{Answer}
 use Rattle.model_stream.specs.Connections.{received}
-use Rattle.law_doing.specs.Tells.{Tells}
+use Rattle.aio_exchange.specs.Tells.{Tells}
 use Rattle.aio_change.specs.Seen.{seen_changed}
 use Rattle.aio_connection.proofs.Calling.{reads_open}
 use Rattle.aio_connection.proofs.connection.Connection.received.Goals as goal

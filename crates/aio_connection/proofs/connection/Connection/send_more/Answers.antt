@@ -2,7 +2,7 @@ use Rattle.std.proofs.Common.{sym, subst, OnOk}
 use Rattle.model_stream.specs.Connections.{Connection, its_sender, outlet}
 use Rattle.model_stream.specs.Doing.{asked_on, on}
 use Rattle.model_stream.specs.Senders.{send_more}
-use Rattle.law_doing.specs.Follows.{Follows, Reach, after_of, reach}
+use Rattle.aio_exchange.specs.Follows.{Follows, Reach, after_of, reach}
 use Rattle.aio_task.specs.View.{View}
 use Rattle.aio_change.specs.Seen.{seen_changed}
 use Rattle.aio_change.proofs.ByPart.{went_on}

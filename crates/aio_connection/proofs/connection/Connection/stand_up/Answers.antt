@@ -3,7 +3,7 @@ use Rattle.model_value.specs.declared.action.Action.TheVariants.{Made, StartRead
 use Rattle.model_value.specs.declared.outcome.Outcome.TheVariants.{Value as Returned}
 use Rattle.model_stream.specs.Connections.{stand_up}
 use Rattle.model_stream.specs.Doing.{Settle}
-use Rattle.law_doing.specs.Tells.{Tells}
+use Rattle.aio_exchange.specs.Tells.{Tells}
 use Rattle.aio_task.specs.View.{View}
 use Rattle.aio_change.specs.Owned.{IsOwn, IsOwnIfAny}
 use Rattle.aio_change.specs.Seen.{seen_changed}

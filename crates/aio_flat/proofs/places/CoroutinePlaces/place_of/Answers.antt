@@ -1,7 +1,7 @@
 use Rattle.std.proofs.Common.{rules, ◌≡◌, sym, ap, ◌∙◌}
 use Rattle.model_tree.specs.Syntax.{Program}
 use Rattle.model_says.specs.Requests.{place_of}
-use Rattle.law_locals.proofs.Coroutines.{place-same}
+use Rattle.algorithm_locals.proofs.Coroutines.{place-same}
 use Rattle.aio_flat.proofs.places.CoroutinePlaces.place_of.Goals as goal
 
 pub returns : goal.returns

@@ -1,6 +1,6 @@
 use Rattle.std.proofs.Common.{◌++◌, ◌∷◌, [], ap}
 use Rattle.model_loop.specs.Parts as plain
-use Rattle.law_parts.specs.Shape.{members_of}
+use Rattle.algorithm_parts.specs.Shape.{members_of}
 use Rattle.aio_future.proofs.Puts.{some_lent, open_there, pending_held, wrote}
 use Rattle.aio_future.proofs.Unawaited.{wrote_keeps}
 use Rattle.aio_future.proofs.futures.Futures.add.Goals as goal

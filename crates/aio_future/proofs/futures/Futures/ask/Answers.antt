@@ -1,7 +1,7 @@
 use Rattle.std.proofs.Common.{ap, ◌∙◌}
 use Rattle.model_loop.specs.Parts as plain
 use Rattle.model_loop.specs.Futures.{asked_kind}
-use Rattle.law_parts.specs.Shape.{members_of}
+use Rattle.algorithm_parts.specs.Shape.{members_of}
 use Rattle.aio_future.proofs.Puts.{ask_released, wrote}
 use Rattle.aio_future.proofs.Unawaited.{asked_members, wrote_keeps}
 use Rattle.aio_future.proofs.futures.Futures.ask.Goals as goal

@@ -1,6 +1,6 @@
 use Rattle.std.proofs.Common.{ap, ◌∙◌}
 use Rattle.model_loop.specs.Parts as plain
-use Rattle.law_parts.specs.Shape.{members_of}
+use Rattle.algorithm_parts.specs.Shape.{members_of}
 use Rattle.law_cancel.proofs.Effects.{done_as}
 use Rattle.aio_ready.specs.Queue as queue
 use Rattle.aio_future.proofs.Puts.{some_lent, open_there, pending_held, wrote, was}

@@ -1,8 +1,8 @@
 -- Each operation is done as its own function says.
 use Rattle.std.proofs.Common.{◌≡◌, IfOk, sym, subst}
 use Rattle.std.proofs.lemmas.Result.{IfOk-weaker}
-use Rattle.law_flat.specs.Ops.{Op}
-use Rattle.law_flat.specs.Moves.{after_statement}
+use Rattle.algorithm_flat.specs.Ops.{Op}
+use Rattle.algorithm_flat.specs.Moves.{after_statement}
 use Rattle.aio_flat.specs.Code.{codes_of}
 use Rattle.aio_gen.specs.Plain.{plain_frames, plain_move}
 use Rattle.aio_gen.proofs.frames.Frames.after_statement.Goals as goal

@@ -1,7 +1,7 @@
 use Rattle.std.proofs.Common.{[], ap, ◌∙◌, None, sym, subst}
 use Rattle.model_value.specs.declared.request.Request.TheVariants as request
-use Rattle.law_locals.specs.Numbered.{numbered_program}
-use Rattle.law_flat.specs.Moves.{new_frame}
+use Rattle.algorithm_locals.specs.Numbered.{numbered_program}
+use Rattle.algorithm_flat.specs.Moves.{new_frame}
 use Rattle.aio_flat.specs.Code.{codes_of}
 use Rattle.aio_gen.specs.Gens.{StandsAt}
 use Rattle.aio_gen.specs.Plain.{plain_frame}

@@ -2,7 +2,7 @@ use Rattle.std.proofs.Common.{Option, sym, subst}
 use Rattle.model_value.specs.Value.{Exc}
 use Rattle.model_stream.specs.Reading.{fail}
 use Rattle.model_stream.specs.Receivers.{receive_loss}
-use Rattle.law_doing.specs.Tells.{Tells}
+use Rattle.aio_exchange.specs.Tells.{Tells}
 use Rattle.aio_change.specs.Seen.{seen_changed}
 use Rattle.aio_receiver.proofs.Waking.{woken_after}
 use Rattle.aio_receiver.proofs.receiver.Receiver.receive_loss.Goals as goal

@@ -1,10 +1,10 @@
 use Rattle.std.proofs.Common.{◌∙◌, [], refl, ap}
 use Rattle.std.proofs.lemmas.Result.{err_from_is_err_and}
 use Rattle.model_stream.specs.Senders.{Sender, lose_sender, loss_of, outcome_of, waiting_for_loss}
-use Rattle.law_doing.specs.Follows.{Reach, reach}
-use Rattle.law_doing.specs.Ways.{changed_on}
-use Rattle.law_doing.proofs.Following.{follows_starved}
-use Rattle.law_sender.specs.SoundSenders.{outlet_of}
+use Rattle.aio_exchange.specs.Follows.{Reach, reach}
+use Rattle.aio_exchange.specs.Ways.{changed_on}
+use Rattle.aio_exchange.proofs.Following.{follows_starved}
+use Rattle.law_stream.specs.SoundSenders.{outlet_of}
 use Rattle.aio_task.specs.View.{View}
 use Rattle.aio_change.specs.Owned.{settled_way}
 use Rattle.aio_change.specs.Seen.{seen_changed}

@@ -1,6 +1,6 @@
 use Rattle.std.proofs.Common.{ap}
 use Rattle.model_stream.specs.Senders.{schedule_loss}
-use Rattle.law_sender.specs.SoundSenders.{outlet_of}
+use Rattle.law_stream.specs.SoundSenders.{outlet_of}
 use Rattle.aio_sender.specs.Owned.{futures_of}
 use Rattle.aio_sender.proofs.Telling.{scheduled_so, still_own}
 use Rattle.aio_sender.proofs.sender.Sender.schedule_loss.Goals as goal

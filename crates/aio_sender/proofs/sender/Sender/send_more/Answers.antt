@@ -2,9 +2,9 @@ use Rattle.std.proofs.Common.{◌∙◌, Ok, Err, refl, sym, ap, subst}
 use Rattle.std.proofs.lemmas.Result.{err_from_is_err_and}
 use Rattle.model_stream.specs.Senders.{send_more, sent_more}
 use Rattle.model_stream.specs.Sending.{offer}
-use Rattle.law_doing.specs.Follows.{Reach, reach}
-use Rattle.law_doing.proofs.Following.{follows_starved}
-use Rattle.law_sender.specs.SoundSenders.{outlet_of}
+use Rattle.aio_exchange.specs.Follows.{Reach, reach}
+use Rattle.aio_exchange.proofs.Following.{follows_starved}
+use Rattle.law_stream.specs.SoundSenders.{outlet_of}
 use Rattle.aio_task.specs.View.{View}
 use Rattle.aio_change.specs.Seen.{seen_changed}
 use Rattle.aio_change.proofs.AfterAsking.{asks_met, asks_starved, asks_told}

@@ -4,8 +4,8 @@ use Rattle.model_value.specs.Value.{Nothing}
 use Rattle.model_value.specs.declared.outcome.Outcome.TheVariants.{Value as Returned}
 use Rattle.model_stream.specs.Senders.{Sender, sent}
 use Rattle.model_stream.specs.Sending.{took}
-use Rattle.law_doing.specs.Tells.{Tells}
-use Rattle.law_doing.specs.Ways.{changed_on}
+use Rattle.aio_exchange.specs.Tells.{Tells}
+use Rattle.aio_exchange.specs.Ways.{changed_on}
 use Rattle.aio_change.specs.Owned.{settled_way}
 use Rattle.aio_change.specs.Seen.{seen_changed}
 use Rattle.aio_change.proofs.Owning.{told_own}

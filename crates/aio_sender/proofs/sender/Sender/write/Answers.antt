@@ -3,9 +3,9 @@ use Rattle.std.proofs.lemmas.Result.{err_from_is_err_and}
 use Rattle.model_stream.specs.declared.answers.Wrote.TheVariants as wrote
 use Rattle.model_stream.specs.declared.put.Put.TheVariants as put_as
 use Rattle.model_stream.specs.Senders.{write}
-use Rattle.law_doing.specs.Follows.{Reach, reach}
-use Rattle.law_doing.proofs.Following.{follows_starved}
-use Rattle.law_sender.specs.SoundSenders.{outlet_of}
+use Rattle.aio_exchange.specs.Follows.{Reach, reach}
+use Rattle.aio_exchange.proofs.Following.{follows_starved}
+use Rattle.law_stream.specs.SoundSenders.{outlet_of}
 use Rattle.aio_task.specs.View.{View}
 use Rattle.aio_change.specs.Seen.{seen_changed}
 use Rattle.aio_sender.proofs.Offering.{write_stopped, wrote_at_once, wrote_offered}

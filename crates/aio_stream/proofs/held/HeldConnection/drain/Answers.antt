@@ -1,6 +1,6 @@
 use Rattle.std.proofs.Common.{IfOk, length, subst, ◌∙◌}
 use Rattle.model_stream.specs.Connections.{drain_of}
-use Rattle.law_doing.specs.Tells.{Tells}
+use Rattle.aio_exchange.specs.Tells.{Tells}
 use Rattle.aio_change.specs.Seen.{seen_changed}
 use Rattle.aio_stream.proofs.held.HeldConnection.drain.Goals as goal
 

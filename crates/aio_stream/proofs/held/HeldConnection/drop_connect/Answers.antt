@@ -1,8 +1,8 @@
 use Rattle.std.proofs.Common.{refl}
 use Rattle.std.proofs.lemmas.Result.{err_from_is_err_and}
 use Rattle.model_stream.specs.Connections.{drop_connect}
-use Rattle.law_doing.specs.Follows.{Reach, reach}
-use Rattle.law_doing.proofs.Following.{follows_starved}
+use Rattle.aio_exchange.specs.Follows.{Reach, reach}
+use Rattle.aio_exchange.proofs.Following.{follows_starved}
 use Rattle.aio_task.specs.View.{View}
 use Rattle.aio_change.specs.Seen.{seen_changed}
 use Rattle.aio_stream.proofs.held.HeldConnection.drop_connect.Goals as goal

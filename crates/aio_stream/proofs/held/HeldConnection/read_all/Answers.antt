@@ -2,7 +2,7 @@ use Rattle.std.proofs.Common.{IfOk, length, subst, ◌∙◌}
 use Rattle.model_stream.specs.Connections.{its_receiver}
 use Rattle.model_stream.specs.Doing.{asked_on}
 use Rattle.model_stream.specs.Receivers.{read_all}
-use Rattle.law_doing.specs.Tells.{Tells}
+use Rattle.aio_exchange.specs.Tells.{Tells}
 use Rattle.aio_change.specs.Seen.{seen_changed}
 use Rattle.aio_receiver.specs.Gotten.{all_got}
 use Rattle.aio_stream.proofs.held.HeldConnection.read_all.Goals as goal

@@ -1,6 +1,6 @@
 use Rattle.std.proofs.Common.{OnOk, sym, subst, ◌∙◌}
 use Rattle.model_stream.specs.Connections.{up}
-use Rattle.law_doing.specs.Tells.{Tells}
+use Rattle.aio_exchange.specs.Tells.{Tells}
 use Rattle.aio_change.specs.Seen.{seen_changed}
 use Rattle.aio_connection.specs.Owned.{OwnsConnection}
 use Rattle.aio_stream.proofs.held.HeldConnection.up.Goals as goal

@@ -5,8 +5,8 @@ use Rattle.model_stream.specs.Connections.{Connection, limits_of}
 use Rattle.model_stream.specs.Doing.{Doing}
 use Rattle.model_stream.specs.Requests.{asked_one}
 use Rattle.model_stream.specs.Streams.{its_connections}
-use Rattle.law_doing.specs.Tells.{Tells}
-use Rattle.law_doing.proofs.Telling.{tells_ends}
+use Rattle.aio_exchange.specs.Tells.{Tells}
+use Rattle.aio_exchange.proofs.Telling.{tells_ends}
 use Rattle.aio_change.specs.Seen.{seen_changed}
 use Rattle.aio_stream.specs.Kept.{Kept, all_opened}
 use Rattle.aio_stream.specs.Standing.{ToldWith}

@@ -1,7 +1,7 @@
 use Rattle.std.proofs.Common.{Ok, slice_set, sym, subst}
 use Rattle.model_stream.specs.Connections.{lose}
 use Rattle.model_stream.specs.Streams.{its_connections, on_one}
-use Rattle.law_doing.specs.Follows.{Reach, reach}
+use Rattle.aio_exchange.specs.Follows.{Reach, reach}
 use Rattle.aio_task.specs.View.{View}
 use Rattle.aio_stream.specs.Kept.{Kept, all_opened}
 use Rattle.aio_stream.specs.Owned.{OwnsStreams}

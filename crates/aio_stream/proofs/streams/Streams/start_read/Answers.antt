@@ -2,7 +2,7 @@ use Rattle.std.proofs.Common.{Result, Ok, slice_set, subst}
 use Rattle.model_stream.specs.Connections.{Connection, start_read}
 use Rattle.model_stream.specs.Doing.{Ends}
 use Rattle.model_stream.specs.Streams.{its_connections, on_one}
-use Rattle.law_doing.proofs.Telling.{tells_end}
+use Rattle.aio_exchange.proofs.Telling.{tells_end}
 use Rattle.aio_change.specs.Seen.{seen_changed}
 use Rattle.aio_stream.specs.Kept.{Kept, all_opened}
 use Rattle.aio_stream.specs.Standing.{Told}

@@ -2,7 +2,7 @@ use Rattle.std.proofs.Common.{Ok, slice_set, sym, subst}
 use Rattle.std.proofs.lemmas.Result.{on_ok_weaker}
 use Rattle.model_stream.specs.Connections as connection
 use Rattle.model_stream.specs.Requests as requests
-use Rattle.law_doing.specs.Follows.{Reach, reach}
+use Rattle.aio_exchange.specs.Follows.{Reach, reach}
 use Rattle.aio_task.specs.View.{View}
 use Rattle.aio_stream.specs.Kept.{Kept, all_opened}
 use Rattle.aio_stream.specs.Owned.{OwnsStreams}

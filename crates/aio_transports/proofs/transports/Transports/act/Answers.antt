@@ -3,7 +3,7 @@ use Rattle.std.proofs.lemmas.Result.{err_from_is_err_and}
 use Rattle.model_value.specs.declared.action.Action.TheVariants as action
 use Rattle.model_value.specs.Action.{Action}
 use Rattle.model_stream.specs.Streams.{act}
-use Rattle.law_doing.specs.Follows.{Reach, reach}
+use Rattle.aio_exchange.specs.Follows.{Reach, reach}
 use Rattle.aio_task.specs.View.{View}
 use Rattle.aio_listener.specs.Acts.{is_of_child}
 use Rattle.aio_transports.specs.Kept.{Kept, kept_all}

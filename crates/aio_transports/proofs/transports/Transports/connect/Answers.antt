@@ -1,6 +1,6 @@
 use Rattle.std.proofs.Common.{◌<◌, ◌^◌, length, sym, subst}
 use Rattle.model_stream.specs.Streams.{connect}
-use Rattle.law_doing.specs.Follows.{Reach, reach}
+use Rattle.aio_exchange.specs.Follows.{Reach, reach}
 use Rattle.aio_task.specs.View.{View}
 use Rattle.aio_transports.specs.Kept.{Kept, kept_all}
 use Rattle.aio_transports.specs.Owned.{OwnsTransports}

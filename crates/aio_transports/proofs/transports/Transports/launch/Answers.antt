@@ -2,7 +2,7 @@ use Rattle.std.proofs.Common.{◌<◌, ◌^◌, Ok, Err, length, sym, subst}
 use Rattle.std.proofs.lemmas.Result.{err_from_is_err_and}
 use Rattle.model_stream.specs.Streams.{launch}
 use Rattle.aio_wire.specs.declared.stop.Stop.TheVariants as stop
-use Rattle.law_doing.specs.Follows.{Reach, reach}
+use Rattle.aio_exchange.specs.Follows.{Reach, reach}
 use Rattle.aio_task.specs.View.{View}
 use Rattle.aio_transports.specs.Kept.{Kept, kept_all}
 use Rattle.aio_transports.specs.Owned.{OwnsTransports}

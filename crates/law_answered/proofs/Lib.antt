@@ -1,4 +1,0 @@
-pub mod Answering
-pub mod Handling
-pub mod Standing
-pub mod Streaming

@@ -1,4 +1,0 @@
-pub mod Values
-pub mod Nesting
-pub mod Bodies
-pub mod Growing

@@ -1,5 +1,0 @@
-use Rattle.law_blocks.proofs.Growing.{leaves_innermost}
-use Rattle.law_blocks.proofs.blocks.exits_are_of_the_innermost_block.Goals as goal
-
-pub returns : goal.returns
-returns c = leaves_innermost

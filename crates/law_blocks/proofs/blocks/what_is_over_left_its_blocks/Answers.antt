@@ -1,8 +1,0 @@
-use Rattle.law_blocks.proofs.Growing.{over_returned, over_raised}
-use Rattle.law_blocks.proofs.blocks.what_is_over_left_its_blocks.Goals as goal
-
-pub returns-clause-returned : goal.returns-clause-returned
-returns-clause-returned c = over_returned
-
-pub returns-clause-raised : goal.returns-clause-raised
-returns-clause-raised c = over_raised

@@ -1,5 +1,0 @@
-use Rattle.law_body.proofs.Noting.{stands_noted}
-use Rattle.law_body.proofs.events.an_event_more_is_noted.Goals as goal
-
-pub returns : goal.returns
-returns g c = stands_noted

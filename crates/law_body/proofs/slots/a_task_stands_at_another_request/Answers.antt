@@ -1,5 +1,0 @@
-use Rattle.law_body.proofs.Slotting.{stands_standing}
-use Rattle.law_body.proofs.slots.a_task_stands_at_another_request.Goals as goal
-
-pub returns : goal.returns
-returns g c = stands_standing

@@ -1,5 +1,0 @@
-use Rattle.law_body.proofs.Rooms.{requests_so}
-use Rattle.law_body.proofs.steps.a_cancel_is_asked_for.Goals as goal
-
-pub returns : goal.returns
-returns g c = requests_so

@@ -1,5 +1,0 @@
-use Rattle.law_body.proofs.Rooms.{pauses_so}
-use Rattle.law_body.proofs.steps.a_pause_rests.Goals as goal
-
-pub returns : goal.returns
-returns g c = pauses_so

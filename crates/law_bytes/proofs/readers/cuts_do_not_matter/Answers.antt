@@ -1,5 +1,0 @@
-use Rattle.law_bytes.proofs.ReaderOrder.{two_cuts, all_cuts}
-use Rattle.law_bytes.proofs.readers.cuts_do_not_matter.Goals as goal
-
-pub returns : goal.returns
-returns c = record { two = two_cuts; all = all_cuts }

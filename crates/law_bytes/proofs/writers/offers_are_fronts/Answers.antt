@@ -1,5 +1,0 @@
-use Rattle.law_bytes.proofs.WriterOrder.{front_of_front}
-use Rattle.law_bytes.proofs.writers.offers_are_fronts.Goals as goal
-
-pub returns : goal.returns
-returns c = λ count w. front_of_front count 65536 w.unsent

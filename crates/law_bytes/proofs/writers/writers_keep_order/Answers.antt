@@ -1,5 +1,0 @@
-use Rattle.law_bytes.proofs.WriterOrder.{all_in_order}
-use Rattle.law_bytes.proofs.writers.writers_keep_order.Goals as goal
-
-pub returns : goal.returns
-returns c = all_in_order

@@ -1,3 +1,0 @@
-pub mod LinesByUntil
-pub mod ReaderSteps
-pub mod WriterSteps

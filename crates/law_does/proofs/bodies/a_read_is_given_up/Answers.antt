@@ -1,5 +1,0 @@
-use Rattle.law_does.proofs.GivingUp.{gives_up_so}
-use Rattle.law_does.proofs.bodies.a_read_is_given_up.Goals as goal
-
-pub returns : goal.returns
-returns g c = gives_up_so

@@ -1,4 +1,0 @@
-pub mod Alike
-pub mod Passed
-pub mod Streams
-pub mod Went

@@ -1,8 +1,0 @@
-use Rattle.law_doing.proofs.Following.{follows_stopped, follows_then}
-use Rattle.law_doing.proofs.asking.calls_go_on.Goals as goal
-
-pub returns : goal.returns
-returns g c = record {
-  goes = λ change. follows_then g.W.Wire.outside change;
-  stops = λ change. follows_stopped g.W.Wire.outside change;
-}

@@ -1,2 +1,0 @@
-pub mod Lexemes
-pub mod Known

@@ -1,4 +1,0 @@
-//! Laws of the canonical texts of expressions.
-#![tactic(auto)]
-
-pub mod canonical;

@@ -1,4 +1,0 @@
-pub mod AllFed
-pub mod AllLooks
-pub mod Fed
-pub mod Looks

@@ -1,5 +1,0 @@
-use Rattle.law_flat.proofs.Tapes.{input-moves}
-use Rattle.law_flat.proofs.laws.an_input_lengthens_the_tape.Goals as goal
-
-pub returns : goal.returns
-returns c = input-moves

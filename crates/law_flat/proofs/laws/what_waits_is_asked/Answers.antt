@@ -1,5 +1,0 @@
-use Rattle.law_flat.proofs.Tapes.{waits-says}
-use Rattle.law_flat.proofs.laws.what_waits_is_asked.Goals as goal
-
-pub returns : goal.returns
-returns c = waits-says

@@ -1,3 +1,0 @@
-pub mod Framed
-pub mod Framing
-pub mod Mildly

@@ -1,9 +1,0 @@
-use Rattle.law_fronts.proofs.OwnOrder as order
-use Rattle.law_fronts.proofs.own.children_keep_their_order.Goals as goal
-
-pub returns : goal.returns
-returns c = record {
-  told = order.tell_front;
-  closes = order.child_close_front;
-  loses = order.child_lose_front;
-}

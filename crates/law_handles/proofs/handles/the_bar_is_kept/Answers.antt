@@ -1,8 +1,0 @@
-use Rattle.law_handles.proofs.Running.{keeps_barred, count_early}
-use Rattle.law_handles.proofs.handles.the_bar_is_kept.Goals as goal
-
-pub returns-clause-set : goal.returns-clause-set
-returns-clause-set c = keeps_barred
-
-pub returns-clause-count : goal.returns-clause-count
-returns-clause-count c = count_early

@@ -1,5 +1,0 @@
-use Rattle.law_inside.proofs.Nobody.{nobody}
-use Rattle.law_inside.proofs.states.what_resumes_nobody_keeps_it_sound.Goals as goal
-
-pub returns : goal.returns
-returns g c = nobody

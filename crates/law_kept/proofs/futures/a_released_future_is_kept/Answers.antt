@@ -1,5 +1,0 @@
-use Rattle.law_kept.proofs.Telling.{keeps_release}
-use Rattle.law_kept.proofs.futures.a_released_future_is_kept.Goals as goal
-
-pub returns : goal.returns
-returns c = λ t v p id k made done. keeps_release t v p k id made done

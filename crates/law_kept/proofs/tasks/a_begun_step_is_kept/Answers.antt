@@ -1,9 +1,0 @@
-use Rattle.law_kept.proofs.Calls.{keeps_begin}
-use Rattle.law_kept.proofs.Only.{begin_ties}
-use Rattle.law_kept.proofs.tasks.a_begun_step_is_kept.Goals as goal
-
-pub returns-clause-after : goal.returns-clause-after
-returns-clause-after c = λ t v w p task input k became. keeps_begin t v w p k task input became
-
-pub returns-clause-ties : goal.returns-clause-ties
-returns-clause-ties c = begin_ties

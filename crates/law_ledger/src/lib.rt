@@ -1,4 +1,0 @@
-//! Laws of the ledger of cancel requests.
-#![tactic(auto)]
-
-pub mod ledgers;

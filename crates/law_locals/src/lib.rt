@@ -1,6 +1,0 @@
-//! A law of local variables.
-#![tactic(auto)]
-
-mod numbers;
-
-pub use numbers::numbers_say_what_names_say;

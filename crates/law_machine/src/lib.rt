@@ -1,4 +1,0 @@
-//! Laws of the reference machine's steps, turns and runs.
-#![tactic(auto)]
-
-pub mod laws;

@@ -1,4 +1,0 @@
-pub mod Spawning
-pub mod Making
-pub mod Registering
-pub mod Passing

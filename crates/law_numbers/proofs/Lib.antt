@@ -1,4 +1,0 @@
-pub mod CancelNumbers
-pub mod Falling
-pub mod Numbering
-pub mod StepNumbers

@@ -1,2 +1,0 @@
-pub mod StreamReplies
-pub mod TreeEnd

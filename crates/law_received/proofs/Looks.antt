@@ -1,0 +1,115 @@
+-- A look of a read takes a front of what is held, asks nothing and schedules no news; and a reader that takes more takes more then.
+use Rattle.std.proofs.Common.{◌≡◌, ℕ, Bool, true, false, cond, not, ◌&&◌, List, [], ◌∷◌, ◌++◌, Option, Some, None, refl, sym, ◌∙◌}
+use Rattle.std.proofs.lemmas.List.{append-nil}
+use Rattle.model_value.specs.Value.{Exc}
+use Rattle.model_stream.specs.declared.answers.StreamGot.TheVariants as got_as
+use Rattle.model_stream.specs.declared.read_op.Taken.TheVariants as taken
+use Rattle.model_stream.specs.Doing.{Doing, Ends, Changes, Asks, MakeFuture, and_then}
+use Rattle.model_stream.specs.Reading.{ReadOp, Taken, take_read}
+use Rattle.model_stream.specs.Receivers.{AllGot, Receiver, StreamGot, all_taken, read, read_all, read_as, second_waiter, takes_more, wait_for_data}
+use Rattle.law_stream.specs.Ways.{Move, Did, Heard, Always}
+use Rattle.law_stream.proofs.Along.{always_map}
+use Rattle.law_stream.proofs.ReceiverOrder.{step_in_order}
+use Rattle.law_stream.specs.ReceiverOrder as order
+use Rattle.law_stream.specs.ReceiverOrder.{InOrder, went}
+use Rattle.law_stream.specs.SoundReceivers.{Reads, ReadsAll}
+use Rattle.law_received.specs.Calm.{Apart}
+use Rattle.law_received.proofs.Apart.{BringNone, apart_always, apart_then}
+
+-- a reader that takes more takes more after
+abbrev pub TakesOn : Receiver → Receiver → Type 0
+TakesOn r after = takes_more r ≡ true → takes_more after ≡ true
+
+-- what a look does, which takes this
+pub record Looks (took : List ℕ) (r : Receiver) (moves : List Move) (after : Receiver) : Type 0 where
+  pub none : BringNone moves
+  pub order : r.reader.held ≡ took ++ after.reader.held
+  pub takes : TakesOn r after
+
+-- ---- it takes more
+after_takes : (eof paused more : Bool) → not eof && not paused ≡ true → not eof && not (paused && more) ≡ true
+after_takes true paused more is = absurd (let bad : ⊥ = cc in bad)
+after_takes false true more is = absurd (let bad : ⊥ = cc in bad)
+after_takes false false more is = refl
+
+resumed_takes : (eof paused : Bool) → not eof && not paused ≡ true → not eof && not false ≡ true
+resumed_takes true paused is = absurd (let bad : ⊥ = cc in bad)
+resumed_takes false paused is = refl
+
+wait_takes : (next : ℕ) (r mid : Receiver) → TakesOn r mid → Apart (λ (done : Receiver × StreamGot). TakesOn r done.0) (wait_for_data next mid)
+wait_takes next r mid on = at mid.waiter
+  where
+    at : (waiter : Option ℕ) → Apart (λ (done : Receiver × StreamGot). TakesOn r done.0) (elim waiter [
+      | Some future ↦ Ends (mid, got_as.Raises second_waiter)
+      | None ↦ Changes MakeFuture (Ends (record { reader = record mid.reader { paused = false }; waiter = Some next }, got_as.Waits next))
+    ])
+    at (Some future) = on
+    at None = λ is. resumed_takes mid.reader.eof mid.reader.paused (on is)
+
+read_takes : (next : ℕ) (op : ReadOp) (r : Receiver) → Apart (λ (done : Receiver × StreamGot). TakesOn r done.0) (read next op r)
+read_takes next op r = at (take_read op r.reader).answer
+  where
+    at : (answer : Taken) → Apart (λ (done : Receiver × StreamGot). TakesOn r done.0) (read_as answer (take_read op r.reader) next r)
+    at (taken.Bytes bytes) = λ is. after_takes r.reader.eof r.reader.paused _ is
+    at (taken.Raises fault) = λ is. after_takes r.reader.eof r.reader.paused _ is
+    at taken.Needs = wait_takes next r r (λ is. is)
+
+all_takes : (next : ℕ) (r : Receiver) → Apart (λ (done : Receiver × AllGot). TakesOn r done.0) (read_all next r)
+all_takes next r = at r.reader.failed
+  where
+    taken_all : TakesOn r (all_taken r)
+    taken_all = λ is. after_takes r.reader.eof r.reader.paused _ is
+
+    by : (b : Bool) → Apart (λ (done : Receiver × AllGot). TakesOn r done.0)
+        (cond b (Ends (all_taken r, record { taken = r.reader.held; got = got_as.Bytes [] }))
+        (and_then (wait_for_data next (all_taken r)) (λ done. Ends (done.0, record { taken = r.reader.held; got = done.1 }))))
+    by true = taken_all
+    by false =
+        apart_then {A = Receiver × StreamGot} {B = Receiver × AllGot} (λ done. TakesOn r done.0) (λ done. TakesOn r done.0)
+        (wait_for_data next (all_taken r)) (λ done. Ends (done.0, record { taken = r.reader.held; got = done.1 }))
+        (wait_takes next r (all_taken r) taken_all) (λ done on. on)
+
+    at : (failed : Option Exc) → Apart (λ (done : Receiver × AllGot). TakesOn r done.0) (elim failed [
+      | Some fault ↦ Ends (r, record { taken = []; got = got_as.Raises fault })
+      | None ↦ cond r.reader.eof (Ends (all_taken r, record { taken = r.reader.held; got = got_as.Bytes [] }))
+          (and_then (wait_for_data next (all_taken r)) (λ done. Ends (done.0, record { taken = r.reader.held; got = done.1 })))
+    ])
+    at (Some fault) = λ is. is
+    at None = by r.reader.eof
+
+-- ---- it takes a front
+always_and : {A : Type 0} (P Q : List Move → A → Type 0) (doing : Doing A) → Always P doing → Always Q doing
+    → Always (λ moves result. P moves result × Q moves result) doing
+always_and P Q (Ends result) p q = (p, q)
+always_and P Q (Changes change rest) p q = always_and (λ moves. P (Did change ∷ moves)) (λ moves. Q (Did change ∷ moves)) rest p q
+always_and P Q (Asks call rest) p q =
+    λ answer fit. always_and (λ moves. P (Heard call answer ∷ moves)) (λ moves. Q (Heard call answer ∷ moves)) (rest answer) (p answer fit) (q answer fit)
+
+-- the other way than into what an answer is left out of
+always_back : {A B : Type 0} (Holds : List Move → B → Type 0) (into : A → B) (doing : Doing A)
+    → Always Holds (and_then doing (λ result. Ends (into result))) → Always (λ moves result. Holds moves (into result)) doing
+always_back Holds into (Ends result) here = here
+always_back Holds into (Changes change rest) here = always_back (λ moves. Holds (Did change ∷ moves)) into rest here
+always_back Holds into (Asks call rest) here = λ answer fit. always_back (λ moves. Holds (Heard call answer ∷ moves)) into (rest answer) (here answer fit)
+
+pub read_looks : (next : ℕ) (op : ReadOp) (r : Receiver)
+    → Always (λ moves (done : Receiver × StreamGot). Looks (went done.1 r.reader.held done.0.reader.held) r moves done.0) (read next op r)
+read_looks next op r =
+    always_map
+    (λ moves (done : Receiver × StreamGot). InOrder [] r moves (order.looked r done) × (BringNone moves × TakesOn r done.0))
+    (λ moves (done : Receiver × StreamGot). Looks (went done.1 r.reader.held done.0.reader.held) r moves done.0) (read next op r)
+    (λ moves done it. record { none = it.1.0; order = sym (append-nil r.reader.held) ∙ it.0; takes = it.1.1 })
+    (always_and {A = Receiver × StreamGot} (λ moves done. InOrder [] r moves (order.looked r done)) (λ moves done. BringNone moves × TakesOn r done.0)
+    (read next op r) (always_back (InOrder [] r) (order.looked r) (read next op r) (step_in_order (Reads next op) r))
+    (apart_always (λ (done : Receiver × StreamGot). TakesOn r done.0) (read next op r) (read_takes next op r)))
+
+pub all_looks : (next : ℕ) (r : Receiver)
+    → Always (λ moves (done : Receiver × AllGot). Looks done.1.taken r moves done.0) (read_all next r)
+all_looks next r =
+    always_map
+    (λ moves (done : Receiver × AllGot). InOrder [] r moves (done.0, done.1.taken) × (BringNone moves × TakesOn r done.0))
+    (λ moves (done : Receiver × AllGot). Looks done.1.taken r moves done.0) (read_all next r)
+    (λ moves done it. record { none = it.1.0; order = sym (append-nil r.reader.held) ∙ it.0; takes = it.1.1 })
+    (always_and {A = Receiver × AllGot} (λ moves done. InOrder [] r moves (done.0, done.1.taken)) (λ moves done. BringNone moves × TakesOn r done.0)
+    (read_all next r) (always_back (InOrder [] r) (λ (done : Receiver × AllGot). (done.0, done.1.taken)) (read_all next r) (step_in_order (ReadsAll next) r))
+    (apart_always (λ (done : Receiver × AllGot). TakesOn r done.0) (read_all next r) (all_takes next r)))

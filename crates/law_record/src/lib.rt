@@ -1,4 +1,0 @@
-//! Laws of what is recorded of a run.
-#![tactic(auto)]
-
-pub mod laws;

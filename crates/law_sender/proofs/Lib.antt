@@ -1,4 +1,0 @@
-pub mod Along
-pub mod SenderRuns
-pub mod SoundSenders
-pub mod SoundSends

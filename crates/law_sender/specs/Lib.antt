@@ -1,3 +1,0 @@
-pub mod SenderSteps
-pub mod SoundSenders
-pub mod Ways

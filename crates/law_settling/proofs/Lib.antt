@@ -1,5 +1,0 @@
-pub mod Settling
-pub mod SettleWays
-pub mod Spreading
-pub mod Looks
-pub mod CancelSound

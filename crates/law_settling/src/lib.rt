@@ -1,4 +1,0 @@
-//! Laws of requests and outcomes: they keep tasks and futures sound.
-#![tactic(auto)]
-
-pub mod requests;

@@ -1,3 +1,0 @@
-pub mod AllSides
-pub mod Among
-pub mod Writing

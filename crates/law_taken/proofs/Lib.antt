@@ -1,4 +1,0 @@
-pub mod Reading
-pub mod Replies
-pub mod Turns
-pub mod Streaming

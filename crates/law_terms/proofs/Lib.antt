@@ -1,9 +1,0 @@
-pub mod Lift
-pub mod Within
-pub mod Dead
-pub mod Closings
-pub mod Commas
-pub mod BareNames
-pub mod Steps
-pub mod Read
-pub mod RowLaws

@@ -1,5 +1,0 @@
-use Rattle.law_terms.proofs.Read.{read-is}
-use Rattle.law_terms.proofs.reading.expressions_are_read_from_left_to_right.Goals as goal
-
-pub returns : goal.returns
-returns c = read-is

@@ -1,8 +1,0 @@
-use Rattle.law_terms.proofs.RowLaws.{term-fits, terms-fit}
-use Rattle.law_terms.proofs.reading.operands_fit_where_they_are_not_too_high.Goals as goal
-
-pub returns-clause-one : goal.returns-clause-one
-returns-clause-one c = term-fits
-
-pub returns-clause-all : goal.returns-clause-all
-returns-clause-all c = terms-fit

@@ -1,8 +1,0 @@
-use Rattle.law_text.proofs.BodyLemmas.{spelled-read, spelled-body}
-use Rattle.law_text.proofs.texts.lines_spell_their_statements.Goals as goal
-
-pub returns-clause-read : goal.returns-clause-read
-returns-clause-read c = spelled-read
-
-pub returns-clause-body : goal.returns-clause-body
-returns-clause-body c = spelled-body

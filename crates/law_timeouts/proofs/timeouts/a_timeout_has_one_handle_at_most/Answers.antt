@@ -1,5 +1,0 @@
-use Rattle.law_timeouts.proofs.Firing.{one_handle}
-use Rattle.law_timeouts.proofs.timeouts.a_timeout_has_one_handle_at_most.Goals as goal
-
-pub returns : goal.returns
-returns c = one_handle

@@ -1,4 +1,0 @@
-//! Laws of what groups are told: tasks' steps and requests keep it.
-#![tactic(auto)]
-
-pub mod groups;

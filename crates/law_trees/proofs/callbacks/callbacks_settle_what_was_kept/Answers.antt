@@ -1,5 +1,0 @@
-use Rattle.law_trees.proofs.Opening.{acts}
-use Rattle.law_trees.proofs.callbacks.callbacks_settle_what_was_kept.Goals as goal
-
-pub returns : goal.returns
-returns g = λ own next returned it s kept. acts own next returned it s kept

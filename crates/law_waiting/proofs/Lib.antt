@@ -1,3 +1,0 @@
-pub mod Due
-pub mod Select
-pub mod Woken

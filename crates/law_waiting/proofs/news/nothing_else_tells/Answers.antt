@@ -1,9 +1,0 @@
-use Rattle.law_waiting.proofs.Due.{change_follows, due_after, made_follows}
-use Rattle.law_waiting.proofs.news.nothing_else_tells.Goals as goal
-
-pub returns : goal.returns
-returns c = record {
-  loops = change_follows;
-  moves = made_follows;
-  stays = due_after;
-}

@@ -1,5 +1,0 @@
-use Rattle.law_ways.proofs.Doing.{streams_end}
-use Rattle.law_ways.proofs.machine.ways_end_as_trees_do.Goals as goal
-
-pub returns : goal.returns
-returns g c = streams_end

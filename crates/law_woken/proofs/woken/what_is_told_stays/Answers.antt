@@ -1,9 +1,0 @@
-use Rattle.law_woken.proofs.Staying.{run_stays}
-use Rattle.law_woken.proofs.Turning.{run_done}
-use Rattle.law_woken.proofs.woken.what_is_told_stays.Goals as goal
-
-pub returns : goal.returns
-returns c laws = record {
-  run = run_done;
-  row = λ s t row. run_stays row;
-}

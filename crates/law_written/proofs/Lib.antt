@@ -1,5 +1,0 @@
-pub mod Goods
-pub mod GoodTerms
-pub mod GoodForms
-pub mod MeantTerms
-pub mod MeantLines

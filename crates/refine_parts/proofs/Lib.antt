@@ -1,0 +1,14 @@
+pub mod Lists
+pub mod Naming
+pub mod Appending
+pub mod Running
+pub mod Skipping
+pub mod Deadlining
+pub mod Scheduling
+pub mod Only
+pub mod PlacedSteps
+pub mod Becoming
+pub mod Calls
+pub mod Telling
+pub mod Requesting
+pub mod Waiting

@@ -1,0 +1,4 @@
+pub mod Runs
+pub mod Waiting
+pub mod Requests
+pub mod Waits
