@@ -1,2 +1,2 @@
-pub mod OnSockets
-pub mod Replying
+mod OnSockets
+mod Replying

@@ -1,5 +1,5 @@
 pub mod Asking
-pub mod Words
+mod Words
 pub mod Answering
 pub mod Blocks
 pub mod Leaving

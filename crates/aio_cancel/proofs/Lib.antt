@@ -1,3 +1,3 @@
-pub mod MarkedLemmas
+mod MarkedLemmas
 pub mod PartsLemmas
-pub mod MemberLemmas
+mod MemberLemmas

@@ -1,2 +1,2 @@
-pub mod Chained
-pub mod Steps
+mod Chained
+mod Steps

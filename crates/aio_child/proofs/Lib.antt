@@ -1,2 +1,2 @@
-pub mod Calling
+mod Calling
 pub mod Owning

@@ -1,2 +1,2 @@
-pub mod Launching
+mod Launching
 pub mod Placing

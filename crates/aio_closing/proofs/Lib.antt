@@ -1,2 +1,2 @@
-pub mod Pass
-pub mod Stopped
+mod Pass
+mod Stopped

@@ -1,4 +1,4 @@
-pub mod Passing
+mod Passing
 pub mod Commanding
 pub mod Together
-pub mod Ending
+mod Ending

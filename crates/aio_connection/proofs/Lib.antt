@@ -1,2 +1,2 @@
-pub mod Calling
-pub mod Owning
+mod Calling
+mod Owning

@@ -1,20 +1,20 @@
-pub mod Below
-pub mod Running
-pub mod Inputs
-pub mod Acting
-pub mod Appending
-pub mod Waking
-pub mod Watching
-pub mod Stopping
+mod Below
+mod Running
+mod Inputs
+mod Acting
+mod Appending
+mod Waking
+mod Watching
+mod Stopping
 pub mod Asked
-pub mod Asking
-pub mod Coming
-pub mod Answered
-pub mod AskedByTurn
-pub mod Caused
-pub mod Following
-pub mod Opening
-pub mod Placing
-pub mod Keeping
-pub mod Made
-pub mod Sound
+mod Asking
+mod Coming
+mod Answered
+mod AskedByTurn
+mod Caused
+mod Following
+mod Opening
+mod Placing
+mod Keeping
+mod Made
+mod Sound

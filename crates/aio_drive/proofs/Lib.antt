@@ -1,8 +1,8 @@
-pub mod Causes
+mod Causes
 pub mod Driving
-pub mod Exits
+mod Exits
 pub mod Fronts
-pub mod Rounds
+mod Rounds
 pub mod Telling
 pub mod Turns
 pub mod Unrecorded

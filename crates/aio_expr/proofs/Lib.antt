@@ -1,8 +1,8 @@
-pub mod Floors
-pub mod Places
-pub mod InBounds
-pub mod Decoded
-pub mod Variables
+mod Floors
+mod Places
+mod InBounds
+mod Decoded
+mod Variables
 pub mod Evaluated
-pub mod Orders
-pub mod Remainders
+mod Orders
+mod Remainders

@@ -1,7 +1,7 @@
-pub mod Grows
-pub mod Rows
-pub mod PlaceLemmas
-pub mod NumberLemmas
-pub mod KnownLemmas
-pub mod Blocks
+mod Grows
+mod Rows
+mod PlaceLemmas
+mod NumberLemmas
+mod KnownLemmas
+mod Blocks
 pub mod CodeLemmas

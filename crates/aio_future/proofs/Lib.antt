@@ -1,3 +1,3 @@
-pub mod TableLemmas
-pub mod Puts
-pub mod Unawaited
+mod TableLemmas
+mod Puts
+mod Unawaited

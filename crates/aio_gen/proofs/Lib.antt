@@ -1,5 +1,5 @@
-pub mod RequestLemmas
-pub mod Running
-pub mod Clauses
-pub mod Values
-pub mod Resuming
+mod RequestLemmas
+mod Running
+mod Clauses
+mod Values
+mod Resuming

@@ -1,14 +1,14 @@
-pub mod Laws
+mod Laws
 pub mod Going
 pub mod Listing
 pub mod Standing
-pub mod Asking
-pub mod Flags
-pub mod Stepping
-pub mod Leaving
-pub mod Waiting
-pub mod Exiting
-pub mod Belonging
-pub mod Spawning
-pub mod Numbering
-pub mod Calls
+mod Asking
+mod Flags
+mod Stepping
+mod Leaving
+mod Waiting
+mod Exiting
+mod Belonging
+mod Spawning
+mod Numbering
+mod Calls

@@ -1,5 +1,5 @@
-pub mod Posts
-pub mod Counting
-pub mod Keeping
-pub mod Owed
-pub mod Ends
+mod Posts
+mod Counting
+mod Keeping
+mod Owed
+mod Ends

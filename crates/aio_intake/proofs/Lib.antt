@@ -1,3 +1,3 @@
-pub mod Passing
-pub mod Emptying
-pub mod Returning
+mod Passing
+mod Emptying
+mod Returning

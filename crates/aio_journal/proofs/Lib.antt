@@ -1,3 +1,3 @@
-pub mod Bounds
-pub mod Pieces
-pub mod Reading
+mod Bounds
+mod Pieces
+mod Reading

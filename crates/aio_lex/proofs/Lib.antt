@@ -1,5 +1,5 @@
-pub mod NumberLemmas
-pub mod AsciiLemmas
-pub mod SaidLemmas
-pub mod FrontLemmas
-pub mod TokensLemmas
+mod NumberLemmas
+mod AsciiLemmas
+mod SaidLemmas
+mod FrontLemmas
+mod TokensLemmas

@@ -1,5 +1,5 @@
-pub mod Accepts
-pub mod Acts
-pub mod Connects
-pub mod Listeners
-pub mod Listens
+mod Accepts
+mod Acts
+mod Connects
+mod Listeners
+mod Listens

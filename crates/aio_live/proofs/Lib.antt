@@ -1,9 +1,9 @@
-pub mod Keeping
+mod Keeping
 pub mod Asking
-pub mod Alone
-pub mod AllFree
-pub mod Admitted
-pub mod Launched
+mod Alone
+mod AllFree
+mod Admitted
+mod Launched
 mod Noting
 mod SelectAsks
 mod Telling

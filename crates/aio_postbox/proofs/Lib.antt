@@ -1,2 +1,2 @@
-pub mod Counting
-pub mod Grouping
+mod Counting
+mod Grouping

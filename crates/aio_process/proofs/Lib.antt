@@ -1,2 +1,2 @@
-pub mod Bytes
-pub mod Signals
+mod Bytes
+mod Signals

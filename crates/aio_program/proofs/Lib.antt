@@ -1,4 +1,4 @@
-pub mod TryLemmas
-pub mod CutLemmas
-pub mod ReadLemmas
-pub mod BlockLemmas
+mod TryLemmas
+mod CutLemmas
+mod ReadLemmas
+mod BlockLemmas

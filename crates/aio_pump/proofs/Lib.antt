@@ -1,6 +1,6 @@
 pub mod Posting
-pub mod Lists
-pub mod Outs
-pub mod Ins
-pub mod Fronts
-pub mod Waits
+mod Lists
+mod Outs
+mod Ins
+mod Fronts
+mod Waits

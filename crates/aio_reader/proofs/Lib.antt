@@ -1,1 +1,1 @@
-pub mod Searches
+mod Searches

@@ -1,5 +1,5 @@
-pub mod Reaching
-pub mod Forks
-pub mod Changes
-pub mod Names
-pub mod Seeing
+mod Reaching
+mod Forks
+mod Changes
+mod Names
+mod Seeing

@@ -1,3 +1,3 @@
-pub mod Needing
-pub mod Taking
-pub mod Waking
+mod Needing
+mod Taking
+mod Waking

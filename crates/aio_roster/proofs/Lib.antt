@@ -1,4 +1,4 @@
 pub mod Seated
 pub mod Running
 pub mod Lending
-pub mod Freeing
+mod Freeing

@@ -1,4 +1,4 @@
-pub mod Outcomes
-pub mod Promise
-pub mod TextFronts
-pub mod WireRuns
+mod Outcomes
+mod Promise
+mod TextFronts
+mod WireRuns

@@ -1,2 +1,2 @@
-pub mod Counts
-pub mod Reading
+mod Counts
+mod Reading

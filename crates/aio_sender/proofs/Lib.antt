@@ -1,2 +1,2 @@
-pub mod Offering
-pub mod Telling
+mod Offering
+mod Telling

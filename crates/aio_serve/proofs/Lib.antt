@@ -1,17 +1,17 @@
-pub mod Saying
-pub mod Meaning
-pub mod Reading
-pub mod Changing
-pub mod Resting
-pub mod Spawning
-pub mod Timing
-pub mod Appending
-pub mod GroupsOn
-pub mod GroupsNeed
-pub mod GroupExits
-pub mod Grouping
-pub mod Creating
-pub mod Adding
-pub mod Again
-pub mod Hearing
-pub mod Owning
+mod Saying
+mod Meaning
+mod Reading
+mod Changing
+mod Resting
+mod Spawning
+mod Timing
+mod Appending
+mod GroupsOn
+mod GroupsNeed
+mod GroupExits
+mod Grouping
+mod Creating
+mod Adding
+mod Again
+mod Hearing
+mod Owning

@@ -1,12 +1,12 @@
-pub mod Called
-pub mod Serving
-pub mod Resuming
-pub mod Resumed
-pub mod Going
-pub mod Beginning
-pub mod Opening
-pub mod Begun
-pub mod First
-pub mod Ready
-pub mod Deciding
-pub mod Whole
+mod Called
+mod Serving
+mod Resuming
+mod Resumed
+mod Going
+mod Beginning
+mod Opening
+mod Begun
+mod First
+mod Ready
+mod Deciding
+mod Whole

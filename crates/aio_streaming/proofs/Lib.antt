@@ -1,11 +1,11 @@
-pub mod Ending
-pub mod Looks
-pub mod Resumes
-pub mod Through
-pub mod Answered
-pub mod Callbacks
-pub mod Connects
-pub mod Handlers
-pub mod Opens
-pub mod Writes
-pub mod Waits
+mod Ending
+mod Looks
+mod Resumes
+mod Through
+mod Answered
+mod Callbacks
+mod Connects
+mod Handlers
+mod Opens
+mod Writes
+mod Waits

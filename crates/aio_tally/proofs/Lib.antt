@@ -1,1 +1,1 @@
-pub mod TalliedRuns
+mod TalliedRuns

@@ -1,12 +1,12 @@
-pub mod BareLemmas
-pub mod BareSteps
+mod BareLemmas
+mod BareSteps
 pub mod PartsLemmas
-pub mod Queues
-pub mod Keeping
-pub mod Releasing
-pub mod KeptFutures
-pub mod KeptSteps
-pub mod Nothing
-pub mod Sizes
-pub mod Plainly
-pub mod NoWaiter
+mod Queues
+mod Keeping
+mod Releasing
+mod KeptFutures
+mod KeptSteps
+mod Nothing
+mod Sizes
+mod Plainly
+mod NoWaiter

@@ -1,2 +1,2 @@
-pub mod Cuts
-pub mod Values
+mod Cuts
+mod Values

@@ -3,4 +3,4 @@ pub mod Loops
 pub mod Handlers
 pub mod Keeping
 pub mod Naming
-pub mod Below
+mod Below

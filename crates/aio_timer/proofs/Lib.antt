@@ -1,5 +1,5 @@
-pub mod Comparing
-pub mod Sorting
-pub mod Waiting
-pub mod Searching
-pub mod Keeping
+mod Comparing
+mod Sorting
+mod Waiting
+mod Searching
+mod Keeping

@@ -1,10 +1,10 @@
-pub mod Acts
-pub mod Endings
-pub mod Filtering
-pub mod Known
-pub mod Lasting
-pub mod Launching
-pub mod Lifting
-pub mod Numbering
-pub mod Remaining
-pub mod Watches
+mod Acts
+mod Endings
+mod Filtering
+mod Known
+mod Lasting
+mod Launching
+mod Lifting
+mod Numbering
+mod Remaining
+mod Watches

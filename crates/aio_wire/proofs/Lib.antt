@@ -1,5 +1,5 @@
-pub mod Clashing
-pub mod GivenLemmas
-pub mod GotLemmas
-pub mod ShelvedLemmas
-pub mod Watching
+mod Clashing
+mod GivenLemmas
+mod GotLemmas
+mod ShelvedLemmas
+mod Watching

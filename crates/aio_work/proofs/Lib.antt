@@ -1,1 +1,1 @@
-pub mod Numbered
+mod Numbered

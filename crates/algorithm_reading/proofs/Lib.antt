@@ -17,4 +17,4 @@ pub mod Commas
 pub mod BareNames
 pub mod Steps
 pub mod Read
-pub mod RowLaws
+mod RowLaws

@@ -6,11 +6,11 @@ pub mod Words
 pub mod Readings
 pub mod Newlines
 pub mod Journals
-pub mod Recorded
+mod Recorded
 pub mod Tasks
 pub mod Lines
-pub mod Standing
-pub mod Meanings
+mod Standing
+mod Meanings
 pub mod WorkBodies
 pub mod Texts
 pub mod Scripts

@@ -2,7 +2,7 @@ pub mod Cuts
 pub mod Shapes
 pub mod Read
 pub mod Facts
-pub mod Meanings
+mod Meanings
 pub mod Fronts
 pub mod Spelling
 pub mod TokenTexts

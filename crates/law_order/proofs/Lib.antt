@@ -1,17 +1,17 @@
-pub mod Framed
-pub mod Framing
-pub mod Mildly
-pub mod Fronts
-pub mod OwnOrder
-pub mod AllSides
-pub mod Among
-pub mod Writing
-pub mod Going
-pub mod Moves
-pub mod Parts
-pub mod Beginning
-pub mod Losing
-pub mod Moving
-pub mod Walking
-pub mod Given
-pub mod Whole
+mod Framed
+mod Framing
+mod Mildly
+mod Fronts
+mod OwnOrder
+mod AllSides
+mod Among
+mod Writing
+mod Going
+mod Moves
+mod Parts
+mod Beginning
+mod Losing
+mod Moving
+mod Walking
+mod Given
+mod Whole

@@ -1,20 +1,20 @@
-pub mod Reaching
-pub mod Falling
-pub mod Relied
-pub mod Raising
-pub mod MarksStay
-pub mod Apart
-pub mod ToldStays
-pub mod Turning
-pub mod Later
-pub mod DoneReplies
-pub mod DoneTurns
-pub mod Found
-pub mod Owed
-pub mod Asking
-pub mod Loops
-pub mod OwedByGroups
-pub mod Reading
-pub mod Replies
-pub mod Turns
-pub mod Streaming
+mod Reaching
+mod Falling
+mod Relied
+mod Raising
+mod MarksStay
+mod Apart
+mod ToldStays
+mod Turning
+mod Later
+mod DoneReplies
+mod DoneTurns
+mod Found
+mod Owed
+mod Asking
+mod Loops
+mod OwedByGroups
+mod Reading
+mod Replies
+mod Turns
+mod Streaming

@@ -1,11 +1,11 @@
-pub mod Apart
-pub mod Own
-pub mod AllFed
-pub mod AllLooks
-pub mod Fed
-pub mod Looks
-pub mod Due
-pub mod Select
-pub mod Woken
-pub mod Going
-pub mod Replies
+mod Apart
+mod Own
+mod AllFed
+mod AllLooks
+mod Fed
+mod Looks
+mod Due
+mod Select
+mod Woken
+mod Going
+mod Replies

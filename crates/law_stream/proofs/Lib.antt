@@ -1,5 +1,5 @@
-pub mod LineEnds
-pub mod LinesByUntil
+mod LineEnds
+mod LinesByUntil
 pub mod ReaderOrder
 pub mod SoundWriters
 pub mod WriterOrder
@@ -7,11 +7,11 @@ pub mod Along
 pub mod SenderRuns
 pub mod SoundSenders
 pub mod SoundSends
-pub mod ChildEnds
+mod ChildEnds
 pub mod ChildOrder
-pub mod ConnectionOrder
-pub mod Losses
+mod ConnectionOrder
+mod Losses
 pub mod Quiet
 pub mod ReceiverOrder
 pub mod SoundConnections
-pub mod SoundReceivers
+mod SoundReceivers

@@ -5,6 +5,6 @@ pub mod SymbolLemmas
 pub mod CutLemmas
 pub mod PartLemmas
 pub mod LineLemmas
-pub mod SpanLemmas
-pub mod FaultLemmas
+mod SpanLemmas
+mod FaultLemmas
 pub mod RangeLemmas

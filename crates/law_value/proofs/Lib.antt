@@ -2,6 +2,6 @@ pub mod Rows
 pub mod Joined
 pub mod Weights
 pub mod Depths
-pub mod Quotes
+mod Quotes
 pub mod Newlines
 pub mod Equals

@@ -1,4 +1,4 @@
-pub mod Beginning
+mod Beginning
 pub mod Replying
 pub mod Rows
 pub mod Trees

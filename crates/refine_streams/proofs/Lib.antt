@@ -1,17 +1,17 @@
 pub mod Keeping
-pub mod Doing
-pub mod Telling
-pub mod Noted
-pub mod Stopping
+mod Doing
+mod Telling
+mod Noted
+mod Stopping
 pub mod Alike
-pub mod Adding
+mod Adding
 pub mod Forgetting
 pub mod Nexts
-pub mod Calling
-pub mod Leaving
+mod Calling
+mod Leaving
 pub mod Owning
-pub mod Standing
-pub mod Going
+mod Standing
+mod Going
 pub mod Requests
 pub mod Answering
 pub mod GivingUp

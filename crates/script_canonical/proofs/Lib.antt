@@ -1,2 +1,2 @@
-pub mod Joined
-pub mod Statements
+mod Joined
+mod Statements

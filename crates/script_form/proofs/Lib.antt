@@ -1,9 +1,9 @@
-pub mod PlaceLemmas
-pub mod LastLemmas
-pub mod PartLemmas
-pub mod TermLemmas
-pub mod FormLemmas
-pub mod AsLemmas
-pub mod ReadLemmas
-pub mod LineLemmas
-pub mod PassLemmas
+mod PlaceLemmas
+mod LastLemmas
+mod PartLemmas
+mod TermLemmas
+mod FormLemmas
+mod AsLemmas
+mod ReadLemmas
+mod LineLemmas
+mod PassLemmas

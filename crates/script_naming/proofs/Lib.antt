@@ -1,6 +1,6 @@
-pub mod Names
-pub mod Meanings
-pub mod Targets
-pub mod Judged
-pub mod Heads
-pub mod Parting
+mod Names
+mod Meanings
+mod Targets
+mod Judged
+mod Heads
+mod Parting

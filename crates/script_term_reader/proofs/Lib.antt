@@ -1,4 +1,4 @@
-pub mod Counts
-pub mod Opened
-pub mod Others
-pub mod Loop
+mod Counts
+mod Opened
+mod Others
+mod Loop

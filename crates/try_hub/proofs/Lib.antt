@@ -1,1 +1,1 @@
-pub mod New
+mod New

@@ -1,2 +1,2 @@
-pub mod Served
-pub mod Asking
+mod Served
+mod Asking
