@@ -1,5 +1,5 @@
 """A chain of n awaits: each task awaits the one that was made before it, which waits already. Compare
-scripts/chain_upwards.aio. A circle of awaits would wait for ever here, so asyncio doesn't look for one."""
+scripts/chain_upwards.aio. A cycle of awaits would wait for ever here, so asyncio doesn't look for one."""
 
 import asyncio
 

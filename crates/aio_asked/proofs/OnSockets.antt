@@ -10,7 +10,7 @@ use Rattle.model_hub.specs.Others.{Others, PollFailed, NotStarted, Said, Got, Fa
 use Rattle.model_hub.specs.Lanes.{serve}
 use Rattle.model_hub.specs.Calls.{answer_to, socket, watch_of, stdin_to}
 use Rattle.model_hub.specs.Told.{PollerSeen, LauncherSeen, with_kill, is_socket, told_with}
-use Rattle.model_hub.specs.Asked.{Asks, TakesPosts, polls_of, answers_of, answers_of_net, NetKeeps, Keeps, kills_after, launches_after, Refuses}
+use Rattle.model_hub.specs.Asked.{Asks, TakesPosts, polls_of, answers_of, answers_of_net, NetKeeps, HubKeeps, kills_after, launches_after, Refuses}
 use Rattle.aio_hub.specs.Polls.{Nets, net_answers, NetFits, NetFailsIfRose}
 use Rattle.aio_wire.specs.declared.wire.Reply.{Reply}
 use Rattle.aio_wire.specs.declared.wire.Reply.TheVariants as reply
@@ -98,7 +98,7 @@ module _ {Run : Type 0} (old new : StateSeen Run) (plainly : Plainly [] old new)
         → answer_to asks others old.hub ≡ socket others.lanes others.net old.hub
         → polls_of asks others.lanes old.hub ≡ asks ∷ [] → answers_of asks others ≡ answers_of_net others.net
         → TakesPosts asks others old.hub old.nones new.nones
-        → (NetKeeps asks others.net poller.faults poller_now.faults → Keeps asks others poller.faults poller_now.faults)
+        → (NetKeeps asks others.net poller.faults poller_now.faults → HubKeeps asks others poller.faults poller_now.faults)
         → launcher.kills ≡ kills_after asks launcher.kills
         → launcher.launches ≡ launches_after asks (said_of said) (length old.hub.children) launcher.launches
         → Refuses asks (said_of said) old.hub launcher.faults launcher.faults

@@ -31,7 +31,7 @@ impl<N: InboxName, R: Wait + Drop, P: Drop, L: Launcher<Inbox<N>, Poster<N>>> Hu
         ensures kills { (L.seen result.launcher).kills
             ≡ with_kills (kills_in (running_in self.state.hub.children)) (L.seen self.launcher).kills }
         ensures launches { (L.seen result.launcher).launches ≡ (L.seen self.launcher).launches }
-        ensures later { (L.seen self.launcher).faults ≤ (L.seen result.launcher).faults }
+        ensures monotone { (L.seen self.launcher).faults ≤ (L.seen result.launcher).faults }
     {
         let Hub {
             rt,

@@ -20,7 +20,7 @@ pub use kinds::{kind_matches, name_of};
 pub use literal::{push_bytes_literal, push_escaped, push_text_literal};
 pub use memory::Memory;
 pub use model_pump::Stream;
-pub use model_value::{Circle, Kind, Place};
+pub use model_value::{CycleKind, Kind, Place};
 pub use nesting::{depth, depth_of_exc};
 pub use shared::{Action, ChildItem, Input, Outcome, Request};
 pub use text::{show, show_exc};

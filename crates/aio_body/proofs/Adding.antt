@@ -18,8 +18,8 @@ use Rattle.law_steps.proofs.CancelSound.{plain_within}
 use Rattle.aio_task.specs.View.{View}
 use Rattle.aio_extra.specs.Added.{Added, named_in}
 use Rattle.aio_extra.specs.Called.{CallsAs, IsServed}
-use Rattle.aio_body.specs.declared.body.Body.{Body}
-use Rattle.aio_body.specs.Stands.{IsOwnSleep, Setting, Stands}
+use Rattle.aio_body.specs.declared.run_state.RunState.{RunState}
+use Rattle.aio_body.specs.Stands.{IsOwnSleep, Context, Stands}
 use Rattle.aio_body.proofs.Blocks.{blocks_on}
 use Rattle.aio_body.proofs.Lasting.{parts_change, stands_after}
 use Rattle.aio_body.proofs.Leaving.{IsNew, Leaves, leaves_on, leaves_same}
@@ -69,8 +69,8 @@ steps_blocks (step ∷ steps) l =
 -- ---- what is stood for
 module _ {X : Type 0} {a : Added X} where
   -- what a call of it may rely on
-  pub served_of : (out running : Option ℕ) (c : Setting a) (body : Body X) (s : State a.Kept) → (h : Stands out c body s) → body.parts.called ≡ None
-      → body.parts.running ≡ running → IsSound running (told_in s.events) s.loop → IsServed a running h.ties s body.extra body.parts
+  pub served_of : (out running : Option ℕ) (c : Context a) (body : RunState X) (s : State a.Kept) → (h : Stands out c body s) → body.parts.called ≡ None
+      → body.parts.running ≡ running → IsSound running (told_in s.events) s.loop → IsServed a running h.name_map s body.extra body.parts
   served_of out running c body s h called is sound = record {
     keeps = h.keeps;
     stands = h.extra;
@@ -79,9 +79,9 @@ module _ {X : Type 0} {a : Added X} where
     sound = sound;
   }
 
-module _ {X : Type 0} {a : Added X} (running out : Option ℕ) (c : Setting a) (old : Body X) (s : State a.Kept) (v : View) (x : X) (call : ExtraCall a.Kept)
+module _ {X : Type 0} {a : Added X} (running out : Option ℕ) (c : Context a) (old : RunState X) (s : State a.Kept) (v : View) (x : X) (call : ExtraCall a.Kept)
     (h : Stands out c old s) (may : AreAllowed call.steps s.loop) (sound : IsSound running (told_in s.events) s.loop)
-    (r : CallsAs a h.ties s old.parts v x call) where
+    (r : CallsAs a h.name_map s old.parts v x call) where
   abbrev p : Parts
   p = s.loop.parts
 
@@ -119,14 +119,14 @@ module _ {X : Type 0} {a : Added X} (running out : Option ℕ) (c : Setting a) (
   pub stands_called : Stands out c (record old { parts = v; extra = x }) (called call s)
   stands_called =
       stands_after None out c old s v old.timeouts old.groups x (called call s).loop call.state c.left h
-      (record { ties = r.ties; keeps = r.keeps; extends = r.extends }) leaves
-      (blocks_on h.ties r.ties old.timeouts old.groups s.loop (called call s).loop r.extends leaves.goes_on (steps_blocks call.steps s.loop).0
+      (record { name_map = r.name_map; keeps = r.keeps; extends = r.extends }) leaves
+      (blocks_on h.name_map r.name_map old.timeouts old.groups s.loop (called call s).loop r.extends leaves.goes_on (steps_blocks call.steps s.loop).0
       (steps_blocks call.steps s.loop).1 h.blocks)
       own_called r.stands (r.below ∙ h.left) r.profile
 
-  pub ties_called : stands_called.ties ≡ r.ties
+  pub name_map_called : stands_called.name_map ≡ r.name_map
   unfolding stands_called stands_after parts_change
-  ties_called = refl
+  name_map_called = refl
 
   pub sound_called : IsSound running (told_in s.events) (called call s).loop
   sound_called = all_sound running (told_in s.events) call.steps s.loop may sound

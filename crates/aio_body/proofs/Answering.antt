@@ -6,16 +6,16 @@ use Rattle.model_value.specs.Request.{Request}
 use Rattle.model_wire.specs.Journal.{Entry}
 use Rattle.model_machine.specs.Extra.{Extra}
 use Rattle.model_machine.specs.Sound.{IsSoundBut, IsStateSound}
-use Rattle.model_machine.specs.State as standing
+use Rattle.model_machine.specs.State as resume_point
 use Rattle.model_machine.specs.State.{State}
 use Rattle.law_replies.specs.InStep.{IsAsked, IsStepSound}
 use Rattle.aio_wire.specs.Outside.{Outside}
 use Rattle.aio_wire.specs.Port.{Ported}
 use Rattle.aio_exchange.specs.Exchanged.{Exchange, entries_of}
 use Rattle.aio_extra.specs.Added.{Added}
-use Rattle.aio_body.specs.declared.body.Body.{Body}
+use Rattle.aio_body.specs.declared.run_state.RunState.{RunState}
 use Rattle.aio_body.specs.Asked.{IsAskingFor, IsDeciding, IsGoing, IsInStep}
-use Rattle.aio_body.specs.Stands.{IsBetween, Setting, Stands}
+use Rattle.aio_body.specs.Stands.{IsBetween, Context, Stands}
 use Rattle.aio_body.specs.Taken.{IsNext, IsTaken}
 use Rattle.aio_body.proofs.Asking.{HasCome}
 use Rattle.aio_body.specs.Answers.{with_answers, with_rest}
@@ -33,7 +33,7 @@ module _ {S : Type 0} (added : Extra S) (answers : List Entry) (s : State S) whe
     unbegun = h.unbegun;
     main_over = h.main_over;
     main_told = h.main_told;
-    standing = λ task l e. let it = h.standing task l e in
+    resume_point = λ task l e. let it = h.resume_point task l e in
         record { sleeping = it.sleeping; leaving = it.leaving; leaving_now = it.leaving_now; opened = it.opened };
     exits = h.exits;
     blocks = record { timeouts = h.blocks.timeouts; groups = h.blocks.groups; entered = h.blocks.entered; own = h.blocks.own };
@@ -47,16 +47,16 @@ module _ {S : Type 0} (added : Extra S) (answers : List Entry) (s : State S) whe
   state_again h = sound_again None None h
 
   pub step_again : (task : ℕ) → IsStepSound added task s → IsStepSound added task now
-  step_again task h = record { others = sound_again _ _ h.others; standing = h.standing; begun = h.begun; exits = h.exits }
+  step_again task h = record { others = sound_again _ _ h.others; resume_point = h.resume_point; begun = h.begun; exits = h.exits }
 
-  pub asked_again : (task : ℕ) (stood : standing.Standing) (asked : Request) → IsAsked added task stood asked s → IsAsked added task stood asked now
-  asked_again task stood asked h = record { others = sound_again _ _ h.others; standing = h.standing; says = h.says; exits = h.exits }
+  pub asked_again : (task : ℕ) (stood : resume_point.ResumePoint) (asked : Request) → IsAsked added task stood asked s → IsAsked added task stood asked now
+  asked_again task stood asked h = record { others = sound_again _ _ h.others; resume_point = h.resume_point; says = h.says; exits = h.exits }
 
 -- ---- in code
-module _ {X : Type 0} {a : Added X} (answers : List Entry) (c : Setting a) (body : Body X) (s : State a.Kept) where
+module _ {X : Type 0} {a : Added X} (answers : List Entry) (c : Context a) (body : RunState X) (s : State a.Kept) where
   abbrev pub stands_again : (out : Option ℕ) → Stands out c body s → Stands out (with_rest answers c) body (with_answers answers s)
   stands_again out h = record {
-    ties = h.ties;
+    name_map = h.name_map;
     code = h.code;
     profile = h.profile;
     keeps = h.keeps;
@@ -69,7 +69,7 @@ module _ {X : Type 0} {a : Added X} (answers : List Entry) (c : Setting a) (body
     held = λ task l. let has = h.held task l in record {
       slot = has.slot;
       found = has.found;
-      right = record { waits = has.right.waits; standing = has.right.standing };
+      right = record { waits = has.right.waits; resume_point = has.right.resume_point };
     };
     gone = h.gone;
     futures = h.futures;
@@ -102,7 +102,7 @@ module _ {X : Type 0} {a : Added X} (answers : List Entry) (c : Setting a) (body
       → IsAskingFor task request (with_rest answers c) body (with_answers answers s)
   asking_again task request h = record { going = going_again task h.going; says = h.says }
 
-  pub deciding_again : (task : ℕ) (stood : standing.Standing) → IsDeciding task stood c body s
+  pub deciding_again : (task : ℕ) (stood : resume_point.ResumePoint) → IsDeciding task stood c body s
       → IsDeciding task stood (with_rest answers c) body (with_answers answers s)
   deciding_again task stood h = record {
     in_step = in_step_again task h.in_step;
@@ -144,10 +144,10 @@ module _ {X : Type 0} {a : Added X} (answers : List Entry) (c : Setting a) (body
 
 -- ---- what is possible
 -- What is possible wherever a call began is so after some asks of it.
-pub alive_come : {X W At : Type 0} {a : Added X} (o : Outside W) (from : Setting a → At → Type 0)
-    → ((answers : List Entry) (c : Setting a) (at : At) → from c at → (other : At) × from (with_rest answers c) other)
-    → (had : List Exchange) (old mid : Ported W) (so : Setting a → At → Type 0) → HasCome o from had old mid so
-    → ∥ ((c : Setting a) × ((at : At) × from c at)) ∥₁ → ∥ ((c : Setting a) × ((at : At) × so c at)) ∥₁
+pub alive_come : {X W At : Type 0} {a : Added X} (o : Outside W) (from : Context a → At → Type 0)
+    → ((answers : List Entry) (c : Context a) (at : At) → from c at → (other : At) × from (with_rest answers c) other)
+    → (had : List Exchange) (old mid : Ported W) (so : Context a → At → Type 0) → HasCome o from had old mid so
+    → ∥ ((c : Context a) × ((at : At) × from c at)) ∥₁ → ∥ ((c : Context a) × ((at : At) × so c at)) ∥₁
 alive_come o from again had old mid so come may =
     ∥∥₁_map may (λ w.
     let it = again (entries_of had ++ w.0.answers) w.0 w.1.0 w.1.1 in

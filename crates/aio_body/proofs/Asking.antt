@@ -16,31 +16,31 @@ use Rattle.aio_exchange.proofs.Among.{on_none, on_starved, on_then, told_none, t
 use Rattle.aio_exchange.proofs.Exchanging.{entries-append}
 use Rattle.aio_extra.specs.Added.{Added}
 use Rattle.aio_body.specs.Asking.{Comes, ComesBy, Piece, before, or_stop}
-use Rattle.aio_body.specs.Stands.{Setting}
+use Rattle.aio_body.specs.Stands.{Context}
 
-pub before-append : {X : Type 0} {a : Added X} (xs ys : List Exchange) (c : Setting a) → before (xs ++ ys) c ≡ before xs (before ys c)
+pub before-append : {X : Type 0} {a : Added X} (xs ys : List Exchange) (c : Context a) → before (xs ++ ys) c ≡ before xs (before ys c)
 before-append xs ys c =
     ap (λ (es : List Entry). record c { answers = es })
     (ap (λ (es : List Entry). es ++ c.answers) (entries-append xs ys) ∙ append_assoc (entries_of xs) (entries_of ys) c.answers)
 
 -- After some asks, each of which had its answer, this is so of wherever the call began.
-pub record HasCome {X W At : Type 0} {a : Added X} (o : Outside W) (from : Setting a → At → Type 0) (had : List Exchange) (old mid : Ported W)
-    (so : Setting a → At → Type 0) : Type 0 where
+pub record HasCome {X W At : Type 0} {a : Added X} (o : Outside W) (from : Context a → At → Type 0) (had : List Exchange) (old mid : Ported W)
+    (so : Context a → At → Type 0) : Type 0 where
   pub exchanged : ExchangedOn o had All old.wire mid.wire
-  pub told : (c : Setting a) (at : At) → from (before had c) at → AreTold had All old.events.events mid.events.events × so c at
+  pub told : (c : Context a) (at : At) → from (before had c) at → AreTold had All old.events.events mid.events.events × so c at
 
-module _ {X W At : Type 0} {a : Added X} (o : Outside W) (from : Setting a → At → Type 0) where
+module _ {X W At : Type 0} {a : Added X} (o : Outside W) (from : Context a → At → Type 0) where
   -- nothing was asked so far
-  pub come_none : (old mid : Ported W) (so : Setting a → At → Type 0) → mid.wire ≡ old.wire
-      → ((c : Setting a) (at : At) → from c at → AreTold [] All old.events.events mid.events.events × so c at) → HasCome o from [] old mid so
+  pub come_none : (old mid : Ported W) (so : Context a → At → Type 0) → mid.wire ≡ old.wire
+      → ((c : Context a) (at : At) → from c at → AreTold [] All old.events.events mid.events.events × so c at) → HasCome o from [] old mid so
   come_none old mid so same told = record {
     exchanged = subst (λ w. ExchangedOn o [] All old.wire w) (sym same) (on_none o old.wire);
     told = told;
   }
 
   -- something more was done that asks nothing
-  pub come_beside : (had : List Exchange) (old mid new : Ported W) (first so : Setting a → At → Type 0) → HasCome o from had old mid first
-      → new.wire ≡ mid.wire → ((c : Setting a) (at : At) → first c at → AreTold [] All mid.events.events new.events.events × so c at)
+  pub come_beside : (had : List Exchange) (old mid new : Ported W) (first so : Context a → At → Type 0) → HasCome o from had old mid first
+      → new.wire ≡ mid.wire → ((c : Context a) (at : At) → first c at → AreTold [] All mid.events.events new.events.events × so c at)
       → HasCome o from had old new so
   come_beside had old mid new first so come same on = record {
     exchanged = subst (λ w. ExchangedOn o had All old.wire w) (sym same) come.exchanged;
@@ -54,13 +54,13 @@ module _ {X W At : Type 0} {a : Added X} (o : Outside W) (from : Setting a → A
   }
 
   module _ {At' M' R' : Type 0} (had : List Exchange) (old mid : Ported W) (q : Piece a At' M' R') (new : Ported W) where
-    again : (more : List Exchange) (so : Setting a → At → Type 0) → HasCome o from had old mid so → (c : Setting a) (at : At)
+    again : (more : List Exchange) (so : Context a → At → Type 0) → HasCome o from had old mid so → (c : Context a) (at : At)
         → from (before (had ++ more) c) at → AreTold had All old.events.events mid.events.events × so (before more c) at
     again more so come c at h = come.told (before more c) at (subst (λ d. from d at) (before-append had more c) h)
 
     -- another call was made, and went well
-    pub come_then : (first so : Setting a → At → Type 0) (said : R') → HasCome o from had old mid first → (second : Comes o q mid new (Ok said))
-        → ((more : List Exchange) (c : Setting a) (at : At) → first (before more c) at
+    pub come_then : (first so : Context a → At → Type 0) (said : R') → HasCome o from had old mid first → (second : Comes o q mid new (Ok said))
+        → ((more : List Exchange) (c : Context a) (at : At) → first (before more c) at
         → (next : At') × (q.from (before more c) next × (q.says c said (q.does next) → so c at)))
         → (more : List Exchange) × HasCome o from more old new so
     come_then first so said come second on = by second.last second.exchanged second.comes
@@ -81,7 +81,7 @@ module _ {X W At : Type 0} {a : Added X} (o : Outside W) (from : Setting a → A
           },
         )
 
-    module _ {M R : Type 0} (p : (At → M) × ((End → State a.Kept → M) × ((Setting a → R → M → Type 0) × (List Event → M → Type 0)))) where
+    module _ {M R : Type 0} (p : (At → M) × ((End → State a.Kept → M) × ((Context a → R → M → Type 0) × (List Event → M → Type 0)))) where
       abbrev whole : Piece a At M R
       whole = record { from = from; does = p.0; ends = p.1.0; says = p.1.1.0; begins = p.1.1.1 }
 
@@ -154,7 +154,7 @@ module _ {X W At M R : Type 0} {a : Added X} (o : Outside W) (p : Piece a At M R
   }
 
   -- it goes on by another call, whatever comes of that
-  pub comes_goes : {At' : Type 0} (from : Setting a → At' → Type 0) (does : At' → M) (new : Ported W) (result : Result R Stop)
+  pub comes_goes : {At' : Type 0} (from : Context a → At' → Type 0) (does : At' → M) (new : Ported W) (result : Result R Stop)
       → HasCome o p.from had old mid (λ c at. (next : At') × (from c next × (p.does at ≡ does next)))
       → Comes o (record { from = from; does = does; ends = p.ends; says = p.says; begins = p.begins }) mid new result → Comes o p old new result
   comes_goes from does new (Err why) come second =
@@ -178,7 +178,7 @@ module _ {X W At M R : Type 0} {a : Added X} (o : Outside W) (p : Piece a At M R
 module _ {X W At M R : Type 0} {a : Added X} (o : Outside W) (p : Piece a At M R) (old new : Ported W) where
   -- where it may begin, the machine's events begin with those that were there
   abbrev BeginsThere : Type 0
-  BeginsThere = (c : Setting a) (at : At) → p.from c at → p.begins (c.past ++ old.events.events) (p.does at)
+  BeginsThere = (c : Context a) (at : At) → p.from c at → p.begins (c.past ++ old.events.events) (p.does at)
 
   -- a call that had no memory before it asked
   pub comes_without : BeginsThere → new.wire ≡ old.wire → Comes o p old new (Err stop.Memory)
@@ -188,7 +188,7 @@ module _ {X W At M R : Type 0} {a : Added X} (o : Outside W) (p : Piece a At M R
 
   -- a call that asks nothing
   pub comes_alone : BeginsThere → (result : Result R Memory) → new.wire ≡ old.wire
-      → IfOk result (λ said. (c : Setting a) (at : At) → p.from c at → AreTold [] All old.events.events new.events.events × p.says c said (p.does at))
+      → IfOk result (λ said. (c : Context a) (at : At) → p.from c at → AreTold [] All old.events.events new.events.events × p.says c said (p.does at))
       → Comes o p old new (or_stop result)
   comes_alone begins (Ok said) same told = comes_ends o p [] old new said (come_none o p.from old new _ same told)
   comes_alone begins (Err memory) same told = comes_without begins same

@@ -26,27 +26,27 @@ use Rattle.law_cases.proofs.Fits.{asked_kept, kept_nowhere}
 use Rattle.aio_cancel.specs.Awaitables.{Appended}
 use Rattle.aio_timer.specs.declared.live.TimerId.{TimerId}
 use Rattle.aio_timer.specs.Schedule.{placed_after, timer}
-use Rattle.aio_task.specs.Keeps.{ByTimer, Keeps, Kept, Knows, Ties}
+use Rattle.aio_task.specs.Keeps.{ByTimer, Keeps, Kept, Knows, NameMap}
 use Rattle.aio_task.specs.View.{View, parts}
 use Rattle.aio_extra.specs.Added.{Added, named_in}
-use Rattle.aio_body.specs.Asked.{HasRested, IsInStep}
-use Rattle.aio_body.specs.Slots.{standing_at}
-use Rattle.aio_body.specs.Stands.{IsOwnSleep, Setting, Stands}
-use Rattle.aio_body.specs.declared.body.Body.{Body}
-use Rattle.aio_body.specs.declared.standing.Standing.TheVariants.{Sleeping}
+use Rattle.aio_body.specs.Asked.{HasSuspended, IsInStep}
+use Rattle.aio_body.specs.Slots.{resume_point_at}
+use Rattle.aio_body.specs.Stands.{IsOwnSleep, Context, Stands}
+use Rattle.aio_body.specs.declared.run_state.RunState.{RunState}
+use Rattle.aio_body.specs.declared.resume_point.ResumePoint.TheVariants.{Sleeping}
 use Rattle.aio_body.proofs.Kept.{kept_plain}
-use Rattle.aio_body.proofs.Lasting.{Spares, by_ties, knows_on, stands_by}
+use Rattle.aio_body.proofs.Lasting.{Spares, by_name_map, knows_on, stands_by}
 use Rattle.aio_body.proofs.Leaving.{IsNew, Leaves, leaves_on}
 use Rattle.aio_body.proofs.Left.{leaves_later, leaves_plain, leaves_suspend}
 use Rattle.aio_body.proofs.Rooms.{below_appended}
-use Rattle.aio_body.proofs.Slotting.{stands_standing}
+use Rattle.aio_body.proofs.Slotting.{stands_resume_point}
 
 -- one kept after another
-abbrev pub kept_then : (t : Ties) (p q r : Parts) (v w : View) (a : Kept t p v q) → Kept a.ties q w r → Kept t p w r
+abbrev pub kept_then : (t : NameMap) (p q r : Parts) (v w : View) (a : Kept t p v q) → Kept a.name_map q w r → Kept t p w r
 kept_then t p q r v w a b = record {
-  ties = b.ties;
+  name_map = b.name_map;
   keeps = b.keeps;
-  extends = extends_on t a.ties b.ties p q r a.extends b.extends;
+  extends = extends_on t a.name_map b.name_map p q r a.extends b.extends;
 }
 
 -- ---- a future and its timer
@@ -57,10 +57,10 @@ alarmed_view id task v = record v {
 }
 
 -- the alarm is kept, and its tag is known by the timer
-pub kept_alarm : (t : Ties) (v : View) (p : Parts) (k : Keeps t v p) (task delay : ℕ) (id : TimerId) → length v.futures ≡ next_future p
+pub kept_alarm : (t : NameMap) (v : View) (p : Parts) (k : Keeps t v p) (task delay : ℕ) (id : TimerId) → length v.futures ≡ next_future p
     → id ≡ record { number = v.schedule.next; when = min (v.time + delay) most }
     → (kept : Kept t p (alarmed_view id task v) (alarmed task (pos delay) p))
-    × Knows kept.ties (alarmed task (pos delay) p) p.next_tag (ByTimer id)
+    × Knows kept.name_map (alarmed task (pos delay) p) p.next_tag (ByTimer id)
 kept_alarm t v p k task delay id number is = (
   kept_then t p (new_plain p) (alarmed task (pos delay) p) made (alarmed_view id task v) first (second.0),
   second.1,
@@ -81,17 +81,17 @@ kept_alarm t v p k task delay id number is = (
     same : own ≡ id
     same = ap (λ (n : ℕ). record { number = v.schedule.next; when = min (n + delay) most }) (sym k.time) ∙ sym is
 
-    second : (kept : Kept first.ties (new_plain p) (alarmed_view id task v) (alarmed task (pos delay) p))
-        × Knows kept.ties (alarmed task (pos delay) p) p.next_tag (ByTimer id)
+    second : (kept : Kept first.name_map (new_plain p) (alarmed_view id task v) (alarmed task (pos delay) p))
+        × Knows kept.name_map (alarmed task (pos delay) p) p.next_tag (ByTimer id)
     second =
-        subst (λ (i : TimerId). (kept : Kept first.ties (new_plain p) (alarmed_view i task v) (alarmed task (pos delay) p))
-        × Knows kept.ties (alarmed task (pos delay) p) p.next_tag (ByTimer i)) same
+        subst (λ (i : TimerId). (kept : Kept first.name_map (new_plain p) (alarmed_view i task v) (alarmed task (pos delay) p))
+        × Knows kept.name_map (alarmed task (pos delay) p) p.next_tag (ByTimer i)) same
         (subst (λ (n : ℕ).
-        (kept : Kept first.ties (new_plain p)
+        (kept : Kept first.name_map (new_plain p)
         (record made { schedule = record { live = placed_after (timer own (SleepDone task n)) v.schedule.live; next = v.schedule.next + 1 } })
         (alarmed task (pos delay) p))
-        × Knows kept.ties (alarmed task (pos delay) p) p.next_tag (ByTimer own)) (sym number)
-        (scheduling.kept_later first.ties made (new_plain p) first.keeps when (SleepDone task (next_future p))))
+        × Knows kept.name_map (alarmed task (pos delay) p) p.next_tag (ByTimer own)) (sym number)
+        (scheduling.kept_later first.name_map made (new_plain p) first.keeps when (SleepDone task (next_future p))))
 
 pub leaves_alarm : (task delay : ℕ) (p : Parts) → OwnsFutures p → Leaves None p (alarmed task (pos delay) p)
 leaves_alarm task delay p owns =
@@ -144,7 +144,7 @@ asked_within s keep id asked = kept_within s keep id (let most = asked_kept id s
 
 module _ {X : Type 0} {a : Added X} where
   -- a sleep, up to what the task stands at
-  pub sleeps_so : (task delay : ℕ) (c : Setting a) (old new : Body X) (s : State a.Kept) (v w : View) (id : TimerId) (future : ℕ)
+  pub sleeps_so : (task delay : ℕ) (c : Context a) (old new : RunState X) (s : State a.Kept) (v w : View) (id : TimerId) (future : ℕ)
       → (h : IsInStep task c old s) → OwnsFutures s.loop.parts
       → ((place it : ℕ) → slice_get s.futures place ≡ Some it → is_plain s.loop.parts it ≡ true) → AreStreamsFutures s
       → ((other on : ℕ) → waiter_of s.loop.parts other ≡ Some on → on < next_future s.loop.parts) → task < next_task s.loop.parts
@@ -153,16 +153,16 @@ module _ {X : Type 0} {a : Added X} where
       → v ≡ alarmed_view id task old.parts
       → parts w ≡ (suspend task future (parts v)).parts → Appended v.queue w.queue
       → w ≡ record v { queue = w.queue; futures = w.futures; tasks = w.tasks; running = None }
-      → new ≡ record old { parts = w; slots = new.slots } → new.slots.items ≡ standing_at task (Sleeping id future) old.slots.items
-      → HasRested task c new
+      → new ≡ record old { parts = w; slots = new.slots } → new.slots.items ≡ resume_point_at task (Sleeping id future) old.slots.items
+      → HasSuspended task c new
       (stands (plain.Sleeping s.loop.parts.next_tag) task
       (waits task (next_future s.loop.parts) (unbooked_in (alarmed task (pos delay)) s)))
-  sleeps_so task delay c old new s v w id future h owns plains keep waiting within number is made alarm after appended beside slots items = record {
+  sleeps_so task delay c old new s v w id future h owns plains keep waiting within number is made alarm after appended frame slots items = record {
     stands =
-        stands_standing c (record old { parts = w }) new (waits task on (unbooked_in (alarmed task (pos delay)) s)) task (Sleeping id future)
+        stands_resume_point c (record old { parts = w }) new (waits task on (unbooked_in (alarmed task (pos delay)) s)) task (Sleeping id future)
         (plain.Sleeping p.next_tag) asleep (at_it) slots items tasks;
-    called = ap (λ (b : Body X). b.parts.called) slots ∙ ap (λ (x : View). x.called) beside ∙ ap (λ (x : View). x.called) alarm ∙ h.called;
-    running = ap (λ (b : Body X). b.parts.running) slots ∙ ap (λ (x : View). x.running) beside;
+    called = ap (λ (b : RunState X). b.parts.called) slots ∙ ap (λ (x : View). x.called) frame ∙ ap (λ (x : View). x.called) alarm ∙ h.called;
+    running = ap (λ (b : RunState X). b.parts.running) slots ∙ ap (λ (x : View). x.running) frame;
   }
     where
       p : Parts
@@ -180,20 +180,20 @@ module _ {X : Type 0} {a : Added X} where
       here : future ≡ on
       here = number ∙ made
 
-      alarms : (kept : Kept h.stands.ties p (alarmed_view id task old.parts) q) × Knows kept.ties q p.next_tag (ByTimer id)
-      alarms = kept_alarm h.stands.ties old.parts p h.stands.keeps task delay id made is
+      alarms : (kept : Kept h.stands.name_map p (alarmed_view id task old.parts) q) × Knows kept.name_map q p.next_tag (ByTimer id)
+      alarms = kept_alarm h.stands.name_map old.parts p h.stands.keeps task delay id made is
 
-      waited : Kept alarms.0.ties q w r
+      waited : Kept alarms.0.name_map q w r
       waited =
-          kept_suspend alarms.0.ties (alarmed_view id task old.parts) w q alarms.0.keeps task on (record {
+          kept_suspend alarms.0.name_map (alarmed_view id task old.parts) w q alarms.0.keeps task on (record {
             parts = after ∙ ap (λ f. (suspend task f (parts v)).parts) here ∙ ap (λ x. (suspend task on (parts x)).parts) alarm;
             queue = subst (λ (x : View). Appended x.queue w.queue) alarm appended;
-            time = ap (λ (x : View). x.time) beside ∙ ap (λ (x : View). x.time) alarm;
-            schedule = ap (λ (x : View). x.schedule) beside ∙ ap (λ (x : View). x.schedule) alarm;
+            time = ap (λ (x : View). x.time) frame ∙ ap (λ (x : View). x.time) alarm;
+            schedule = ap (λ (x : View). x.schedule) frame ∙ ap (λ (x : View). x.schedule) alarm;
           })
 
-      kept : Kept h.stands.ties p w r
-      kept = kept_then h.stands.ties p q r (alarmed_view id task old.parts) w alarms.0 waited
+      kept : Kept h.stands.name_map p w r
+      kept = kept_then h.stands.name_map p q r (alarmed_view id task old.parts) w alarms.0 waited
 
       leaves : Leaves (Some (task, on)) p r
       leaves = leaves_on (Some (task, on)) p q r (leaves_alarm task delay p owns) (leaves_suspend task on q)
@@ -205,26 +205,27 @@ module _ {X : Type 0} {a : Added X} where
       below = below_appended v.queue w.queue appended ∙ ap (λ (x : View). length x.queue.below) alarm ∙ h.stands.left
 
       profile : w.profile ≡ old.parts.profile
-      profile = ap (λ (x : View). x.profile) beside ∙ ap (λ (x : View). x.profile) alarm
+      profile = ap (λ (x : View). x.profile) frame ∙ ap (λ (x : View). x.profile) alarm
 
       asleep : Stands (Some task) c (record old { parts = w }) (waits task on (unbooked_in (alarmed task (pos delay)) s))
       asleep = stands_by (Some (task, on)) (Some task) c old s w (slept task delay on) h.stands kept leaves spares (refl, refl) c.left below profile
 
-      ties : asleep.ties ≡ kept.ties
-      ties = by_ties (Some (task, on)) (Some task) c old s w (slept task delay on) h.stands kept leaves spares (refl, refl) c.left below profile
+      name_map : asleep.name_map ≡ kept.name_map
+      name_map = by_name_map (Some (task, on)) (Some task) c old s w (slept task delay on) h.stands kept leaves spares (refl, refl) c.left below profile
 
       plain_on : is_plain r on ≡ true
       plain_on = (leaves_suspend task on q).plain on (of_plain q on (record { kind = Plain; outcome = None; callbacks = [] }) (get-push_last p.futures _) refl)
 
-      knows : Knows asleep.ties r p.next_tag (ByTimer id)
-      knows = subst (λ t. Knows t r p.next_tag (ByTimer id)) (sym ties) (knows_on alarms.0.ties waited.ties q r p.next_tag id waited.extends alarms.1)
+      knows : Knows asleep.name_map r p.next_tag (ByTimer id)
+      knows = subst (λ t. Knows t r p.next_tag (ByTimer id)) (sym name_map)
+          (knows_on alarms.0.name_map waited.name_map q r p.next_tag id waited.extends alarms.1)
 
       there : (it : ℕ) → named_in a s it → it < next_future p
       there it (inl found) = (plain_within p it (plains found.0 it found.1)).1
-      there it (inr (inl own)) = a.made h.stands.ties p old.extra s.extra h.stands.extra it own
+      there it (inr (inl own)) = a.made h.stands.name_map p old.extra s.extra h.stands.extra it own
       there it (inr (inr kept)) = asked_within s keep it kept
 
-      at_it : Knows asleep.ties r p.next_tag (ByTimer id) × IsOwnSleep r (named_in a s) (Some task) future
+      at_it : Knows asleep.name_map r p.next_tag (ByTimer id) × IsOwnSleep r (named_in a s) (Some task) future
       at_it = (knows, subst (IsOwnSleep r (named_in a s) (Some task)) (sym here) (own_sleep task delay p (named_in a s) there waiting leaves plain_on))
 
       tasks : task < next_task r

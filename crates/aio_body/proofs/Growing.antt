@@ -9,23 +9,23 @@ use Rattle.model_wire.specs.Event.{Event}
 use Rattle.model_machine.specs.Extra.{Extra}
 use Rattle.model_machine.specs.Replies as plain
 use Rattle.model_machine.specs.Replies.{decides, reply}
-use Rattle.model_machine.specs.State.{Standing, State, generator_of, resumed}
+use Rattle.model_machine.specs.State.{ResumePoint, State, generator_of, resumed}
 use Rattle.model_machine.specs.Step.{most_answers, says_of, serve, serve_all, served, taken_as}
 use Rattle.model_machine.specs.Went.{Went, Goes, Stops, answers_in, went_on}
 use Rattle.law_changes.proofs.Folds.{fold}
 use Rattle.law_runs.proofs.Counts.{goes_on_same, goes_on_one, goes_on_then, answers-said, answers-ran, answers-got, answers-called}
 use Rattle.law_reach.proofs.Opened.{decides_comes, reply_comes}
 use Rattle.law_reach.proofs.Rows.{in_answer, in_callback, in_turn}
-use Rattle.law_reach.specs.Changes.{StateChange, OfLoop, Says as Speaks, MakesCoroutine, Stands as StandsAt, Resumes, NamesFuture, EndsMain}
+use Rattle.law_reach.specs.Changes.{StateChange, OfLoop, Says as Speaks, MakesCoroutine, SetsResumePoint as StandsAt, Resumes, NamesFuture, EndsMain}
 use Rattle.law_reach.specs.Changes.{ChangesExtra, ChangesStreams}
 use Rattle.law_reach.specs.Changes.{Runs, Hears, Calls, MayInRun, made}
 use Rattle.law_reach.specs.Reaches.{InRun, left_by}
-use Rattle.aio_body.specs.Asking.{GoesOn, ReplyBegins, WentBegins}
+use Rattle.aio_body.specs.Asking.{EventsGrow, ReplyBegins, WentBegins}
 
 -- ---- rows of changes
 -- events are added, and each answer among them is one that was left
 abbrev pub IsRowOn : {S : Type 0} → State S → State S → Type 0
-IsRowOn s t = GoesOn s.events t.events × (answers_in t.events + length t.answers ≡ answers_in s.events + length s.answers)
+IsRowOn s t = EventsGrow s.events t.events × (answers_in t.events + length t.answers ≡ answers_in s.events + length s.answers)
 
 same_on : {S : Type 0} (s : State S) → IsRowOn s s
 same_on s = (goes_on_same s.events, refl)
@@ -47,7 +47,7 @@ change_on (Hears call answer left) s may =
     )
 change_on (OfLoop change) s may = same_on s
 change_on (MakesCoroutine coroutine arguments) s may = same_on s
-change_on (StandsAt standing task) s may = same_on s
+change_on (StandsAt resume_point task) s may = same_on s
 change_on (Resumes fresh task input) s may = same_on s
 change_on (NamesFuture future) s may = same_on s
 change_on EndsMain s may = same_on s
@@ -58,14 +58,14 @@ pub row_on : {S : Type 0} (s t : State S) → InRun s t → IsRowOn s t
 row_on s t row = fold IsRowOn same_on then_on change_on row
 
 -- what the state after them tells begins with these
-pub row_begins : {S : Type 0} (events : List Event) (s t : State S) → InRun s t → s.events ≡ events → GoesOn events t.events
-row_begins events s t row same = subst (λ (es : List Event). GoesOn es t.events) same (row_on s t row).0
+pub row_begins : {S : Type 0} (events : List Event) (s t : State S) → InRun s t → s.events ≡ events → EventsGrow events t.events
+row_begins events s t row same = subst (λ (es : List Event). EventsGrow es t.events) same (row_on s t row).0
 
 -- ---- requests
-pub replies_begin : {S : Type 0} (events : List Event) (it : plain.RequestReply S) → GoesOn events (left_by it).events → ReplyBegins events it
+pub replies_begin : {S : Type 0} (events : List Event) (it : plain.RequestReply S) → EventsGrow events (left_by it).events → ReplyBegins events it
 replies_begin events (plain.Answers value now) goes = goes
 replies_begin events (plain.Raises fault now) goes = goes
-replies_begin events (plain.Rests now) goes = goes
+replies_begin events (plain.Suspends now) goes = goes
 replies_begin events (plain.Halts how last) goes = goes
 
 module _ {S : Type 0} (added : Extra S) (task : ℕ) (events : List Event) (s : State S) (same : s.events ≡ events) where
@@ -75,7 +75,7 @@ module _ {S : Type 0} (added : Extra S) (task : ℕ) (events : List Event) (s : 
       (row_begins events s (left_by (reply added task request s))
       (in_turn added (in_callback added (in_answer added (reply_comes added task request s).reaches))) same)
 
-  pub decides_begins : (stood : Standing) (input : Input) → ReplyBegins events (decides added stood task input s)
+  pub decides_begins : (stood : ResumePoint) (input : Input) → ReplyBegins events (decides added stood task input s)
   decides_begins stood input =
       replies_begin events (decides added stood task input s)
       (row_begins events s (left_by (decides added stood task input s))
@@ -92,7 +92,7 @@ taken_begins events (plain.Answers value now) fresh task go_on adds goes =
     goes_on_then events now.events _ goes (adds (resumed fresh task (Send value) now))
 taken_begins events (plain.Raises fault now) fresh task go_on adds goes =
     goes_on_then events now.events _ goes (adds (resumed fresh task (Throw fault) now))
-taken_begins events (plain.Rests now) fresh task go_on adds goes = goes
+taken_begins events (plain.Suspends now) fresh task go_on adds goes = goes
 taken_begins events (plain.Halts how last) fresh task go_on adds goes = goes
 
 -- one thing after another

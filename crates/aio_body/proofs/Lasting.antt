@@ -8,21 +8,21 @@ use Rattle.model_loop.specs.Tasks.{cancelling, lives, next_task, waiter_of}
 use Rattle.model_machine.specs.State as plain
 use Rattle.model_machine.specs.State.{State, generator_of, in_loop, with_loop}
 use Rattle.aio_timer.specs.declared.live.TimerId.{TimerId}
-use Rattle.aio_task.specs.Keeps.{Ties, Extends, Keeps, Kept, Knows, ByTimer}
+use Rattle.aio_task.specs.Keeps.{NameMap, Extends, Keeps, Kept, Knows, ByTimer}
 use Rattle.aio_task.specs.View.{View}
 use Rattle.aio_timeout.specs.declared.timeout.Timeout.{Timeout}
 use Rattle.aio_extra.specs.Added.{Added, GoesBeside, named_in}
-use Rattle.aio_group.specs.GoesOn.{GoesOn}
+use Rattle.aio_group.specs.GoesOn.{PartsGoOn}
 use Rattle.aio_group.specs.Held.{Held}
-use Rattle.aio_body.specs.declared.body.Body.{Body}
-use Rattle.aio_body.specs.declared.standing.Standing.{Standing}
-use Rattle.aio_body.specs.declared.standing.Standing.TheVariants.{Connecting, Sleeping}
-use Rattle.aio_body.specs.Stands.{AreBlocks, Setting, Stands, IsOwnSleep, StandsAt}
+use Rattle.aio_body.specs.declared.run_state.RunState.{RunState}
+use Rattle.aio_body.specs.declared.resume_point.ResumePoint.{ResumePoint}
+use Rattle.aio_body.specs.declared.resume_point.ResumePoint.TheVariants.{Connecting, Sleeping}
+use Rattle.aio_body.specs.Stands.{AreBlocks, Context, Stands, IsOwnSleep, StandsAt}
 use Rattle.aio_body.proofs.Blocks.{blocks_on}
 use Rattle.aio_body.proofs.Leaving.{IsNew, Leaves}
 
 -- what a tag is known by stays
-pub knows_on : (t u : Ties) (p q : Parts) (tag : ℕ) (timer : TimerId) → Extends p t q u → Knows t p tag (ByTimer timer) → Knows u q tag (ByTimer timer)
+pub knows_on : (t u : NameMap) (p q : Parts) (tag : ℕ) (timer : TimerId) → Extends p t q u → Knows t p tag (ByTimer timer) → Knows u q tag (ByTimer timer)
 knows_on t u p q tag timer e k = record {
   given = omega (arith, k.given, e.tags);
   known = e.known tag k.given ∙ k.known;
@@ -58,17 +58,17 @@ own_on new p q named sleeper id leaves spares own = own_by p q named sleeper id 
     at task (inr e) = inr (spares task id e sleeper own)
 
 -- what a task stands at goes on, where what is known of timers does, and so the futures of sleeps
-pub stands_at_by : (t u : Ties) (p q : Parts) (named names : ℕ → Type 0) (task : ℕ) (code : Standing) (standing : plain.Standing)
+pub stands_at_by : (t u : NameMap) (p q : Parts) (named names : ℕ → Type 0) (task : ℕ) (code : ResumePoint) (resume_point : plain.ResumePoint)
     → ((tag : ℕ) (timer : TimerId) → Knows t p tag (ByTimer timer) → Knows u q tag (ByTimer timer))
     → ((id : ℕ) → IsOwnSleep p named (Some task) id → IsOwnSleep q names (Some task) id)
-    → StandsAt t p named task code standing → StandsAt u q names task code standing
+    → StandsAt t p named task code resume_point → StandsAt u q names task code resume_point
 stands_at_by t u p q named names task (Sleeping timer future) (plain.Sleeping tag) knows own h = (knows tag timer h.0, own future h.1)
 stands_at_by t u p q named names task (Connecting conn future) (plain.Connecting id) knows own h = (h.0, own future h.1)
 stands_at_by t u p q named names task _ _ knows own h = h
 
 -- what is added stands beside what an operation leaves
-pub goes_beside : (owned : ℕ → Type 0) (t u : Ties) (p q : Parts) → Extends p t q u → ((id : ℕ) → is_plain p id ≡ true → is_plain q id ≡ true)
-    → GoesOn p q → GoesBeside owned t p u q
+pub goes_beside : (owned : ℕ → Type 0) (t u : NameMap) (p q : Parts) → Extends p t q u → ((id : ℕ) → is_plain p id ≡ true → is_plain q id ≡ true)
+    → PartsGoOn p q → GoesBeside owned t p u q
 goes_beside owned t u p q e plain on = record {
   known = e.known;
   tags = e.tags;
@@ -82,8 +82,8 @@ goes_beside owned t u p q e plain on = record {
 abbrev pub SameBlocks : (l m : Loop) → Type 0
 SameBlocks l m = (m.timeouts ≡ l.timeouts) × (m.groups ≡ l.groups)
 
--- Parts, blocks and what is added stand for a state by the ties u, after one for which they stood by the ties t; no task is new.
-pub record GoesAs {X : Type 0} (a : Added X) (t u : Ties) (new : Body X) (s now : State a.Kept) : Type 0 where
+-- Parts, blocks and what is added stand for a state by the name map u, after one for which they stood by the name map t; no task is new.
+pub record GoesAs {X : Type 0} (a : Added X) (t u : NameMap) (new : RunState X) (s now : State a.Kept) : Type 0 where
   pub keeps : Keeps u new.parts now.loop.parts
   pub blocks : AreBlocks u new.timeouts new.groups now.loop
   pub tasks : next_task now.loop.parts ≡ next_task s.loop.parts
@@ -98,14 +98,14 @@ pub record GoesAs {X : Type 0} (a : Added X) (t u : Ties) (new : Body X) (s now 
 
 module _ {X : Type 0} {a : Added X} where
   -- Nothing changes but parts, timeouts, groups and what is added.
-  unfoldable pub parts_change : (out : Option ℕ) (c : Setting a) (old : Body X) (s : State a.Kept) (u : Ties) (v : View) (timeouts : List Timeout)
+  unfoldable pub parts_change : (out : Option ℕ) (c : Context a) (old : RunState X) (s : State a.Kept) (u : NameMap) (v : View) (timeouts : List Timeout)
       (groups : List Held) (x : X) (m : Loop) (it : a.Kept) (left bar : ℕ) (h : Stands out c old s)
-      → GoesAs a h.ties u (record old { parts = v; timeouts = timeouts; groups = groups; extra = x }) s (record s { loop = m; extra = it })
+      → GoesAs a h.name_map u (record old { parts = v; timeouts = timeouts; groups = groups; extra = x }) s (record s { loop = m; extra = it })
       → length v.queue.below ≡ left → u.bar ≡ bar → v.profile ≡ old.parts.profile
       → Stands out (record c { left = left; bar = bar }) (record old { parts = v; timeouts = timeouts; groups = groups; extra = x })
       (record s { loop = m; extra = it })
   parts_change out c old s u v timeouts groups x m it left bar h goes below at_bar same = record {
-    ties = u;
+    name_map = u;
     code = h.code;
     profile = same ∙ h.profile;
     keeps = goes.keeps;
@@ -120,9 +120,9 @@ module _ {X : Type 0} {a : Added X} where
       found = has.found;
       right = record {
         waits = has.right.waits;
-        standing =
-            stands_at_by h.ties u s.loop.parts m.parts (named_in a s) (named_in a (record s { loop = m; extra = it })) task has.slot.standing
-            (generator_of task s).standing goes.knows (goes.own (Some task)) has.right.standing;
+        resume_point =
+            stands_at_by h.name_map u s.loop.parts m.parts (named_in a s) (named_in a (record s { loop = m; extra = it })) task has.slot.resume_point
+            (generator_of task s).resume_point goes.knows (goes.own (Some task)) has.right.resume_point;
       };
     };
     gone = goes.gone;
@@ -139,21 +139,22 @@ module _ {X : Type 0} {a : Added X} where
   }
 
   -- Steps of the loop, and of what is added, after which it stands for what it keeps then.
-  unfoldable pub stands_after : (new : Option (ℕ × ℕ)) (out : Option ℕ) (c : Setting a) (old : Body X) (s : State a.Kept) (v : View) (timeouts : List Timeout)
-      (groups : List Held) (x : X) (m : Loop) (it : a.Kept) (left : ℕ) (h : Stands out c old s) (kept : Kept h.ties s.loop.parts v m.parts)
-      → Leaves new s.loop.parts m.parts → AreBlocks kept.ties timeouts groups m
+  unfoldable pub stands_after : (new : Option (ℕ × ℕ)) (out : Option ℕ) (c : Context a) (old : RunState X) (s : State a.Kept) (v : View)
+      (timeouts : List Timeout)
+      (groups : List Held) (x : X) (m : Loop) (it : a.Kept) (left : ℕ) (h : Stands out c old s) (kept : Kept h.name_map s.loop.parts v m.parts)
+      → Leaves new s.loop.parts m.parts → AreBlocks kept.name_map timeouts groups m
       → ((sleeper : Option ℕ) (id : ℕ) → IsOwnSleep s.loop.parts (named_in a s) sleeper id
       → IsOwnSleep m.parts (named_in a (record s { loop = m; extra = it })) sleeper id)
-      → a.stands kept.ties m.parts x it → length v.queue.below ≡ left → v.profile ≡ old.parts.profile
+      → a.stands kept.name_map m.parts x it → length v.queue.below ≡ left → v.profile ≡ old.parts.profile
       → Stands out (record c { left = left }) (record old { parts = v; timeouts = timeouts; groups = groups; extra = x })
       (record s { loop = m; extra = it })
   stands_after new out c old s v timeouts groups x m it left h kept leaves blocks own extra below same =
-      parts_change out c old s kept.ties v timeouts groups x m it left c.bar h (record {
+      parts_change out c old s kept.name_map v timeouts groups x m it left c.bar h (record {
         keeps = kept.keeps;
         blocks = blocks;
         tasks = leaves.tasks;
         living = leaves.living;
-        knows = λ tag timer. knows_on h.ties kept.ties s.loop.parts m.parts tag timer kept.extends;
+        knows = λ tag timer. knows_on h.name_map kept.name_map s.loop.parts m.parts tag timer kept.extends;
         own = own;
         gone = λ id e. own None id (h.gone id (sym (ap (λ f. f id) kept.extends.gone) ∙ e));
         time = subst (λ n. n ≤ most) (sym leaves.time) h.time;
@@ -162,47 +163,47 @@ module _ {X : Type 0} {a : Added X} where
       }) below (kept.extends.bar ∙ h.bar) same
 
   -- Steps of the loop alone, after which timeouts and groups stand for its own, by whatever the code made of them.
-  pub stands_kept : (new : Option (ℕ × ℕ)) (out : Option ℕ) (c : Setting a) (old : Body X) (s : State a.Kept) (v : View) (timeouts : List Timeout)
-      (groups : List Held) (m : Loop) (left : ℕ) (h : Stands out c old s) (kept : Kept h.ties s.loop.parts v m.parts)
-      → Leaves new s.loop.parts m.parts → Spares new s.loop.parts (named_in a s) → AreBlocks kept.ties timeouts groups m
+  pub stands_kept : (new : Option (ℕ × ℕ)) (out : Option ℕ) (c : Context a) (old : RunState X) (s : State a.Kept) (v : View) (timeouts : List Timeout)
+      (groups : List Held) (m : Loop) (left : ℕ) (h : Stands out c old s) (kept : Kept h.name_map s.loop.parts v m.parts)
+      → Leaves new s.loop.parts m.parts → Spares new s.loop.parts (named_in a s) → AreBlocks kept.name_map timeouts groups m
       → length v.queue.below ≡ left → v.profile ≡ old.parts.profile
       → Stands out (record c { left = left }) (record old { parts = v; timeouts = timeouts; groups = groups }) (with_loop m s)
   stands_kept new out c old s v timeouts groups m left h kept leaves spares blocks below same =
       stands_after new out c old s v timeouts groups old.extra m s.extra left h kept leaves blocks
       (λ sleeper id. own_on new s.loop.parts m.parts (named_in a s) sleeper id leaves spares)
-      (a.goes_on h.ties kept.ties s.loop.parts m.parts old.extra s.extra h.extra
-      (goes_beside (a.owns s.extra) h.ties kept.ties s.loop.parts m.parts kept.extends leaves.plain leaves.goes_on)) below same
+      (a.goes_on h.name_map kept.name_map s.loop.parts m.parts old.extra s.extra h.extra
+      (goes_beside (a.owns s.extra) h.name_map kept.name_map s.loop.parts m.parts kept.extends leaves.plain leaves.goes_on)) below same
 
   -- An operation on the parts alone, whose view is `v` then, with so many handles before the bar.
-  pub stands_by : (new : Option (ℕ × ℕ)) (out : Option ℕ) (c : Setting a) (old : Body X) (s : State a.Kept) (v : View) (change : Loop → Loop)
-      → (h : Stands out c old s) → Kept h.ties s.loop.parts v (change s.loop).parts → Leaves new s.loop.parts (change s.loop).parts
+  pub stands_by : (new : Option (ℕ × ℕ)) (out : Option ℕ) (c : Context a) (old : RunState X) (s : State a.Kept) (v : View) (change : Loop → Loop)
+      → (h : Stands out c old s) → Kept h.name_map s.loop.parts v (change s.loop).parts → Leaves new s.loop.parts (change s.loop).parts
       → Spares new s.loop.parts (named_in a s) → SameBlocks s.loop (change s.loop) → (left : ℕ) → length v.queue.below ≡ left
       → v.profile ≡ old.parts.profile
       → Stands out (record c { left = left }) (record old { parts = v }) (in_loop change s)
   stands_by new out c old s v change h kept leaves spares same left below profile =
       stands_kept new out c old s v old.timeouts old.groups (change s.loop) left h kept leaves spares
-      (blocks_on h.ties kept.ties old.timeouts old.groups s.loop (change s.loop) kept.extends leaves.goes_on same.0 same.1 h.blocks) below profile
+      (blocks_on h.name_map kept.name_map old.timeouts old.groups s.loop (change s.loop) kept.extends leaves.goes_on same.0 same.1 h.blocks) below profile
 
-  -- It stands by the ties that the parts stand by then.
-  pub by_ties : (new : Option (ℕ × ℕ)) (out : Option ℕ) (c : Setting a) (old : Body X) (s : State a.Kept) (v : View) (change : Loop → Loop)
-      (h : Stands out c old s) (kept : Kept h.ties s.loop.parts v (change s.loop).parts) (leaves : Leaves new s.loop.parts (change s.loop).parts)
+  -- It stands by the name map that the parts stand by then.
+  pub by_name_map : (new : Option (ℕ × ℕ)) (out : Option ℕ) (c : Context a) (old : RunState X) (s : State a.Kept) (v : View) (change : Loop → Loop)
+      (h : Stands out c old s) (kept : Kept h.name_map s.loop.parts v (change s.loop).parts) (leaves : Leaves new s.loop.parts (change s.loop).parts)
       (spares : Spares new s.loop.parts (named_in a s)) (same : SameBlocks s.loop (change s.loop)) (left : ℕ) (below : length v.queue.below ≡ left)
       (profile : v.profile ≡ old.parts.profile)
-      → (stands_by new out c old s v change h kept leaves spares same left below profile).ties ≡ kept.ties
+      → (stands_by new out c old s v change h kept leaves spares same left below profile).name_map ≡ kept.name_map
   unfolding stands_by stands_kept stands_after parts_change
-  by_ties new out c old s v change h kept leaves spares same left below profile = refl
+  by_name_map new out c old s v change h kept leaves spares same left below profile = refl
 
   -- with as many handles before the bar as the view has
-  pub stands_left : (new : Option (ℕ × ℕ)) (out : Option ℕ) (c : Setting a) (old : Body X) (s : State a.Kept) (v : View) (change : Loop → Loop)
-      → (h : Stands out c old s) → Kept h.ties s.loop.parts v (change s.loop).parts → Leaves new s.loop.parts (change s.loop).parts
+  pub stands_left : (new : Option (ℕ × ℕ)) (out : Option ℕ) (c : Context a) (old : RunState X) (s : State a.Kept) (v : View) (change : Loop → Loop)
+      → (h : Stands out c old s) → Kept h.name_map s.loop.parts v (change s.loop).parts → Leaves new s.loop.parts (change s.loop).parts
       → Spares new s.loop.parts (named_in a s) → SameBlocks s.loop (change s.loop) → v.profile ≡ old.parts.profile
       → Stands out (record c { left = length v.queue.below }) (record old { parts = v }) (in_loop change s)
   stands_left new out c old s v change h kept leaves spares same profile =
       stands_by new out c old s v change h kept leaves spares same (length v.queue.below) refl profile
 
   -- where those stay as many
-  pub stands_on : (new : Option (ℕ × ℕ)) (out : Option ℕ) (c : Setting a) (old : Body X) (s : State a.Kept) (v : View) (change : Loop → Loop)
-      → (h : Stands out c old s) → Kept h.ties s.loop.parts v (change s.loop).parts → Leaves new s.loop.parts (change s.loop).parts
+  pub stands_on : (new : Option (ℕ × ℕ)) (out : Option ℕ) (c : Context a) (old : RunState X) (s : State a.Kept) (v : View) (change : Loop → Loop)
+      → (h : Stands out c old s) → Kept h.name_map s.loop.parts v (change s.loop).parts → Leaves new s.loop.parts (change s.loop).parts
       → Spares new s.loop.parts (named_in a s) → SameBlocks s.loop (change s.loop) → length v.queue.below ≡ length old.parts.queue.below
       → v.profile ≡ old.parts.profile
       → Stands out c (record old { parts = v }) (in_loop change s)

@@ -4,7 +4,7 @@ use Rattle.model_value.specs.Number.{most}
 use Rattle.model_loop.specs.Owning.{is_plain}
 use Rattle.model_loop.specs.Parts.{Parts}
 use Rattle.model_loop.specs.Tasks.{cancelling, lives, next_task, waiter_of}
-use Rattle.aio_group.specs.GoesOn.{GoesOn}
+use Rattle.aio_group.specs.GoesOn.{PartsGoOn}
 use Rattle.aio_group.proofs.Going.{same_on, then_on}
 
 -- that this task waits for this future is new
@@ -20,7 +20,7 @@ pub record Leaves (new : Option (ℕ × ℕ)) (p q : Parts) : Type 0 where
   pub waits : (task id : ℕ) → waiter_of q task ≡ Some id → (waiter_of p task ≡ Some id) ⊎ IsNew new task id
   pub time : q.time ≡ p.time
   pub counts : ((task : ℕ) → cancelling p task ≤ most) → (task : ℕ) → cancelling q task ≤ most
-  pub goes_on : GoesOn p q
+  pub goes_on : PartsGoOn p q
 
 pub leaves_same : (p : Parts) → Leaves None p p
 leaves_same p = record {

@@ -5,13 +5,13 @@ use Rattle.std.specs.Prelude.{is_none}
 use Rattle.std.specs.Option.{option_map_or}
 use Rattle.std.proofs.lemmas.Bool.{cases_eq, cases_lt, false≢true, le-ltb, lt-ltb}
 use Rattle.model_value.specs.Number.{most}
-use Rattle.model_value.specs.Action.{Action, Circle}
+use Rattle.model_value.specs.Action.{Action, CycleKind}
 use Rattle.model_value.specs.Input.{Input}
 use Rattle.model_value.specs.Value.{Value, Exc, Outcome}
-use Rattle.model_value.specs.declared.action.Action.TheVariants.{StepInCircle, Wakeup}
+use Rattle.model_value.specs.declared.action.Action.TheVariants.{StepInCycle, Wakeup}
 use Rattle.model_value.specs.declared.outcome.Outcome.TheVariants.{Value as Returned, Failed, Cancelled}
 use Rattle.model_loop.specs.Cancel.{cancel, has_seen}
-use Rattle.model_loop.specs.Circles.{circle}
+use Rattle.model_loop.specs.Cycles.{cycle}
 use Rattle.model_loop.specs.Futures.{is_pending, is_pending_at, make_future, new_plain, next_future, outcome_at, register, registered, registered_on, settle}
 use Rattle.model_loop.specs.Futures.{settled, settled_as}
 use Rattle.model_loop.specs.Handles.{later, revoke, soon, soon_all}
@@ -19,8 +19,9 @@ use Rattle.model_loop.specs.Ledger.{Origin, request}
 use Rattle.model_loop.specs.Owning.{is_plain_at, owner_at, owner_of, is_main_done}
 use Rattle.model_loop.specs.Parts.{Future, FutureKind, Parts, Plain, Task}
 use Rattle.model_loop.specs.Suspend.{cancel_wait, suspend, suspend_unless, wait_on}
-use Rattle.model_loop.specs.Tasks.{begin_step, cancelling, change_task, finish, future_of, is_marked, lives, next_task, one_more, pause, set_waiter, uncancel}
-use Rattle.model_loop.specs.Tasks.{unmark, waiter_of}
+use Rattle.model_loop.specs.Tasks.{begin_step, cancelling, change_task, finish, future_of, must_cancel_of, lives, next_task, one_more, pause, set_waiter}
+use Rattle.model_loop.specs.Tasks.{uncancel}
+use Rattle.model_loop.specs.Tasks.{clear_must_cancel, waiter_of}
 use Rattle.law_cancel.proofs.Counting.{change_task-kept, goes-counts}
 use Rattle.law_cancel.proofs.Effects.{change_task-futures, length-change_task, register-tasks, settle-pending, settle-tasks}
 use Rattle.law_cancel.proofs.Lookups.{get-push_other, get-set_other, get-set_same, get_within}
@@ -37,7 +38,7 @@ use Rattle.law_replies.proofs.Counts.{lives_within}
 use Rattle.refine_parts.specs.Waits.{WaitedBefore}
 use Rattle.refine_parts.proofs.Only.{OnlyAppends, appends, changes_begin, changes_task, only_cancel, only_finish, only_settle, only_suspend}
 use Rattle.refine_parts.proofs.Waiting.{before_begin, before_cancel, before_finish, before_register, before_settle, before_uncancel, waits_suspend}
-use Rattle.aio_group.specs.GoesOn.{GoesOn}
+use Rattle.aio_group.specs.GoesOn.{PartsGoOn}
 use Rattle.aio_group.proofs.Going.{cancel_on, own_there as own_stays, register_on, settle_on, then_on, uncancel_on}
 use Rattle.aio_body.proofs.Leaving.{Leaves}
 
@@ -175,7 +176,7 @@ own_change id change p same task =
     ∙ ap (option_map_or (λ (it : Task). it.future) (slice_get p.tasks task)) (made_change id change p)
 
 -- ---- how parts go on
-same_parts_on : (p q : Parts) → q.futures ≡ p.futures → q.tasks ≡ p.tasks → GoesOn p q
+same_parts_on : (p q : Parts) → q.futures ≡ p.futures → q.tasks ≡ p.tasks → PartsGoOn p q
 same_parts_on p q futures tasks =
     let f = ap length futures in
     let n = ap length tasks in
@@ -187,7 +188,7 @@ same_parts_on p q futures tasks =
       failures = λ id fault e. ap (λ (fs : List Future). outcome_at (slice_get fs id)) futures ∙ e;
     }
 
-pub change_on : (id : ℕ) (change : Task → Task) (p : Parts) → ((it : Task) → (change it).future ≡ it.future) → GoesOn p (change_task id change p)
+pub change_on : (id : ℕ) (change : Task → Task) (p : Parts) → ((it : Task) → (change it).future ≡ it.future) → PartsGoOn p (change_task id change p)
 change_on id change p same =
     let q = change_task id change p in
     let f : q.futures ≡ p.futures = change_task-futures id change p in
@@ -202,7 +203,7 @@ change_on id change p same =
     }
 
 -- ---- what each operation leaves
-leaves_by : (p q : Parts) → After p q → next_future q ≡ next_future p → WaitedBefore p q → q.time ≡ p.time → Counts p q → GoesOn p q → Leaves None p q
+leaves_by : (p q : Parts) → After p q → next_future q ≡ next_future p → WaitedBefore p q → q.time ≡ p.time → Counts p q → PartsGoOn p q → Leaves None p q
 leaves_by p q a made waits time counts on = record {
   tasks = a.same refl;
   living = living_on p q a made;
@@ -236,7 +237,7 @@ leaves_revoke tag p = leaves_handles p (revoke tag p) refl refl refl
 pub leaves_later : (when : ℕ) (action : Action) (p : Parts) → Leaves None p (later when action p)
 leaves_later when action p = leaves_handles p (later when action p) refl refl refl
 
-make_on : (kind : FutureKind) (p : Parts) → GoesOn p (make_future kind p)
+make_on : (kind : FutureKind) (p : Parts) → PartsGoOn p (make_future kind p)
 make_on kind p = record {
   tasks = omega arith;
   futures = let l = length-append p.futures (made ∷ []) in omega (arith, l);
@@ -308,8 +309,8 @@ leaves_uncancel task p =
     (counts_change task _ p (λ it h. fewer it.cancels h)) (uncancel_on task p)
 
 -- ---- steps
-abbrev unmarked : Task → Task
-unmarked it = record it { must_cancel = false }
+abbrev cleared : Task → Task
+cleared it = record it { must_cancel = false }
 
 abbrev waits_for : Option ℕ → Task → Task
 waits_for waiter it = record it { waiter = waiter }
@@ -318,15 +319,15 @@ pub leaves_begin : (task : ℕ) (input : Input) (p : Parts) → Leaves None p (b
 leaves_begin task input p =
     let q = set_waiter task None p in
     leaves_by p (begin_step task input p).parts (begin_after any false None task input p)
-    (made_change task unmarked q ∙ made_change task (waits_for None) p) (before_begin task input p)
+    (made_change task cleared q ∙ made_change task (waits_for None) p) (before_begin task input p)
     (soon_time p (begin_step task input p).parts (appends (changes_begin task input p)))
-    (counts_on p q (unmark task q) (counts_change task (waits_for None) p (λ it h. h)) (counts_change task unmarked q (λ it h. h)))
-    (then_on p q (unmark task q) (change_on task (waits_for None) p (λ it. refl)) (change_on task unmarked q (λ it. refl)))
+    (counts_on p q (clear_must_cancel task q) (counts_change task (waits_for None) p (λ it h. h)) (counts_change task cleared q (λ it h. h)))
+    (then_on p q (clear_must_cancel task q) (change_on task (waits_for None) p (λ it. refl)) (change_on task cleared q (λ it. refl)))
 
 -- a step's task waits for nothing
 pub begun_waits : (task : ℕ) (input : Input) (p : Parts) → waiter_of (begin_step task input p).parts task ≡ None
 begun_waits task input p =
-    change_task-kept (λ o. option_map_or (λ (it : Task). it.waiter) o None) task unmarked (set_waiter task None p) (λ it. refl) task
+    change_task-kept (λ o. option_map_or (λ (it : Task). it.waiter) o None) task cleared (set_waiter task None p) (λ it. refl) task
     ∙ waits_none task p
 
 pub leaves_finish : (task : ℕ) (end : Result Value Exc) (p : Parts) → Leaves None p (finish task end p)
@@ -335,18 +336,19 @@ leaves_finish task end p =
     (soon_time p (finish task end p) (only_finish task end p)) (counts end) (on end)
   where
     made : (end : Result Value Exc) → next_future (finish task end p) ≡ next_future p
-    made (Ok value) = made_settle (future_of p task) _ (unmark task p) ∙ made_change task unmarked p
+    made (Ok value) = made_settle (future_of p task) _ (clear_must_cancel task p) ∙ made_change task cleared p
     made (Err fault) = made_settle (future_of p task) _ p
 
     counts : (end : Result Value Exc) → Counts p (finish task end p)
     counts (Ok value) =
-        counts_on p (unmark task p) (finish task (Ok value) p) (counts_change task unmarked p (λ it h. h))
-        (counts_same (unmark task p) (finish task (Ok value) p) (settle-tasks (future_of p task) _ (unmark task p)))
+        counts_on p (clear_must_cancel task p) (finish task (Ok value) p) (counts_change task cleared p (λ it h. h))
+        (counts_same (clear_must_cancel task p) (finish task (Ok value) p) (settle-tasks (future_of p task) _ (clear_must_cancel task p)))
     counts (Err fault) = counts_same p (finish task (Err fault) p) (settle-tasks (future_of p task) _ p)
 
-    on : (end : Result Value Exc) → GoesOn p (finish task end p)
+    on : (end : Result Value Exc) → PartsGoOn p (finish task end p)
     on (Ok value) =
-        then_on p (unmark task p) (finish task (Ok value) p) (change_on task unmarked p (λ it. refl)) (settle_on (future_of p task) _ (unmark task p))
+        then_on p (clear_must_cancel task p) (finish task (Ok value) p) (change_on task cleared p (λ it. refl))
+        (settle_on (future_of p task) _ (clear_must_cancel task p))
     on (Err fault) = settle_on (future_of p task) _ p
 
 -- a future that was settled is done
@@ -365,10 +367,10 @@ settle_done id outcome p = at (slice_get p.futures id) refl
 -- a task that was finished is done
 pub finish_done : (task : ℕ) (end : Result Value Exc) (p : Parts) → lives (finish task end p) task ≡ false
 finish_done task (Ok value) p =
-    let q = unmark task p in
+    let q = clear_must_cancel task p in
     let own : future_of (finish task (Ok value) p) task ≡ future_of p task =
     own_same q (finish task (Ok value) p) (settle-tasks (future_of p task) _ q) (made_settle (future_of p task) _ q) task
-    ∙ own_change task unmarked p (λ it. refl) task in
+    ∙ own_change task cleared p (λ it. refl) task in
     ap (is_pending (finish task (Ok value) p)) own ∙ settle_done (future_of p task) _ q
 finish_done task (Err fault) p =
     let own : future_of (finish task (Err fault) p) task ≡ future_of p task =
@@ -384,16 +386,16 @@ wait_counts task on p =
     let q = register on (Wakeup task) p in
     counts_on p q (wait_on task on p) (counts_same p q (register-tasks on (Wakeup task) p)) (counts_change task (waits_for (Some on)) q (λ it h. h))
 
-wait_goes : (task on : ℕ) (p : Parts) → GoesOn p (wait_on task on p)
+wait_goes : (task on : ℕ) (p : Parts) → PartsGoOn p (wait_on task on p)
 wait_goes task on p =
     let q = register on (Wakeup task) p in
     then_on p q (wait_on task on p) (register_on on (Wakeup task) p) (change_on task (waits_for (Some on)) q (λ it. refl))
 
--- that a wait of a marked task keeps something
+-- that a wait of a task that must cancel keeps something
 record KeepsOn (p q : Parts) : Type 0 where
   pub made : next_future q ≡ next_future p
   pub counts : Counts p q
-  pub goes_on : GoesOn p q
+  pub goes_on : PartsGoOn p q
 
 keeps_on : (p q r : Parts) → KeepsOn p q → KeepsOn q r → KeepsOn p r
 keeps_on p q r a b = record {
@@ -406,33 +408,33 @@ keeps_same : (p q : Parts) → q.futures ≡ p.futures → q.tasks ≡ p.tasks �
 keeps_same p q futures tasks = record { made = ap length futures; counts = counts_same p q tasks; goes_on = same_parts_on p q futures tasks }
 
 suspend_keeps : (task on : ℕ) (p : Parts) → KeepsOn p (suspend task on p).parts
-suspend_keeps task on p = at (circle p task on)
+suspend_keeps task on p = at (cycle p task on)
   where
-    asked : (q : Parts) (answer : Bool) → KeepsOn q (if answer then unmark task (cancel on q).parts else (cancel on q).parts)
+    asked : (q : Parts) (answer : Bool) → KeepsOn q (if answer then clear_must_cancel task (cancel on q).parts else (cancel on q).parts)
     asked q answer = keeps_on q (cancel on q).parts _ first (by answer)
       where
         first : KeepsOn q (cancel on q).parts
         first = record { made = made_cancel on q; counts = counts_cancel on q; goes_on = cancel_on on q }
 
-        by : (answer : Bool) → KeepsOn (cancel on q).parts (if answer then unmark task (cancel on q).parts else (cancel on q).parts)
+        by : (answer : Bool) → KeepsOn (cancel on q).parts (if answer then clear_must_cancel task (cancel on q).parts else (cancel on q).parts)
         by true = record {
-          made = made_change task unmarked (cancel on q).parts;
-          counts = counts_change task unmarked (cancel on q).parts (λ it h. h);
-          goes_on = change_on task unmarked (cancel on q).parts (λ it. refl);
+          made = made_change task cleared (cancel on q).parts;
+          counts = counts_change task cleared (cancel on q).parts (λ it h. h);
+          goes_on = change_on task cleared (cancel on q).parts (λ it. refl);
         }
         by false = keeps_same (cancel on q).parts (cancel on q).parts refl refl
 
-    waiting : (q : Parts) (marked : Bool) → KeepsOn q (cancel_wait marked task on q).parts
+    waiting : (q : Parts) (must_cancel : Bool) → KeepsOn q (cancel_wait must_cancel task on q).parts
     waiting q false = keeps_same q q refl refl
     waiting q true = asked q (cancel on q).answer
 
-    at : (o : Option Circle) → KeepsOn p (suspend_unless o task on p).parts
-    at (Some why) = keeps_same p (soon (StepInCircle task why) p) refl refl
+    at : (o : Option CycleKind) → KeepsOn p (suspend_unless o task on p).parts
+    at (Some why) = keeps_same p (soon (StepInCycle task why) p) refl refl
     at None =
         let q = wait_on task on p in
-        keeps_on p q (cancel_wait (is_marked p task) task on q).parts
+        keeps_on p q (cancel_wait (must_cancel_of p task) task on q).parts
         (record { made = wait_made task on p; counts = wait_counts task on p; goes_on = wait_goes task on p })
-        (waiting q (is_marked p task))
+        (waiting q (must_cancel_of p task))
 
 pub leaves_suspend : (task on : ℕ) (p : Parts) → Leaves (Some (task, on)) p (suspend task on p).parts
 leaves_suspend task on p =

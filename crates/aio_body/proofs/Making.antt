@@ -17,9 +17,9 @@ use Rattle.aio_future.specs.Settled.{called}
 use Rattle.aio_task.specs.View.{View}
 use Rattle.aio_task.specs.Keeps.{Kept}
 use Rattle.aio_extra.specs.Added.{Added, IsNamed, named_in, owned_in}
-use Rattle.aio_body.specs.declared.body.Body.{Body}
+use Rattle.aio_body.specs.declared.run_state.RunState.{RunState}
 use Rattle.aio_body.specs.Asked.{IsInStep}
-use Rattle.aio_body.specs.Stands.{Setting, Stands, IsOwnSleep}
+use Rattle.aio_body.specs.Stands.{Context, Stands, IsOwnSleep}
 use Rattle.refine_parts.proofs.Calls.{kept_settle}
 use Rattle.aio_body.proofs.Kept.{kept_plain}
 use Rattle.aio_body.proofs.Lasting.{spares_none, stands_on}
@@ -29,15 +29,15 @@ use Rattle.aio_body.proofs.Rooms.{below_soon_all}
 
 module _ {X : Type 0} {a : Added X} where
   -- ---- a future is settled
-  pub settles_so : (task id : ℕ) (outcome : Outcome) (c : Setting a) (old : Body X) (s : State a.Kept) (v : View) → IsInStep task c old s
+  pub settles_so : (task id : ℕ) (outcome : Outcome) (c : Context a) (old : RunState X) (s : State a.Kept) (v : View) → IsInStep task c old s
       → owner_of s.loop.parts id ≡ None
       → v ≡ record old.parts { futures = settled.settled id outcome old.parts.futures; queue = soon_all (called id old.parts.futures) old.parts.queue }
       → IsInStep task c (record old { parts = v }) (unbooked_in (settle id outcome) s)
   settles_so task id outcome c old s v h none is = record {
     stands =
         stands_on None (Some task) c old s v (in_parts (settle id outcome)) h.stands
-        (subst (λ x. Kept h.stands.ties s.loop.parts x (settle id outcome s.loop.parts)) (sym is)
-        (kept_settle h.stands.ties old.parts s.loop.parts h.stands.keeps id outcome))
+        (subst (λ x. Kept h.stands.name_map s.loop.parts x (settle id outcome s.loop.parts)) (sym is)
+        (kept_settle h.stands.name_map old.parts s.loop.parts h.stands.keeps id outcome))
         (leaves_settle id outcome s.loop.parts none) (spares_none s.loop.parts (named_in a s)) (refl, refl)
         (ap (λ (x : View). length x.queue.below) is ∙ ap length (below_soon_all (called id old.parts.futures) old.parts.queue))
         (ap (λ (x : View). x.profile) is);
@@ -75,11 +75,12 @@ own_named p named owned sleeper id own = record {
     either (inr mine) = own.unnamed (inr mine)
 
 module _ {X : Type 0} {a : Added X} where
-  pub stands_named : (out : Option ℕ) (c : Setting a) (old new : Body X) (s : State a.Kept) → Stands out c old s → new ≡ record old { futures = new.futures }
+  pub stands_named : (out : Option ℕ) (c : Context a) (old new : RunState X) (s : State a.Kept) → Stands out c old s
+      → new ≡ record old { futures = new.futures }
       → new.futures.items ≡ old.futures.items ++ next_future s.loop.parts ∷ [] → length s.futures + 1 < 2 ^ 32
       → Stands out c new (record s { futures = s.futures ++ next_future s.loop.parts ∷ [] })
-  stands_named out c old new s h beside items few =
-      subst (λ b. Stands out c b now) (sym beside) (telling_changes out c c old (record old { futures = new.futures }) s now h refl refl refl (record {
+  stands_named out c old new s h frame items few =
+      subst (λ b. Stands out c b now) (sym frame) (telling_changes out c c old (record old { futures = new.futures }) s now h refl refl refl (record {
         own = own_named p s.futures (owned_in a s);
         futures = items ∙ ap (λ xs. xs ++ next_future p ∷ []) h.futures;
         few_futures = let l = length-append s.futures (next_future p ∷ []) in omega (arith, few, l);
@@ -95,17 +96,17 @@ module _ {X : Type 0} {a : Added X} where
       now : State a.Kept
       now = record s { futures = s.futures ++ next_future s.loop.parts ∷ [] }
 
-  pub makes_so : (task : ℕ) (c : Setting a) (old new : Body X) (s : State a.Kept) (v : View) → IsInStep task c old s → OwnsFutures s.loop.parts
+  pub makes_so : (task : ℕ) (c : Context a) (old new : RunState X) (s : State a.Kept) (v : View) → IsInStep task c old s → OwnsFutures s.loop.parts
       → v ≡ record old.parts { futures = old.parts.futures ++ record { kind = Plain; outcome = None; callbacks = [] } ∷ [] }
       → new ≡ record old { parts = v; futures = new.futures } → new.futures.items ≡ old.futures.items ++ next_future s.loop.parts ∷ []
       → length s.futures + 1 < 2 ^ 32
       → IsInStep task c new (unbooked_in new_plain (record s { futures = s.futures ++ next_future s.loop.parts ∷ [] }))
-  makes_so task c old new s v h owns is beside items few =
-      subst (λ b. IsInStep task c b (unbooked_in new_plain (record s { futures = s.futures ++ next_future s.loop.parts ∷ [] }))) (sym beside) (record {
+  makes_so task c old new s v h owns is frame items few =
+      subst (λ b. IsInStep task c b (unbooked_in new_plain (record s { futures = s.futures ++ next_future s.loop.parts ∷ [] }))) (sym frame) (record {
         stands =
             stands_on None (Some task) c (record old { futures = new.futures }) (record s { futures = s.futures ++ next_future s.loop.parts ∷ [] }) v
             (in_parts new_plain) named
-            (subst (λ x. Kept named.ties s.loop.parts x (new_plain s.loop.parts)) (sym is) (kept_plain named.ties old.parts s.loop.parts named.keeps))
+            (subst (λ x. Kept named.name_map s.loop.parts x (new_plain s.loop.parts)) (sym is) (kept_plain named.name_map old.parts s.loop.parts named.keeps))
             (leaves_plain s.loop.parts (own_there s.loop.parts owns))
             (spares_none s.loop.parts (named_in a (record s { futures = s.futures ++ next_future s.loop.parts ∷ [] }))) (refl, refl)
             (ap (λ (x : View). length x.queue.below) is) (ap (λ (x : View). x.profile) is);

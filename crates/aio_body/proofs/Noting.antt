@@ -7,8 +7,8 @@ use Rattle.model_machine.specs.Went.{answers_in}
 use Rattle.aio_wire.specs.EventList.{EventList}
 use Rattle.aio_wire.specs.Events.{answers_after, pushed}
 use Rattle.aio_extra.specs.Added.{Added, IsNamed, named_in, owned_in}
-use Rattle.aio_body.specs.declared.body.Body.{Body}
-use Rattle.aio_body.specs.Stands.{IsOwnSleep, Setting, Stands}
+use Rattle.aio_body.specs.declared.run_state.RunState.{RunState}
+use Rattle.aio_body.specs.Stands.{IsOwnSleep, Context, Stands}
 use Rattle.aio_body.proofs.Lasting.{stands_at_by}
 
 pub answers-append : (xs ys : List Event) → answers_in (xs ++ ys) ≡ answers_in xs + answers_in ys
@@ -42,7 +42,7 @@ counted n xs (event.Got answer) e =
 
 -- What is told of a run is told of this state, beside a loop that stays: its events and answers, whether main is done, and the
 -- futures that scripts name, which no future of a sleep becomes.
-pub record TellsAs {X : Type 0} {a : Added X} (d : Setting a) (new : Body X) (s now : State a.Kept) : Type 0 where
+pub record TellsAs {X : Type 0} {a : Added X} (d : Context a) (new : RunState X) (s now : State a.Kept) : Type 0 where
   pub own : (sleeper : Option ℕ) (id : ℕ) → IsOwnSleep s.loop.parts (named_in a s) sleeper id
       → IsOwnSleep s.loop.parts (IsNamed now.futures (owned_in a s)) sleeper id
   pub futures : new.futures.items ≡ now.futures
@@ -54,15 +54,15 @@ pub record TellsAs {X : Type 0} {a : Added X} (d : Setting a) (new : Body X) (s 
 
 module _ {X : Type 0} {a : Added X} where
   -- Nothing changes but what is told.
-  pub telling_changes : (out : Option ℕ) (c d : Setting a) (old new : Body X) (s now : State a.Kept) → Stands out c old s
+  pub telling_changes : (out : Option ℕ) (c d : Context a) (old new : RunState X) (s now : State a.Kept) → Stands out c old s
       → d ≡ record c { past = d.past; answers = d.answers }
       → new ≡ record old { futures = new.futures; main_done = new.main_done; events = new.events }
       → now ≡ record s { futures = now.futures; main_done = now.main_done; events = now.events; answers = now.answers }
       → TellsAs d new s now → Stands out d new now
-  telling_changes out c d old new s now h same_setting same_body same_state tells =
-      subst (λ (e : Setting a). Stands out e new now) (sym same_setting) (subst (λ (b : Body X). Stands out setting b now) (sym same_body)
-      (subst (λ (t : State a.Kept). Stands out setting body t) (sym same_state) (record {
-        ties = h.ties;
+  telling_changes out c d old new s now h same_context same_body same_state tells =
+      subst (λ (e : Context a). Stands out e new now) (sym same_context) (subst (λ (b : RunState X). Stands out context b now) (sym same_body)
+      (subst (λ (t : State a.Kept). Stands out context body t) (sym same_state) (record {
+        name_map = h.name_map;
         code = h.code;
         profile = h.profile;
         keeps = h.keeps;
@@ -77,9 +77,9 @@ module _ {X : Type 0} {a : Added X} where
           found = has.found;
           right = record {
             waits = has.right.waits;
-            standing =
-                stands_at_by h.ties h.ties s.loop.parts s.loop.parts (named_in a s) (IsNamed now.futures (owned_in a s)) task has.slot.standing
-                (generator_of task s).standing (λ tag timer k. k) (tells.own (Some task)) has.right.standing;
+            resume_point =
+                stands_at_by h.name_map h.name_map s.loop.parts s.loop.parts (named_in a s) (IsNamed now.futures (owned_in a s)) task has.slot.resume_point
+                (generator_of task s).resume_point (λ tag timer k. k) (tells.own (Some task)) has.right.resume_point;
           };
         };
         gone = λ id e. tells.own None id (h.gone id e);
@@ -95,14 +95,14 @@ module _ {X : Type 0} {a : Added X} where
         count = tells.count;
       })))
     where
-      setting : Setting a
-      setting = record c { past = d.past; answers = d.answers }
+      context : Context a
+      context = record c { past = d.past; answers = d.answers }
 
-      body : Body X
+      body : RunState X
       body = record old { futures = new.futures; main_done = new.main_done; events = new.events }
 
   -- one event more
-  pub stands_noted : (out : Option ℕ) (c : Setting a) (body : Body X) (s : State a.Kept) (it : Event) (events : EventList) → events ≡ pushed body.events it
+  pub stands_noted : (out : Option ℕ) (c : Context a) (body : RunState X) (s : State a.Kept) (it : Event) (events : EventList) → events ≡ pushed body.events it
       → Stands out c body s → Stands out c (record body { events = events }) (noted it s)
   stands_noted out c body s it events e h =
       telling_changes out c c body (record body { events = events }) s (noted it s) h refl refl refl (record {

@@ -12,12 +12,12 @@ use Rattle.model_machine.specs.State.{Generator, State, generator, generator_of,
 use Rattle.law_cancel.proofs.Lookups.{get-set_same, get-set_other}
 use Rattle.aio_gen.specs.declared.generator.Gen.{Gen}
 use Rattle.aio_extra.specs.Added.{Added, named_in}
-use Rattle.aio_body.specs.declared.body.Body.{Body}
-use Rattle.aio_body.specs.declared.standing.Slot.{Slot}
-use Rattle.aio_body.specs.declared.standing.Standing.{Standing}
-use Rattle.aio_gen.specs.Gens.{StandsFor}
-use Rattle.aio_body.specs.Slots.{with_slot, standing_at, put_back}
-use Rattle.aio_body.specs.Stands.{Setting, Stands, StandsAt, HasSlot, WaitsAs, coroutine_in, holding}
+use Rattle.aio_body.specs.declared.run_state.RunState.{RunState}
+use Rattle.aio_body.specs.declared.resume_point.Slot.{Slot}
+use Rattle.aio_body.specs.declared.resume_point.ResumePoint.{ResumePoint}
+use Rattle.aio_gen.specs.Gens.{GenStandsFor}
+use Rattle.aio_body.specs.Slots.{with_slot, resume_point_at, put_back}
+use Rattle.aio_body.specs.Stands.{Context, Stands, StandsAt, HasSlot, WaitsAs, coroutine_in, holding}
 
 -- ---- generators
 pub set_same : {S : Type 0} (task : ℕ) (it : Generator) (s : State S) → task < length s.generators → generator_of task (with_generator task it s) ≡ it
@@ -77,15 +77,15 @@ pub record OthersStay {S : Type 0} (task : ℕ) (was out : Option ℕ) (before t
 
 module _ {X : Type 0} {a : Added X} where
   -- Nothing changes but what is this task's.
-  pub slots_change : (task : ℕ) (was out : Option ℕ) (c : Setting a) (taken : Option Gen) (old new : Body X) (s : State a.Kept)
+  pub slots_change : (task : ℕ) (was out : Option ℕ) (c : Context a) (taken : Option Gen) (old new : RunState X) (s : State a.Kept)
       (generators : List Generator) (h : Stands was c old s) → new ≡ record old { slots = new.slots }
       → OthersStay task was out c.coroutine taken old.slots.items new.slots.items s (record s { generators = generators })
-      → (lives s.loop.parts task ≡ true → HasSlot a was c.coroutine h.ties old.code old.slots.items s task
-      → HasSlot a out taken h.ties old.code new.slots.items (record s { generators = generators }) task)
+      → (lives s.loop.parts task ≡ true → HasSlot a was c.coroutine h.name_map old.code old.slots.items s task
+      → HasSlot a out taken h.name_map old.code new.slots.items (record s { generators = generators }) task)
       → Stands out (record c { coroutine = taken }) new (record s { generators = generators })
-  slots_change task was out c taken old new s generators h beside others own =
-      subst (λ b. Stands out (record c { coroutine = taken }) b now) (sym beside) (record {
-        ties = h.ties;
+  slots_change task was out c taken old new s generators h frame others own =
+      subst (λ b. Stands out (record c { coroutine = taken }) b now) (sym frame) (record {
+        name_map = h.name_map;
         code = h.code;
         profile = h.profile;
         keeps = h.keeps;
@@ -113,10 +113,10 @@ module _ {X : Type 0} {a : Added X} where
       now = record s { generators = generators }
 
       has : (other : ℕ) → lives s.loop.parts other ≡ true → (task ≡ other) ⊎ (task ≡ other → ⊥)
-          → HasSlot a out taken h.ties old.code new.slots.items now other
+          → HasSlot a out taken h.name_map old.code new.slots.items now other
       has other l (inl same) =
           let living = subst (λ k. lives s.loop.parts k ≡ true) (sym same) l in
-          subst (λ k. HasSlot a out taken h.ties old.code new.slots.items now k) same (own living (h.held task living))
+          subst (λ k. HasSlot a out taken h.name_map old.code new.slots.items now k) same (own living (h.held task living))
       has other l (inr n) = let it = h.held other l in record {
         slot = it.slot;
         found = others.found other n ∙ it.found;
@@ -124,20 +124,20 @@ module _ {X : Type 0} {a : Added X} where
           waits =
               subst (λ g. WaitsAs s.program old.code g (coroutine_in (is_running out other) taken it.slot.coroutine)) (sym (others.told other n))
               (subst (λ o. WaitsAs s.program old.code (generator_of other s) o) (sym (others.coroutines other n it.slot.coroutine)) it.right.waits);
-          standing =
-              subst (λ (g : Generator). StandsAt h.ties s.loop.parts (named_in a s) other it.slot.standing g.standing) (sym (others.told other n))
-              it.right.standing;
+          resume_point =
+              subst (λ (g : Generator). StandsAt h.name_map s.loop.parts (named_in a s) other it.slot.resume_point g.resume_point) (sym (others.told other n))
+              it.right.resume_point;
         };
       }
 
   -- What a task stands at changes, in code and in the machine, while its coroutine is taken out.
-  pub stands_standing : (c : Setting a) (old new : Body X) (s : State a.Kept) (task : ℕ) (code : Standing) (standing : plain.Standing)
+  pub stands_resume_point : (c : Context a) (old new : RunState X) (s : State a.Kept) (task : ℕ) (code : ResumePoint) (resume_point : plain.ResumePoint)
       → (h : Stands (Some task) c old s)
-      → StandsAt h.ties s.loop.parts (named_in a s) task code standing → new ≡ record old { slots = new.slots }
-      → new.slots.items ≡ standing_at task code old.slots.items → task < next_task s.loop.parts
-      → Stands (Some task) c new (stands standing task s)
-  stands_standing c old new s task code standing h at_it beside items within =
-      slots_change task (Some task) (Some task) c c.coroutine old new s now.generators h beside (record {
+      → StandsAt h.name_map s.loop.parts (named_in a s) task code resume_point → new ≡ record old { slots = new.slots }
+      → new.slots.items ≡ resume_point_at task code old.slots.items → task < next_task s.loop.parts
+      → Stands (Some task) c new (stands resume_point task s)
+  stands_resume_point c old new s task code resume_point h at_it frame items within =
+      slots_change task (Some task) (Some task) c c.coroutine old new s now.generators h frame (record {
         slots = ap length items ∙ with_length task change old.slots.items;
         generators = set_length task it s;
         found = λ other n. ap (λ (xs : List Slot). slice_get xs other) items ∙ with_other task other change old.slots.items n;
@@ -146,19 +146,19 @@ module _ {X : Type 0} {a : Added X} where
       }) own
     where
       change : Slot → Slot
-      change slot = record slot { standing = code }
+      change slot = record slot { resume_point = code }
 
       it : Generator
-      it = record (generator_of task s) { standing = standing }
+      it = record (generator_of task s) { resume_point = resume_point }
 
       now : State a.Kept
-      now = stands standing task s
+      now = stands resume_point task s
 
       inside : task < length s.generators
       inside = subst (λ n. task < n) (sym h.told) within
 
-      own : lives s.loop.parts task ≡ true → HasSlot a (Some task) c.coroutine h.ties old.code old.slots.items s task
-          → HasSlot a (Some task) c.coroutine h.ties old.code new.slots.items now task
+      own : lives s.loop.parts task ≡ true → HasSlot a (Some task) c.coroutine h.name_map old.code old.slots.items s task
+          → HasSlot a (Some task) c.coroutine h.name_map old.code new.slots.items now task
       own l was = record {
         slot = change was.slot;
         found = ap (λ (xs : List Slot). slice_get xs task) items ∙ with_same task change old.slots.items was.slot was.found;
@@ -166,17 +166,18 @@ module _ {X : Type 0} {a : Added X} where
           waits =
               subst (λ g. WaitsAs s.program old.code g (coroutine_in (is_running (Some task) task) c.coroutine was.slot.coroutine))
               (sym (set_same task it s inside)) was.right.waits;
-          standing =
-              subst (λ (g : Generator). StandsAt h.ties s.loop.parts (named_in a s) task code g.standing) (sym (set_same task it s inside)) at_it;
+          resume_point =
+              subst (λ (g : Generator). StandsAt h.name_map s.loop.parts (named_in a s) task code g.resume_point) (sym (set_same task it s inside)) at_it;
         };
       }
 
   -- The coroutine is put back.
-  pub stands_back : (c : Setting a) (old new : Body X) (s : State a.Kept) (task : ℕ) (coroutine : Gen) → (h : Stands (Some task) (holding coroutine c) old s)
+  pub stands_back : (c : Context a) (old new : RunState X) (s : State a.Kept) (task : ℕ) (coroutine : Gen)
+      → (h : Stands (Some task) (holding coroutine c) old s)
       → new ≡ record old { slots = new.slots }
       → new.slots.items ≡ put_back task coroutine old.slots.items → Stands None c new s
-  stands_back c old new s task coroutine h beside items =
-      slots_change task (Some task) None (holding coroutine c) c.coroutine old new s s.generators h beside (record {
+  stands_back c old new s task coroutine h frame items =
+      slots_change task (Some task) None (holding coroutine c) c.coroutine old new s s.generators h frame (record {
         slots = ap length items ∙ with_length task change old.slots.items;
         generators = refl;
         found = λ other n. ap (λ (xs : List Slot). slice_get xs other) items ∙ with_other task other change old.slots.items n;
@@ -187,8 +188,8 @@ module _ {X : Type 0} {a : Added X} where
       change : Slot → Slot
       change slot = record slot { coroutine = Some coroutine }
 
-      own : lives s.loop.parts task ≡ true → HasSlot a (Some task) (Some coroutine) h.ties old.code old.slots.items s task
-          → HasSlot a None c.coroutine h.ties old.code new.slots.items s task
+      own : lives s.loop.parts task ≡ true → HasSlot a (Some task) (Some coroutine) h.name_map old.code old.slots.items s task
+          → HasSlot a None c.coroutine h.name_map old.code new.slots.items s task
       own l was = record {
         slot = change was.slot;
         found = ap (λ (xs : List Slot). slice_get xs task) items ∙ with_same task change old.slots.items was.slot was.found;
@@ -196,12 +197,12 @@ module _ {X : Type 0} {a : Added X} where
           waits =
               subst (λ b. WaitsAs s.program old.code (generator_of task s) (coroutine_in b (Some coroutine) was.slot.coroutine)) (runs_itself task)
               was.right.waits;
-          standing = was.right.standing;
+          resume_point = was.right.resume_point;
         };
       }
 
   -- A task that is done needs no coroutine.
-  pub stands_over : (c : Setting a) (body : Body X) (s : State a.Kept) (task : ℕ) (coroutine : Gen)
+  pub stands_over : (c : Context a) (body : RunState X) (s : State a.Kept) (task : ℕ) (coroutine : Gen)
       → (h : Stands (Some task) (holding coroutine c) body s) → lives s.loop.parts task ≡ false
       → Stands None c body s
   stands_over c body s task coroutine h done =
@@ -214,7 +215,7 @@ module _ {X : Type 0} {a : Added X} where
       }) (λ l was. absurd (false≢true (sym done ∙ l)))
 
   -- What a task that is done was resumed with doesn't matter.
-  pub stands_dead : (c : Setting a) (body : Body X) (s : State a.Kept) (task : ℕ) (it : Generator) → Stands None c body s → lives s.loop.parts task ≡ false
+  pub stands_dead : (c : Context a) (body : RunState X) (s : State a.Kept) (task : ℕ) (it : Generator) → Stands None c body s → lives s.loop.parts task ≡ false
       → Stands None c body (with_generator task it s)
   stands_dead c body s task it h done =
       slots_change task None None c c.coroutine body body s (with_generator task it s).generators h refl (record {
@@ -226,10 +227,10 @@ module _ {X : Type 0} {a : Added X} where
       }) (λ l was. absurd (false≢true (sym done ∙ l)))
 
   -- The coroutine that is taken out was resumed.
-  pub stands_resumed : (c : Setting a) (body : Body X) (s : State a.Kept) (task : ℕ) (fresh : Bool) (input : Input) (before now : Gen)
+  pub stands_resumed : (c : Context a) (body : RunState X) (s : State a.Kept) (task : ℕ) (fresh : Bool) (input : Input) (before now : Gen)
       → Stands (Some task) (holding before c) body s → task < next_task s.loop.parts
-      → (StandsFor s.program body.code (generator_of task s).coroutine (generator_of task s).arguments (generator_of task s).tape before
-      → StandsFor s.program body.code (generator_of task s).coroutine (generator_of task s).arguments
+      → (GenStandsFor s.program body.code (generator_of task s).coroutine (generator_of task s).arguments (generator_of task s).tape before
+      → GenStandsFor s.program body.code (generator_of task s).coroutine (generator_of task s).arguments
       ((generator_of task s).tape ++ record { input = input; fresh = fresh } ∷ []) now)
       → Stands (Some task) (holding now c) body (resumed fresh task input s)
   stands_resumed c body s task fresh input before now h within goes =
@@ -250,8 +251,8 @@ module _ {X : Type 0} {a : Added X} where
       inside : task < length s.generators
       inside = subst (λ n. task < n) (sym h.told) within
 
-      own : lives s.loop.parts task ≡ true → HasSlot a (Some task) (Some before) h.ties body.code body.slots.items s task
-          → HasSlot a (Some task) (Some now) h.ties body.code body.slots.items after task
+      own : lives s.loop.parts task ≡ true → HasSlot a (Some task) (Some before) h.name_map body.code body.slots.items s task
+          → HasSlot a (Some task) (Some now) h.name_map body.code body.slots.items after task
       own l was = record {
         slot = was.slot;
         found = was.found;
@@ -262,16 +263,17 @@ module _ {X : Type 0} {a : Added X} where
               (subst (λ b. WaitsAs s.program body.code it (coroutine_in b (Some now) was.slot.coroutine)) (sym (runs_itself task))
               (goes (subst (λ b. WaitsAs s.program body.code (generator_of task s) (coroutine_in b (Some before) was.slot.coroutine)) (runs_itself task)
               was.right.waits)));
-          standing =
-              subst (λ (g : Generator). StandsAt h.ties s.loop.parts (named_in a s) task was.slot.standing g.standing) (sym (set_same task it s inside))
-              was.right.standing;
+          resume_point =
+              subst (λ (g : Generator). StandsAt h.name_map s.loop.parts (named_in a s) task was.slot.resume_point g.resume_point)
+              (sym (set_same task it s inside))
+              was.right.resume_point;
         };
       }
 
   -- The coroutine that is taken out stands for the task's generator.
-  pub stood : (c : Setting a) (body : Body X) (s : State a.Kept) (task : ℕ) (coroutine : Gen) → Stands (Some task) (holding coroutine c) body s
+  pub stood : (c : Context a) (body : RunState X) (s : State a.Kept) (task : ℕ) (coroutine : Gen) → Stands (Some task) (holding coroutine c) body s
       → lives s.loop.parts task ≡ true
-      → StandsFor s.program body.code (generator_of task s).coroutine (generator_of task s).arguments (generator_of task s).tape coroutine
+      → GenStandsFor s.program body.code (generator_of task s).coroutine (generator_of task s).arguments (generator_of task s).tape coroutine
   stood c body s task coroutine h l =
       let has = h.held task l in
       subst (λ b. WaitsAs s.program body.code (generator_of task s) (coroutine_in b (Some coroutine) has.slot.coroutine)) (runs_itself task) has.right.waits

@@ -21,14 +21,14 @@ use Rattle.law_replies.proofs.Tapes.{push_last, push_within}
 use Rattle.refine_parts.proofs.Waiting.{before_spawn}
 use Rattle.aio_task.specs.Keeps.{Kept}
 use Rattle.aio_task.specs.View.{View}
-use Rattle.aio_group.specs.GoesOn.{GoesOn}
+use Rattle.aio_group.specs.GoesOn.{PartsGoOn}
 use Rattle.aio_group.specs.Held.{Held}
 use Rattle.aio_group.proofs.Going.{spawn_on}
 use Rattle.aio_extra.specs.Added.{Added, named_in}
 use Rattle.aio_body.specs.Slots.{HoldsMore}
-use Rattle.aio_body.specs.Stands.{AreBlocks, HasSlot, IsOwnSleep, Setting, Stands, StandsAt, WaitsAs, coroutine_in}
-use Rattle.aio_body.specs.declared.body.Body.{Body}
-use Rattle.aio_body.specs.declared.standing.Slot.{Slot}
+use Rattle.aio_body.specs.Stands.{AreBlocks, HasSlot, IsOwnSleep, Context, Stands, StandsAt, WaitsAs, coroutine_in}
+use Rattle.aio_body.specs.declared.run_state.RunState.{RunState}
+use Rattle.aio_body.specs.declared.resume_point.Slot.{Slot}
 use Rattle.aio_body.proofs.Lasting.{goes_beside, knows_on, own_by, stands_at_by}
 use Rattle.aio_body.proofs.Left.{AreOwnMade, any, living_made}
 
@@ -40,7 +40,7 @@ pub record LeavesMore (p q : Parts) : Type 0 where
   pub waits : (task id : ℕ) → waiter_of q task ≡ Some id → waiter_of p task ≡ Some id
   pub time : q.time ≡ p.time
   pub counts : ((task : ℕ) → cancelling p task ≤ most) → (task : ℕ) → cancelling q task ≤ most
-  pub goes_on : GoesOn p q
+  pub goes_on : PartsGoOn p q
 
 abbrev count_at : Option Task → ℕ
 count_at o = option_map_or (λ (x : Task). x.cancels) o 0
@@ -75,15 +75,15 @@ leaves_spawn p made = record {
     count task h (inr n) = subst (λ o. count_at o ≤ most) (sym (get-push_other p.tasks it task n)) h
 
 module _ {X : Type 0} {a : Added X} where
-  pub stands_made : (out : Option ℕ) (c : Setting a) (old held : Body X) (s : State a.Kept) (v : View) (groups : List Held) (change : Loop → Loop)
-      (coroutine : ℕ) (arguments : List Value) (h : Stands out c old s) (kept : Kept h.ties s.loop.parts v (change s.loop).parts)
-      → LeavesMore s.loop.parts (change s.loop).parts → AreBlocks kept.ties old.timeouts groups (change s.loop)
+  pub stands_made : (out : Option ℕ) (c : Context a) (old held : RunState X) (s : State a.Kept) (v : View) (groups : List Held) (change : Loop → Loop)
+      (coroutine : ℕ) (arguments : List Value) (h : Stands out c old s) (kept : Kept h.name_map s.loop.parts v (change s.loop).parts)
+      → LeavesMore s.loop.parts (change s.loop).parts → AreBlocks kept.name_map old.timeouts groups (change s.loop)
       → length v.queue.below ≡ length old.parts.queue.below → HoldsMore coroutine arguments old held → length old.slots.items + 1 < 2 ^ 32
       → v.profile ≡ old.parts.profile → is_running out (next_task s.loop.parts) ≡ false
       → Stands out c (record held { parts = v; groups = groups }) (with_coroutine coroutine arguments (in_loop change s))
   stands_made out c old held s v groups change coroutine arguments h kept more blocks below holds few profile other =
-      subst (λ (b : Body X). Stands out c (record b { parts = v; groups = groups }) now) (sym holds.beside) (record {
-        ties = kept.ties;
+      subst (λ (b : RunState X). Stands out c (record b { parts = v; groups = groups }) now) (sym holds.frame) (record {
+        name_map = kept.name_map;
         code = h.code;
         profile = profile ∙ h.profile;
         keeps = kept.keeps;
@@ -104,8 +104,8 @@ module _ {X : Type 0} {a : Added X} where
         events = h.events;
         rest = h.rest;
         extra =
-            a.goes_on h.ties kept.ties p q old.extra s.extra h.extra
-            (goes_beside (a.owns s.extra) h.ties kept.ties p q kept.extends more.plain more.goes_on);
+            a.goes_on h.name_map kept.name_map p q old.extra s.extra h.extra
+            (goes_beside (a.owns s.extra) h.name_map kept.name_map p q kept.extends more.plain more.goes_on);
         count = h.count;
       })
     where
@@ -124,21 +124,21 @@ module _ {X : Type 0} {a : Added X} where
       own : (sleeper : Option ℕ) (id : ℕ) → IsOwnSleep p (named_in a s) sleeper id → IsOwnSleep q (named_in a s) sleeper id
       own sleeper id is = own_by p q (named_in a s) sleeper id more.plain (λ task w. inl (more.waits task id w)) is
 
-      has : (task : ℕ) → (lives p task ≡ true) ⊎ (task ≡ next_task p) → HasSlot a out c.coroutine kept.ties old.code held.slots.items now task
+      has : (task : ℕ) → (lives p task ≡ true) ⊎ (task ≡ next_task p) → HasSlot a out c.coroutine kept.name_map old.code held.slots.items now task
       has task (inl l) = record {
         slot = one.slot;
         found = ap (λ (xs : List Slot). slice_get xs task) holds.slots
             ∙ get-push_other old.slots.items holds.slot task (λ e. absurd (omega (arith, e, within, made))) ∙ one.found;
         right = record {
           waits = subst (λ g. WaitsAs s.program old.code g (coroutine_in (is_running out task) c.coroutine one.slot.coroutine)) (sym same) one.right.waits;
-          standing =
-              subst (λ (g : Generator). StandsAt kept.ties q (named_in a s) task one.slot.standing g.standing) (sym same)
-              (stands_at_by h.ties kept.ties p q (named_in a s) (named_in a s) task one.slot.standing (generator_of task s).standing
-              (λ tag timer. knows_on h.ties kept.ties p q tag timer kept.extends) (own (Some task)) one.right.standing);
+          resume_point =
+              subst (λ (g : Generator). StandsAt kept.name_map q (named_in a s) task one.slot.resume_point g.resume_point) (sym same)
+              (stands_at_by h.name_map kept.name_map p q (named_in a s) (named_in a s) task one.slot.resume_point (generator_of task s).resume_point
+              (λ tag timer. knows_on h.name_map kept.name_map p q tag timer kept.extends) (own (Some task)) one.right.resume_point);
         };
       }
         where
-          one : HasSlot a out c.coroutine h.ties old.code old.slots.items s task
+          one : HasSlot a out c.coroutine h.name_map old.code old.slots.items s task
           one = h.held task l
 
           within : task < next_task p
@@ -150,7 +150,7 @@ module _ {X : Type 0} {a : Added X} where
           same : generator_of task now ≡ generator_of task s
           same = push_within s.generators it task (generator 0 []) (subst (λ n. task < n) (sym h.told) within)
       has task (inr new) =
-          subst (λ k. HasSlot a out c.coroutine kept.ties old.code held.slots.items now k) (sym new) (record {
+          subst (λ k. HasSlot a out c.coroutine kept.name_map old.code held.slots.items now k) (sym new) (record {
             slot = holds.slot;
             found =
                 ap (λ (xs : List Slot). slice_get xs (next_task p)) holds.slots
@@ -159,9 +159,9 @@ module _ {X : Type 0} {a : Added X} where
               waits =
                   subst (λ b. WaitsAs s.program old.code (generator_of (next_task p) now) (coroutine_in b c.coroutine holds.slot.coroutine)) (sym other)
                   (subst (λ g. WaitsAs s.program old.code g holds.slot.coroutine) (sym last) (holds.waits s.program h.code));
-              standing =
-                  subst (λ (g : Generator). StandsAt kept.ties q (named_in a s) (next_task p) holds.slot.standing g.standing) (sym last)
-                  (subst (λ standing. StandsAt kept.ties q (named_in a s) (next_task p) standing plain.Asked) (sym holds.standing) tt);
+              resume_point =
+                  subst (λ (g : Generator). StandsAt kept.name_map q (named_in a s) (next_task p) holds.slot.resume_point g.resume_point) (sym last)
+                  (subst (λ resume_point. StandsAt kept.name_map q (named_in a s) (next_task p) resume_point plain.Asked) (sym holds.resume_point) tt);
             };
           })
         where

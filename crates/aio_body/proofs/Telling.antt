@@ -12,9 +12,9 @@ use Rattle.model_machine.specs.State.{State}
 use Rattle.law_steps.proofs.CancelSound.{plain_within}
 use Rattle.aio_task.specs.View.{parts}
 use Rattle.aio_extra.specs.Added.{Added, IsNamed, named_in}
-use Rattle.aio_body.specs.declared.body.Body.{Body}
+use Rattle.aio_body.specs.declared.run_state.RunState.{RunState}
 use Rattle.aio_body.specs.Named.{future_in, awaited_in}
-use Rattle.aio_body.specs.Stands.{IsOwnSleep, Setting, Stands}
+use Rattle.aio_body.specs.Stands.{IsOwnSleep, Context, Stands}
 use Rattle.aio_body.proofs.Lasting.{Spares}
 use Rattle.refine_parts.proofs.Telling.{future_of_kept}
 
@@ -31,27 +31,27 @@ module _ {X : Type 0} (a : Added X) (s : State a.Kept) where
       let there = subst (IsOwnSleep s.loop.parts (named_in a s) sleeper) new.1 own in
       absurd (there.unnamed named)
 
-module _ {X : Type 0} {a : Added X} (out : Option ℕ) (c : Setting a) (body : Body X) (s : State a.Kept) (h : Stands out c body s) where
+module _ {X : Type 0} {a : Added X} (out : Option ℕ) (c : Context a) (body : RunState X) (s : State a.Kept) (h : Stands out c body s) where
   pub future_named : (x : Value) → future_in body.futures.items x ≡ as_future s x
   future_named (Fut id) = ap (λ (xs : List ℕ). slice_get xs id) h.futures
   future_named _ = refl
 
   pub awaited_named : (x : Value) → awaited_in body.futures.items (parts body.parts) x ≡ as_awaited s x
   awaited_named (Fut id) = ap (λ (xs : List ℕ). slice_get xs id) h.futures
-  awaited_named (TaskId id) = ap Some (future_of_kept h.ties body.parts s.loop.parts h.keeps id)
+  awaited_named (TaskId id) = ap Some (future_of_kept h.name_map body.parts s.loop.parts h.keeps id)
   awaited_named _ = refl
 
-  -- what a script names was not let go
-  pub named_stays : (place id : ℕ) → slice_get s.futures place ≡ Some id → h.ties.gone id ≡ false
-  named_stays place id found = false_from_ne_true (h.ties.gone id) (λ e. (h.gone id e).unnamed (inl (place, found)))
+  -- what a script names was not released
+  pub named_stays : (place id : ℕ) → slice_get s.futures place ≡ Some id → h.name_map.gone id ≡ false
+  named_stays place id found = false_from_ne_true (h.name_map.gone id) (λ e. (h.gone id e).unnamed (inl (place, found)))
 
   -- nor what a connection or a child keeps
-  pub kept_stays : (id : ℕ) → 0 < times_asked id s.streams → h.ties.gone id ≡ false
-  kept_stays id kept = false_from_ne_true (h.ties.gone id) (λ e. (h.gone id e).unnamed (inr (inr kept)))
+  pub kept_stays : (id : ℕ) → 0 < times_asked id s.streams → h.name_map.gone id ≡ false
+  kept_stays id kept = false_from_ne_true (h.name_map.gone id) (λ e. (h.gone id e).unnamed (inr (inr kept)))
 
   -- nor was a task's own future
-  pub own_stays : OwnsFutures s.loop.parts → (task : ℕ) → h.ties.gone (future_of s.loop.parts task) ≡ false
-  own_stays owns task = false_from_ne_true (h.ties.gone (future_of p task)) (λ e. at e (slice_get p.tasks task) refl)
+  pub own_stays : OwnsFutures s.loop.parts → (task : ℕ) → h.name_map.gone (future_of s.loop.parts task) ≡ false
+  own_stays owns task = false_from_ne_true (h.name_map.gone (future_of p task)) (λ e. at e (slice_get p.tasks task) refl)
     where
       p : Parts
       p = s.loop.parts
@@ -59,7 +59,7 @@ module _ {X : Type 0} {a : Added X} (out : Option ℕ) (c : Setting a) (body : B
       none_some : (id : ℕ) → owner_of p id ≡ None → owner_of p id ≡ Some task → ⊥
       none_some id a b = absurd (cc)
 
-      at : h.ties.gone (future_of p task) ≡ true → (o : Option Task) → slice_get p.tasks task ≡ o → ⊥
+      at : h.name_map.gone (future_of p task) ≡ true → (o : Option Task) → slice_get p.tasks task ≡ o → ⊥
       at e None x =
           let inside = (plain_within p (future_of p task) (h.gone (future_of p task) e).plain).1 in
           let last : future_of p task ≡ length p.futures = ap (λ o. option_map_or (λ (it : Task). it.future) o (length p.futures)) x in
@@ -70,10 +70,10 @@ module _ {X : Type 0} {a : Added X} (out : Option ℕ) (c : Setting a) (body : B
           none_some (future_of p task) (plain_within p (future_of p task) (h.gone (future_of p task) e).plain).0
           (ap (owner_of p) same ∙ (owns it.future task).1 own)
 
-  -- what is awaited was not let go
-  pub awaited_stays : OwnsFutures s.loop.parts → (x : Value) (on : ℕ) → as_awaited s x ≡ Some on → h.ties.gone on ≡ false
+  -- what is awaited was not released
+  pub awaited_stays : OwnsFutures s.loop.parts → (x : Value) (on : ℕ) → as_awaited s x ≡ Some on → h.name_map.gone on ≡ false
   awaited_stays owns (Fut id) on e = named_stays id on e
-  awaited_stays owns (TaskId id) on e = subst (λ k. h.ties.gone k ≡ false) (some_is (future_of s.loop.parts id) on e) (own_stays owns id)
+  awaited_stays owns (TaskId id) on e = subst (λ k. h.name_map.gone k ≡ false) (some_is (future_of s.loop.parts id) on e) (own_stays owns id)
     where
       some_is : (a b : ℕ) → Some a ≡ Some b → a ≡ b
       some_is a b e = cc

@@ -18,9 +18,9 @@ use Rattle.aio_timeout.specs.Kept.{IsSameStep, KeepsTimeouts, KeptTimeouts}
 use Rattle.aio_group.proofs.Standing.{groups_on}
 use Rattle.aio_group.specs.Stands.{KeepsAt}
 use Rattle.aio_extra.specs.Added.{Added, named_in}
-use Rattle.aio_body.specs.declared.body.Body.{Body}
+use Rattle.aio_body.specs.declared.run_state.RunState.{RunState}
 use Rattle.aio_body.specs.Asked.{IsInStep}
-use Rattle.aio_body.specs.Stands.{Setting, Stands}
+use Rattle.aio_body.specs.Stands.{Context, Stands}
 use Rattle.aio_body.proofs.Left.{leaves_handles, leaves_later, leaves_request, leaves_revoke, leaves_uncancel}
 use Rattle.aio_body.proofs.Lasting.{spares_none, stands_kept}
 use Rattle.aio_body.proofs.Leaving.{Leaves, leaves_on, leaves_same}
@@ -52,27 +52,27 @@ schedule_groups id (Some when) l = refl
 
 module _ {X : Type 0} {a : Added X} where
   -- ---- the state after a change of the timeouts and of the parts, whose view is `v` then
-  pub stands_timed : (out : Option ℕ) (c : Setting a) (old : Body X) (s : State a.Kept) (v : View) (timeouts : List Timeout) (m : Loop)
-      → (h : Stands out c old s) → KeptTimeouts h.ties s.loop timeouts v m → Leaves None s.loop.parts m.parts → m.groups ≡ s.loop.groups
+  pub stands_timed : (out : Option ℕ) (c : Context a) (old : RunState X) (s : State a.Kept) (v : View) (timeouts : List Timeout) (m : Loop)
+      → (h : Stands out c old s) → KeptTimeouts h.name_map s.loop timeouts v m → Leaves None s.loop.parts m.parts → m.groups ≡ s.loop.groups
       → length v.queue.below ≡ length old.parts.queue.below → v.profile ≡ old.parts.profile
       → Stands out c (record old { parts = v; timeouts = timeouts }) (with_loop m s)
   stands_timed out c old s v timeouts m h kept leaves groups below profile =
       stands_kept None out c old s v timeouts old.groups m c.left h
-      (record { ties = kept.ties; keeps = kept.keeps.parts; extends = kept.extends }) leaves (spares_none s.loop.parts (named_in a s))
+      (record { name_map = kept.name_map; keeps = kept.keeps.parts; extends = kept.extends }) leaves (spares_none s.loop.parts (named_in a s))
       (record {
         timeouts = kept.keeps.timeouts;
         groups =
-            subst (λ (gs : List Group). (id : ℕ) → KeepsAt kept.ties m.parts (slice_get old.groups id) (slice_get gs id)) (sym groups)
-            (groups_on h.ties kept.ties s.loop.parts m.parts leaves.goes_on kept.extends.gone old.groups s.loop.groups h.blocks.groups);
+            subst (λ (gs : List Group). (id : ℕ) → KeepsAt kept.name_map m.parts (slice_get old.groups id) (slice_get gs id)) (sym groups)
+            (groups_on h.name_map kept.name_map s.loop.parts m.parts leaves.goes_on kept.extends.gone old.groups s.loop.groups h.blocks.groups);
       }) (below ∙ h.left) profile
 
-  pub timeouts_of : (out : Option ℕ) (c : Setting a) (body : Body X) (s : State a.Kept) → (h : Stands out c body s)
-      → KeepsTimeouts h.ties body.timeouts body.parts s.loop
+  pub timeouts_of : (out : Option ℕ) (c : Context a) (body : RunState X) (s : State a.Kept) → (h : Stands out c body s)
+      → KeepsTimeouts h.name_map body.timeouts body.parts s.loop
   timeouts_of out c body s h = record { parts = h.keeps; timeouts = h.blocks.timeouts }
 
   -- in a step of a task
-  pub goes_timed : (task : ℕ) (c : Setting a) (old : Body X) (s : State a.Kept) (v : View) (timeouts : List Timeout) (m : Loop)
-      → (h : IsInStep task c old s) → KeptTimeouts h.stands.ties s.loop timeouts v m → Leaves None s.loop.parts m.parts
+  pub goes_timed : (task : ℕ) (c : Context a) (old : RunState X) (s : State a.Kept) (v : View) (timeouts : List Timeout) (m : Loop)
+      → (h : IsInStep task c old s) → KeptTimeouts h.stands.name_map s.loop timeouts v m → Leaves None s.loop.parts m.parts
       → m.groups ≡ s.loop.groups → length v.queue.below ≡ length old.parts.queue.below → IsSameStep old.parts v
       → IsInStep task c (record old { parts = v; timeouts = timeouts }) (with_loop m s)
   goes_timed task c old s v timeouts m h kept leaves groups below same = record {

@@ -7,7 +7,7 @@ use Rattle.model_wire.specs.declared.event.Event.TheVariants as event
 use Rattle.model_wire.specs.Event.{Event}
 use Rattle.model_machine.specs.Replies as plain
 use Rattle.model_machine.specs.Replies.{decides, reply}
-use Rattle.model_machine.specs.State.{Standing, State}
+use Rattle.model_machine.specs.State.{ResumePoint, State}
 use Rattle.model_machine.specs.Went.{answers_in}
 use Rattle.law_reach.proofs.Opened.{decides_comes, reply_comes}
 use Rattle.law_reach.proofs.Rows.{in_answer, in_callback, in_turn}
@@ -17,12 +17,12 @@ use Rattle.aio_exchange.proofs.Among.{asks-append}
 use Rattle.aio_exchange.specs.Among.{AreTold, asks_among}
 use Rattle.aio_exchange.specs.Exchanged.{All}
 use Rattle.aio_extra.specs.Added.{Added}
-use Rattle.aio_body.specs.declared.body.Body.{Body}
+use Rattle.aio_body.specs.declared.run_state.RunState.{RunState}
 use Rattle.aio_body.specs.declared.reply.RequestReply.{RequestReply}
 use Rattle.aio_body.specs.declared.reply.RequestReply.TheVariants as said
 use Rattle.aio_body.specs.Asked.{IsInStep, Says}
-use Rattle.aio_body.specs.Asking.{GoesOn}
-use Rattle.aio_body.specs.Stands.{Setting}
+use Rattle.aio_body.specs.Asking.{EventsGrow}
+use Rattle.aio_body.specs.Stands.{Context}
 use Rattle.aio_body.proofs.Growing.{IsRowOn, row_on}
 use Rattle.aio_body.proofs.Noting.{answers-append}
 
@@ -46,7 +46,7 @@ cancel_nil : (xs ys : List Event) → xs ++ ys ≡ xs → ys ≡ []
 cancel_nil xs ys e = append_cancel_left xs ys [] (e ∙ sym (append-nil xs))
 
 -- events that stand for the machine's go on as these do
-pub told_so : (past old new was is : List Event) → was ≡ past ++ old → is ≡ past ++ new → GoesOn was is → asks_among is ≡ asks_among was
+pub told_so : (past old new was is : List Event) → was ≡ past ++ old → is ≡ past ++ new → EventsGrow was is → asks_among is ≡ asks_among was
     → AreTold [] All old new
 told_so past old new was is before after goes same = record {
   more = goes.0;
@@ -80,8 +80,8 @@ even_told past old new s t row answered left before after =
         let had = on.1 in
         omega (arith, more, same, had)
 
-module _ {X : Type 0} {a : Added X} (task : ℕ) (c : Setting a) (new : Body X) where
-  module _ (old : Body X) (s : State a.Kept) (h : IsInStep task c old s) where
+module _ {X : Type 0} {a : Added X} (task : ℕ) (c : Context a) (new : RunState X) where
+  module _ (old : RunState X) (s : State a.Kept) (h : IsInStep task c old s) where
     told_in : (now : State a.Kept) → InAnswer a.meaning (Some task) s now → IsAnswered s now → now.answers ≡ c.answers
         → now.events ≡ c.past ++ new.events.events → AreTold [] All old.events.events new.events.events
     told_in now row answered left told =
@@ -92,16 +92,16 @@ module _ {X : Type 0} {a : Added X} (task : ℕ) (c : Setting a) (new : Body X) 
         → AreTold [] All old.events.events new.events.events
     told_by (said.Answers value) (plain.Answers v now) comes h = told_in now comes.reaches comes.asks h.1.stands.rest h.1.stands.events
     told_by (said.Raises fault) (plain.Raises f now) comes h = told_in now comes.reaches comes.asks h.1.stands.rest h.1.stands.events
-    told_by said.Rests (plain.Rests now) comes h = told_in now comes.reaches comes.asks h.stands.rest h.stands.events
+    told_by said.Suspends (plain.Suspends now) comes h = told_in now comes.reaches comes.asks h.stands.rest h.stands.events
     told_by (said.Answers value) (plain.Raises f now) comes h = absurd h
-    told_by (said.Answers value) (plain.Rests now) comes h = absurd h
+    told_by (said.Answers value) (plain.Suspends now) comes h = absurd h
     told_by (said.Answers value) (plain.Halts e last) comes h = absurd h
     told_by (said.Raises fault) (plain.Answers v now) comes h = absurd h
-    told_by (said.Raises fault) (plain.Rests now) comes h = absurd h
+    told_by (said.Raises fault) (plain.Suspends now) comes h = absurd h
     told_by (said.Raises fault) (plain.Halts e last) comes h = absurd h
-    told_by said.Rests (plain.Answers v now) comes h = absurd h
-    told_by said.Rests (plain.Raises f now) comes h = absurd h
-    told_by said.Rests (plain.Halts e last) comes h = absurd h
+    told_by said.Suspends (plain.Answers v now) comes h = absurd h
+    told_by said.Suspends (plain.Raises f now) comes h = absurd h
+    told_by said.Suspends (plain.Halts e last) comes h = absurd h
 
     -- a request that asks nothing
     pub reply_told : (it : RequestReply) (request : Request) → Says task c new it (reply a.meaning task request s)
@@ -109,6 +109,6 @@ module _ {X : Type 0} {a : Added X} (task : ℕ) (c : Setting a) (new : Body X) 
     reply_told it request says = told_by it (reply a.meaning task request s) (reply_comes a.meaning task request s) says
 
     -- nor does what its wait came to
-    pub decides_told : (it : RequestReply) (stood : Standing) (input : Input) → Says task c new it (decides a.meaning stood task input s)
+    pub decides_told : (it : RequestReply) (stood : ResumePoint) (input : Input) → Says task c new it (decides a.meaning stood task input s)
         → AreTold [] All old.events.events new.events.events
     decides_told it stood input says = told_by it (decides a.meaning stood task input s) (decides_comes a.meaning task stood input s) says

@@ -21,13 +21,13 @@ use Rattle.aio_exchange.specs.Among.{AreTold, ExchangedOn}
 use Rattle.aio_exchange.specs.Exchanged.{Exchange, Last, All, Met, Starved, StopsAs, entries_of}
 use Rattle.aio_base.specs.declared.memory.Memory.{Memory}
 use Rattle.aio_extra.specs.Added.{Added}
-use Rattle.aio_body.specs.declared.body.Body.{Body}
+use Rattle.aio_body.specs.declared.run_state.RunState.{RunState}
 use Rattle.aio_body.specs.declared.reply.RequestReply.{RequestReply}
 use Rattle.aio_body.specs.Asked.{IsAskingFor, Says}
-use Rattle.aio_body.specs.Stands.{Setting}
+use Rattle.aio_body.specs.Stands.{Context}
 
 -- these answers were left, and were had
-abbrev pub before : {X : Type 0} {a : Added X} → List Exchange → Setting a → Setting a
+abbrev pub before : {X : Type 0} {a : Added X} → List Exchange → Context a → Context a
 before had c = record c { answers = entries_of had ++ c.answers }
 
 -- ---- the machine ends the run there
@@ -59,41 +59,41 @@ pub record StopsWith {S M : Type 0} (ends : End → State S → M) (why : Stop) 
 
 -- ---- memory was refused there
 -- events go on with more
-abbrev pub GoesOn : List Event → List Event → Type 0
-GoesOn was is = (more : List Event) × (is ≡ was ++ more)
+abbrev pub EventsGrow : List Event → List Event → Type 0
+EventsGrow was is = (more : List Event) × (is ≡ was ++ more)
 
 -- the events of the state that is left begin with these
 abbrev pub ReplyBegins : {S : Type 0} → List Event → plain.RequestReply S → Type 0
-ReplyBegins events (plain.Answers value now) = GoesOn events now.events
-ReplyBegins events (plain.Raises fault now) = GoesOn events now.events
-ReplyBegins events (plain.Rests now) = GoesOn events now.events
-ReplyBegins events (plain.Halts end last) = GoesOn events last.events
+ReplyBegins events (plain.Answers value now) = EventsGrow events now.events
+ReplyBegins events (plain.Raises fault now) = EventsGrow events now.events
+ReplyBegins events (plain.Suspends now) = EventsGrow events now.events
+ReplyBegins events (plain.Halts end last) = EventsGrow events last.events
 
 abbrev pub WentBegins : {S : Type 0} → List Event → Went S → Type 0
-WentBegins events it = GoesOn events (state_of it).events
+WentBegins events it = EventsGrow events (state_of it).events
 
 -- ---- a call
 -- A piece of the machine that a call does: where it may begin, what the machine does from there, how it ends a run in it, what
 -- the call says of it, and with which events that begins which it leaves. `At` is mostly a state.
 pub record Piece {X : Type 0} (a : Added X) (At M R : Type 0) : Type 1 where
-  pub from : Setting a → At → Type 0
+  pub from : Context a → At → Type 0
   pub does : At → M
   pub ends : End → State a.Kept → M
-  pub says : Setting a → R → M → Type 0
+  pub says : Context a → R → M → Type 0
   pub begins : List Event → M → Type 0
 
 -- The machine does the same, from wherever it began; or it ends the run where the outside has no answer that fits. Where memory was
 -- refused, what was asked by then is among the first that it does.
 abbrev pub ComesBy : {X At M R : Type 0} {a : Added X} → Piece a At M R → List Exchange → Last → (old new : EventList) → Result R Stop → Type 0
 ComesBy {At = At} {a = a} it had All old new (Ok said) =
-    (c : Setting a) (at : At) → it.from (before had c) at → AreTold had All old.events new.events × it.says c said (it.does at)
+    (c : Context a) (at : At) → it.from (before had c) at → AreTold had All old.events new.events × it.says c said (it.does at)
 ComesBy {At = At} {a = a} it had (Met call reply) old new (Err why) =
     StopsAs (Met call reply) new.answers why
-    × ((c : Setting a) (at : At) → it.from (before had c) at → RestFits (Met call reply) c.answers
+    × ((c : Context a) (at : At) → it.from (before had c) at → RestFits (Met call reply) c.answers
     → AreTold had (Met call reply) old.events new.events × StopsWith it.ends why c.past new.events (it.does at))
 ComesBy {At = At} {a = a} it had Starved old new (Err why) =
     (why ≡ stop.Memory)
-    × ((mid : List Event) × ((c : Setting a) (at : At) → it.from (before had c) at
+    × ((mid : List Event) × ((c : Context a) (at : At) → it.from (before had c) at
     → AreTold had All old.events mid × it.begins (c.past ++ mid) (it.does at)))
 ComesBy it had _ old new _ = ⊥
 
@@ -110,7 +110,7 @@ or_stop (Ok said) = Ok said
 or_stop (Err memory) = Err stop.Memory
 
 -- ---- a request that was asked is served as the table of requests says
-abbrev pub serving : {X : Type 0} → (a : Added X) → ℕ → Request → (old new : Body X) → Piece a (State a.Kept) (plain.RequestReply a.Kept) RequestReply
+abbrev pub serving : {X : Type 0} → (a : Added X) → ℕ → Request → (old new : RunState X) → Piece a (State a.Kept) (plain.RequestReply a.Kept) RequestReply
 serving a task request old new =
     record {
       from = λ c s. IsAskingFor task request c old s;

@@ -7,11 +7,11 @@ use Rattle.model_machine.specs.Sound.{IsStateSound}
 use Rattle.model_machine.specs.State.{State, noted, unbooked_in}
 use Rattle.aio_task.specs.View.{stepped}
 use Rattle.aio_extra.specs.Added.{Added}
-use Rattle.aio_body.specs.declared.body.Body.{Body}
-use Rattle.aio_body.specs.Stands.{Setting, Stands}
+use Rattle.aio_body.specs.declared.run_state.RunState.{RunState}
+use Rattle.aio_body.specs.Stands.{Context, Stands}
 
 -- A handle was taken from the queue and is about to run.
-pub record IsNext {X : Type 0} {a : Added X} (action : Action) (c : Setting a) (body : Body X) (s : State a.Kept) : Type 0 where
+pub record IsNext {X : Type 0} {a : Added X} (action : Action) (c : Context a) (body : RunState X) (s : State a.Kept) : Type 0 where
   pub before : State a.Kept
   pub handle : Handle
   pub rest : List Handle
@@ -25,7 +25,7 @@ pub record IsNext {X : Type 0} {a : Added X} (action : Action) (c : Setting a) (
   pub running : body.parts.running ≡ None
 
 -- It was noted that it runs.
-pub record IsTaken {X : Type 0} {a : Added X} (action : Action) (c : Setting a) (body : Body X) (s : State a.Kept) : Type 0 where
+pub record IsTaken {X : Type 0} {a : Added X} (action : Action) (c : Context a) (body : RunState X) (s : State a.Kept) : Type 0 where
   pub before : State a.Kept
   pub handle : Handle
   pub rest : List Handle
@@ -39,7 +39,7 @@ pub record IsTaken {X : Type 0} {a : Added X} (action : Action) (c : Setting a) 
   pub running : body.parts.running ≡ None
 
 -- after a callback that steps no task
-pub record IsAfterCallback {X : Type 0} {a : Added X} (c : Setting a) (body : Body X) (s : State a.Kept) : Type 0 where
+pub record IsAfterCallback {X : Type 0} {a : Added X} (c : Context a) (body : RunState X) (s : State a.Kept) : Type 0 where
   pub stands : Stands None c body s
   pub called : body.parts.called ≡ None
   pub running : body.parts.running ≡ None

@@ -8,11 +8,11 @@ ghost use Rattle.aio_task.specs.View.{parts};
 ghost use Rattle.aio_body.specs.Named.{future_in, awaited_in};
 ghost use Rattle.aio_body.specs.Words.{is_text};
 
-use crate::body::Body;
+use crate::run_state::RunState;
 use aio_base::{Exc, Kind, Memory, Value, ValueCase, kind_matches};
 use aio_task::FutureId;
 
-impl<X> Body<X> {
+impl<X> RunState<X> {
     /// A future of `future()`.
     pub fn as_future(&self, value: &Value) -> Option<FutureId>
         ensures { result ≡ future_in self.now.futures.items value.now }

@@ -2,9 +2,9 @@
 ghost use Rattle.std.specs.Prelude.{◌≡◌, None, Some, OnOk};
 ghost use Rattle.aio_body.specs.Near.{standing_of};
 ghost use Rattle.aio_body.specs.Held.{slot_in, standing_in};
-ghost use Rattle.aio_body.specs.declared.standing.Standing.TheVariants.{Asked};
+ghost use Rattle.aio_body.specs.declared.resume_point.ResumePoint.TheVariants.{Asked};
 
-use crate::standing::{Near, Slot, Standing};
+use crate::resume_point::{Near, ResumePoint, Slot};
 use aio_base::Memory;
 use aio_gen::Gen;
 use model_wire::Handed;
@@ -50,8 +50,8 @@ pub struct HeldSlot {
 }
 
 impl Model for HeldSlot {
-    ghost use Rattle.aio_body.specs.contracts.standing.Slot.{the_row};
-    ghost use Rattle.aio_body.specs.declared.standing.Slot.{Slot};
+    ghost use Rattle.aio_body.specs.contracts.resume_point.Slot.{the_row};
+    ghost use Rattle.aio_body.specs.declared.resume_point.Slot.{Slot};
 
     ghost Value = { Slot };
 
@@ -81,20 +81,20 @@ fn brief_of(near: Near) -> Brief
     }
 }
 
-fn standing_at(kind: Kind, number: u32) -> Standing
+fn resume_point_at(kind: Kind, number: u32) -> ResumePoint
     ensures { result ≡ standing_in kind number }
 {
     match kind {
-        Kind::Asked => Standing::Asked,
-        Kind::Leaving => Standing::Leaving(number),
-        Kind::YieldingConn => Standing::Yielding(Handed::Conn(number)),
-        Kind::YieldingChild => Standing::Yielding(Handed::Child(number)),
+        Kind::Asked => ResumePoint::Asked,
+        Kind::Leaving => ResumePoint::Leaving(number),
+        Kind::YieldingConn => ResumePoint::Yielding(Handed::Conn(number)),
+        Kind::YieldingChild => ResumePoint::Yielding(Handed::Child(number)),
     }
 }
 
 // Nothing runs there.
 fn vacant() -> Room
-    ensures { slot_in result ≡ record { coroutine = None; standing = Asked } }
+    ensures { slot_in result ≡ record { coroutine = None; resume_point = Asked } }
 {
     Room::Empty {
         kind: Kind::Asked,
@@ -105,7 +105,7 @@ fn vacant() -> Room
 impl HeldSlot {
     /// A coroutine that waits for its first input.
     pub fn starting(coroutine: Gen) -> HeldSlot
-        ensures { result ≡ record { coroutine = Some coroutine; standing = Asked } }
+        ensures { result ≡ record { coroutine = Some coroutine; resume_point = Asked } }
     {
         HeldSlot {
             room: Room::Runs {
@@ -119,12 +119,12 @@ impl HeldSlot {
     /// What is in it is taken out, and nothing is left.
     pub fn take(&mut self) -> Slot
         ensures taken { result ≡ self.old }
-        ensures left { self.new ≡ record { coroutine = None; standing = Asked } }
+        ensures left { self.new ≡ record { coroutine = None; resume_point = Asked } }
     {
         match mem::replace(&mut self.room, vacant()) {
             Room::Empty { kind, number } => Slot {
                 coroutine: None,
-                standing: standing_at(kind, number),
+                resume_point: resume_point_at(kind, number),
             },
             Room::Runs {
                 kind,
@@ -132,7 +132,7 @@ impl HeldSlot {
                 coroutine,
             } => Slot {
                 coroutine: Some(coroutine),
-                standing: standing_at(kind, number),
+                resume_point: resume_point_at(kind, number),
             },
             Room::Far(slot) => Box::into_inner(slot),
         }
@@ -148,15 +148,15 @@ impl HeldSlot {
 
     /// The request at which the task stands, in the memory that there is.
     pub fn stand(&mut self, near: Near)
-        ensures { self.new ≡ record self.old { standing = standing_of near } }
+        ensures { self.new ≡ record self.old { resume_point = standing_of near } }
     {
         let room = mem::replace(&mut self.room, vacant());
         self.room = with_standing(room, brief_of(near));
     }
 
     /// The request at which the task stands, in memory of its own.
-    pub fn stand_far(&mut self, alloc: Global, standing: Standing) -> Result<(), Memory>
-        ensures { OnOk result (self.new ≡ record self.old { standing = standing }) }
+    pub fn stand_far(&mut self, alloc: Global, resume_point: ResumePoint) -> Result<(), Memory>
+        ensures { OnOk result (self.new ≡ record self.old { resume_point = resume_point }) }
     {
         let room = mem::replace(&mut self.room, vacant());
         let coroutine = coroutine_in(room);
@@ -164,7 +164,7 @@ impl HeldSlot {
             alloc,
             Slot {
                 coroutine,
-                standing,
+                resume_point,
             },
         )?;
         self.room = Room::Far(slot);
@@ -204,7 +204,7 @@ fn with_its_coroutine(slot: Box<Slot>, coroutine: Gen) -> Box<Slot>
 
 fn with_standing(room: Room, brief: Brief) -> Room
     ensures { slot_in result
-        ≡ record (slot_in room) { standing = standing_in brief.kind brief.number } }
+        ≡ record (slot_in room) { resume_point = standing_in brief.kind brief.number } }
 {
     let Brief { kind, number } = brief;
     match room {
@@ -218,15 +218,15 @@ fn with_standing(room: Room, brief: Brief) -> Room
             number,
             coroutine,
         },
-        Room::Far(slot) => Room::Far(with_its_standing(slot, standing_at(kind, number))),
+        Room::Far(slot) => Room::Far(with_its_standing(slot, resume_point_at(kind, number))),
     }
 }
 
-fn with_its_standing(slot: Box<Slot>, standing: Standing) -> Box<Slot>
-    ensures { result.value ≡ record slot.value { standing = standing } }
+fn with_its_standing(slot: Box<Slot>, resume_point: ResumePoint) -> Box<Slot>
+    ensures { result.value ≡ record slot.value { resume_point = resume_point } }
 {
     let mut slot = slot;
-    slot.standing = standing;
+    slot.resume_point = resume_point;
     slot
 }
 
@@ -250,7 +250,7 @@ fn coroutine_of(slot: Slot) -> Option<Gen>
 {
     let Slot {
         coroutine,
-        standing: _standing,
+        resume_point: _standing,
     } = slot;
     coroutine
 }

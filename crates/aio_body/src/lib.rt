@@ -2,20 +2,20 @@
 #![tactic(auto)]
 
 mod arguments;
-mod body;
 mod delay;
 mod held;
 pub mod laws;
 mod reply;
+mod resume_point;
+mod run_state;
 mod slots;
-mod standing;
 
 pub use arguments::{as_failure, as_group, as_int, as_task, as_timeout, is_list, is_program};
-pub use body::Body;
 pub use delay::{Delay, as_delay};
 pub use held::HeldSlot;
 pub use reply::{
     MOST_IDS, RequestReply, bad_argument, cancelled_error, input_of, or_stop, out_of_range, raises,
     replied, reply_of,
 };
-pub use standing::{Near, Slot, Standing};
+pub use resume_point::{Near, ResumePoint, Slot};
+pub use run_state::RunState;

@@ -18,7 +18,7 @@ use std::alloc::Global;
 pub enum RequestReply {
     Answers(Value),
     Raises(Exc),
-    Rests,
+    Suspends,
 }
 
 /// How many tasks, futures of `future()`, timeouts or groups can be made.

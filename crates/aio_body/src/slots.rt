@@ -3,17 +3,17 @@ ghost use Rattle.std.specs.Prelude.{◌≡◌, ◌<◌, None, Some, IfOk, OnOk, 
 ghost use Rattle.model_loop.specs.Owning.{owner_at};
 ghost use Rattle.aio_body.specs.GivingUp.{IsNoTasks, given_up_in, let_go_done};
 ghost use Rattle.aio_body.specs.Near.{standing_of};
-ghost use Rattle.aio_body.specs.Slots.{HoldsMore, no_slot, put_back, standing_at};
+ghost use Rattle.aio_body.specs.Slots.{HoldsMore, no_slot, put_back, resume_point_at};
 
-use crate::body::Body;
 use crate::held::HeldSlot;
-use crate::standing::{Near, Slot, Standing};
+use crate::resume_point::{Near, ResumePoint, Slot};
+use crate::run_state::RunState;
 use aio_base::{Memory, Value, ValueList};
 use aio_gen::Gen;
 use aio_task::FutureId;
 use std::alloc::Global;
 
-impl<X> Body<X> {
+impl<X> RunState<X> {
     /// The coroutine of the task that is made next.
     pub fn hold(
         &mut self,
@@ -33,7 +33,7 @@ impl<X> Body<X> {
     pub fn take(&mut self, task: u32) -> Slot
         requires { task < length self.old.slots.items }
         ensures slot { slice_get self.old.slots.items task ≡ Some result }
-        ensures beside { self.new ≡ record self.old { slots = self.new.slots } }
+        ensures frame { self.new ≡ record self.old { slots = self.new.slots } }
         ensures slots { self.new.slots.items ≡ slice_set self.old.slots.items task no_slot }
     {
         let slot = &mut self.slots[task as usize];
@@ -43,7 +43,7 @@ impl<X> Body<X> {
     /// The coroutine of a task is put back.
     pub fn put_back(&mut self, task: u32, coroutine: Gen)
         requires { task < length self.old.slots.items }
-        ensures beside { self.new ≡ record self.old { slots = self.new.slots } }
+        ensures frame { self.new ≡ record self.old { slots = self.new.slots } }
         ensures slots { self.new.slots.items ≡ put_back task coroutine self.old.slots.items }
     {
         let slot = &mut self.slots[task as usize];
@@ -53,49 +53,50 @@ impl<X> Body<X> {
     /// The request at which a task stands, where that takes no memory of its own.
     pub fn stand(&mut self, task: u32, near: Near)
         requires { task < length self.old.slots.items }
-        ensures beside { self.new ≡ record self.old { slots = self.new.slots } }
+        ensures frame { self.new ≡ record self.old { slots = self.new.slots } }
         ensures slots { self.new.slots.items
-            ≡ standing_at task (standing_of near) self.old.slots.items }
+            ≡ resume_point_at task (standing_of near) self.old.slots.items }
     {
         let slot = &mut self.slots[task as usize];
         slot.stand(near);
     }
 
     /// The request at which a task stands, in memory of its own until the task is resumed.
-    pub fn stand_far(&mut self, task: u32, standing: Standing) -> Result<(), Memory>
+    pub fn stand_far(&mut self, task: u32, resume_point: ResumePoint) -> Result<(), Memory>
         requires { task < length self.old.slots.items }
-        ensures beside { self.new ≡ record self.old { slots = self.new.slots } }
+        ensures frame { self.new ≡ record self.old { slots = self.new.slots } }
         ensures slots { OnOk result
-            (self.new.slots.items ≡ standing_at task standing self.old.slots.items) }
+            (self.new.slots.items ≡ resume_point_at task resume_point self.old.slots.items) }
     {
         let alloc = *self.slots.allocator();
         let slot = &mut self.slots[task as usize];
-        slot.stand_far(alloc, standing)
+        slot.stand_far(alloc, resume_point)
     }
 
     /// The timer of a sleep is given up as its task is resumed, and the future of a sleep or of a
     /// connect is let go.
-    pub fn give_up(&mut self, standing: &Standing)
+    pub fn give_up(&mut self, resume_point: &ResumePoint)
         requires idle { self.old.parts.called ≡ None }
-        requires no_task { IsNoTasks standing.now self.old.parts }
-        ensures { self.new ≡ record self.old { parts = given_up_in standing.now self.old.parts } }
+        requires no_task { IsNoTasks resume_point.now self.old.parts }
+        ensures { self.new
+            ≡ record self.old { parts = given_up_in resume_point.now self.old.parts } }
     {
-        match standing {
-            Standing::Asked => {}
-            Standing::Sleeping { timer, future } => {
+        match resume_point {
+            ResumePoint::Asked => {}
+            ResumePoint::Sleeping { timer, future } => {
                 self.parts.cancel_timer(*timer);
-                self.let_go(*future);
+                self.release(*future);
             }
-            Standing::Leaving(_) => {}
-            Standing::Serving(_) => {}
-            Standing::Connecting { conn: _, future } => self.let_go(*future),
-            Standing::Yielding(_) => {}
-            Standing::Reading {
+            ResumePoint::Leaving(_) => {}
+            ResumePoint::Serving(_) => {}
+            ResumePoint::Connecting { conn: _, future } => self.release(*future),
+            ResumePoint::Yielding(_) => {}
+            ResumePoint::Reading {
                 from: _,
                 op: _,
                 on: _,
             } => {}
-            Standing::ReadingAll {
+            ResumePoint::ReadingAll {
                 from: _,
                 taken: _,
                 on: _,
@@ -104,7 +105,7 @@ impl<X> Body<X> {
     }
 
     // A future that nobody else asks for, if it is done.
-    fn let_go(&mut self, future: FutureId)
+    fn release(&mut self, future: FutureId)
         requires idle { self.old.parts.called ≡ None }
         requires no_task { owner_at (slice_get self.old.parts.futures future) ≡ None }
         ensures { self.new ≡ record self.old { parts = let_go_done future self.old.parts } }

@@ -7,6 +7,6 @@ abbrev pub waiter_in : Wait → Option ℕ
 waiter_in (wait.Nothing must_cancel) = None
 waiter_in (wait.Future must_cancel on) = Some on
 
-abbrev pub is_marked_in : Wait → Bool
-is_marked_in (wait.Nothing must_cancel) = must_cancel
-is_marked_in (wait.Future must_cancel on) = must_cancel
+abbrev pub must_cancel_in : Wait → Bool
+must_cancel_in (wait.Nothing must_cancel) = must_cancel
+must_cancel_in (wait.Future must_cancel on) = must_cancel

@@ -2,7 +2,7 @@
 ghost use Rattle.std.specs.Prelude.{◌≡◌, ◌+◌, ◌<◌, ◌^◌, false, [], IfOk, IfSome, None, Some, slice_get, if◌then◌else◌};
 ghost use Rattle.std.specs.Option.{option_copied};
 ghost use Rattle.model_loop.specs.Futures.{settle, mark_asked};
-ghost use Rattle.model_loop.specs.Tasks.{raise_count, mark as mark_task};
+ghost use Rattle.model_loop.specs.Tasks.{raise_count, set_must_cancel as set_must_cancel_of};
 ghost use Rattle.algorithm_parts.specs.Shape.{stands_at, members_at};
 ghost use Rattle.algorithm_parts.specs.Quiet.{asked_of, stage_at};
 ghost use Rattle.aio_ready.specs.Queue.{no_handles};
@@ -123,12 +123,12 @@ impl Awaitables {
     }
 
     /// A cancel waits for the task's next step.
-    pub fn mark(&mut self, task: u32)
-        ensures after { parts self.new ≡ mark_task task (parts self.old) }
+    pub fn set_must_cancel(&mut self, task: u32)
+        ensures after { parts self.new ≡ set_must_cancel_of task (parts self.old) }
         ensures queue { self.new.queue ≡ self.old.queue }
     {
         if let Some(task) = self.tasks.get_mut(task as usize) {
-            task.mark();
+            task.set_must_cancel();
         }
     }
 }

@@ -1,9 +1,9 @@
-//! Cancel requests and the search for a circle over the queue, the futures and the tasks, without
+//! Cancel requests and the search for a cycle over the queue, the futures and the tasks, without
 //! recursion and without asking for memory.
 #![tactic(auto)]
 
 mod awaitables;
-mod circle;
+mod cycle;
 mod marks;
 mod notes;
 mod quiet;
@@ -12,7 +12,7 @@ mod task;
 mod walk;
 
 pub use awaitables::Awaitables;
-pub use circle::leads;
+pub use cycle::leads;
 pub use marks::Marks;
 pub use notes::{Note, Notes};
 pub use stack::WalkStack;

@@ -58,7 +58,7 @@ impl Notes {
         Ok(())
     }
 
-    /// A future that is let go needs no note.
+    /// A future that is released needs no note.
     pub fn forget(&mut self, id: FutureId)
         ensures { (other : ℕ) (again : Bool) → noted self.new other ≡ Some again
             → noted self.old other ≡ Some again }

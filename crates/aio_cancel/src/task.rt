@@ -1,7 +1,7 @@
 //! One task.
 ghost use Rattle.std.specs.Prelude.{◌≡◌, ◌-◌, true, false, None};
 ghost use Rattle.model_loop.specs.Tasks.{one_more};
-ghost use Rattle.aio_cancel.specs.Waits.{waiter_in, is_marked_in};
+ghost use Rattle.aio_cancel.specs.Waits.{waiter_in, must_cancel_in};
 
 use aio_future::FutureId;
 use std::marker::Model;
@@ -34,13 +34,13 @@ impl Model for Task {
 
     ghost coded = { coded_task };
 
-    ghost use Rattle.aio_cancel.specs.Waits.{waiter_in, is_marked_in};
+    ghost use Rattle.aio_cancel.specs.Waits.{waiter_in, must_cancel_in};
 
     ghost view = { λ a. record {
       future = a.future;
       waiter = waiter_in a.wait;
       cancels = a.cancels;
-      must_cancel = is_marked_in a.wait;
+      must_cancel = must_cancel_in a.wait;
     } };
 }
 
@@ -82,7 +82,7 @@ impl Task {
     }
 
     /// Whether a cancel waits for the next step (`_must_cancel` of `tasks.py`).
-    pub fn is_marked(&self) -> bool
+    pub fn must_cancel_of(&self) -> bool
         ensures { result ≡ self.now.must_cancel }
     {
         match self.wait {
@@ -95,7 +95,7 @@ impl Task {
     pub fn set_waiter(&mut self, waiter: Option<FutureId>)
         ensures { self.new ≡ record self.old { waiter = waiter } }
     {
-        let must_cancel = self.is_marked();
+        let must_cancel = self.must_cancel_of();
         self.wait = wait_with(must_cancel, waiter);
     }
 
@@ -116,7 +116,7 @@ impl Task {
     }
 
     /// A cancel waits for the next step.
-    pub fn mark(&mut self)
+    pub fn set_must_cancel(&mut self)
         ensures { self.new ≡ record self.old { must_cancel = true } }
     {
         let waiter = self.waiter();
@@ -124,7 +124,7 @@ impl Task {
     }
 
     /// No cancel waits for the next step any more.
-    pub fn unmark(&mut self)
+    pub fn clear_must_cancel(&mut self)
         ensures { self.new ≡ record self.old { must_cancel = false } }
     {
         let waiter = self.waiter();
@@ -134,7 +134,7 @@ impl Task {
 
 fn wait_with(must_cancel: bool, waiter: Option<FutureId>) -> Wait
     ensures waiter { waiter_in result ≡ waiter }
-    ensures mark { is_marked_in result ≡ must_cancel }
+    ensures mark { must_cancel_in result ≡ must_cancel }
 {
     match waiter {
         None => Wait::Nothing { must_cancel },

@@ -1,7 +1,7 @@
 //! A cancel request, with what is left to do on a stack.
 ghost use Rattle.std.specs.Prelude.{◌≡◌, ◌<◌, ℕ, List, [], ◌∷◌, ◌++◌};
 ghost use Rattle.model_loop.specs.Cancel.{cancel as cancel_of};
-ghost use Rattle.model_loop.specs.Sound.{HasNoCircle};
+ghost use Rattle.model_loop.specs.Sound.{HasNoCycle};
 ghost use Rattle.algorithm_parts.specs.declared.walk.WalkFrame.{WalkFrame as PlainFrame};
 ghost use Rattle.algorithm_parts.specs.declared.walk.Go.TheVariants as go;
 ghost use Rattle.algorithm_parts.specs.Walk.{run, run_task};
@@ -99,7 +99,7 @@ fn visit_task(
             Go::Visit(waiter)
         }
         None => {
-            body.mark(task);
+            body.set_must_cancel(task);
             Go::Answer(true)
         }
     }
@@ -153,7 +153,7 @@ fn back(answer: bool, frame: WalkFrame, body: &mut Awaitables) -> Go
     match frame {
         WalkFrame::Waits { id: _, task } => {
             if !answer {
-                body.mark(task);
+                body.set_must_cancel(task);
             }
             Go::Answer(true)
         }
@@ -173,7 +173,7 @@ pub fn cancel(
     notes: &mut Notes,
     stack: &mut WalkStack,
 ) -> bool
-    requires no_circle { HasNoCircle (parts body.old) }
+    requires no_cycle { HasNoCycle (parts body.old) }
     requires room { HasRoom body.old stack.old seen.old notes.old }
     ensures after { parts body.new ≡ (cancel_of target (parts body.old)).parts }
     ensures answer { result ≡ (cancel_of target (parts body.old)).answer }

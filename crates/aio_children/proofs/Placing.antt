@@ -29,7 +29,7 @@ use Rattle.aio_child.specs.Owned.{OwnsChild}
 use Rattle.aio_child.proofs.Owning.{kept_child}
 use Rattle.aio_children.specs.Kept.{Kept}
 use Rattle.aio_children.specs.Owned.{OwnsChildren}
-use Rattle.aio_children.specs.Standing.{Answers, Becomes, Comes, StandsAfter, StandsFor, Told, ToldWith}
+use Rattle.aio_children.specs.Standing.{Answers, Becomes, Comes, StandsAfter, ChildrenStandFor, Told, ToldWith}
 
 -- ---- reads of a list
 pub at_place : {X : Type 0} (xs : List X) (id : ℕ) (x : X) → id < length xs → x ≡ slice_index_or xs id x → slice_get xs id ≡ Some x
@@ -68,13 +68,13 @@ module _ (k : Kept) (id : ℕ) (p after : Child) (at : slice_get k.children id �
   abbrev put_in : Streams → Streams
   put_in s = record s { children = slice_set s.children id after }
 
-  stands_placed : (s : Streams) → StandsFor k s → StandsAfter placed s.opened s (put_in s)
+  stands_placed : (s : Streams) → ChildrenStandFor k s → StandsAfter placed s.opened s (put_in s)
   stands_placed s h = (
     record { children = ap (λ ps. slice_set ps id after) h.children; most = h.most },
     record { servers = refl; connections = refl; opened = refl },
   )
 
-  is_there : (s : Streams) → StandsFor k s → Some p ≡ slice_get s.children id
+  is_there : (s : Streams) → ChildrenStandFor k s → Some p ≡ slice_get s.children id
   is_there s h = sym (ap (λ ps. slice_get ps id) h.children ∙ at)
 
   abbrev on_by : (Child → Doing Child) → Streams → Option Child → Doing Streams
@@ -136,7 +136,7 @@ module _ (k : Kept) (id : ℕ) (p after : Child) (at : slice_get k.children id �
             follows_stopped o seen_changed (write_child id piece p) (λ it. Ends (record s { children = slice_set s.children id it.0 }, it.1)) why
             old new f
 
-    noted_so : (s : Streams) → StandsFor k s → (noting : List ℕ)
+    noted_so : (s : Streams) → ChildrenStandFor k s → (noting : List ℕ)
         → Follows o seen_changed (write_unnoted (to.Child id) piece (noted (to.Child id) noting s)) old new
         (with_after (put_in (noted (to.Child id) noting s)) result)
         × OnOk result (StandsAfter placed s.opened s (put_in (noted (to.Child id) noting s)))
@@ -147,7 +147,7 @@ module _ (k : Kept) (id : ℕ) (p after : Child) (at : slice_get k.children id �
         ok (Err why) = tt
     noted_so s h (byte ∷ bytes) =
         let it = noted (to.Child id) (byte ∷ bytes) s in
-        let stands : StandsFor k it = record { children = h.children; most = h.most } in
+        let stands : ChildrenStandFor k it = record { children = h.children; most = h.most } in
         (unnoted it (is_there it stands), ok result)
       where
         ok : (r : Result Wrote Stop) → OnOk r (StandsAfter placed s.opened s (put_in (noted (to.Child id) (byte ∷ bytes) s)))
@@ -267,10 +267,10 @@ module _ (k : Kept) (id : ℕ) (p : Child) (at : slice_get k.children id ≡ Som
 
 -- ---- on one that there isn't
 module _ (k : Kept) (id : ℕ) (past : slice_get k.children id ≡ None) where
-  none_there : (s : Streams) → StandsFor k s → None ≡ slice_get s.children id
+  none_there : (s : Streams) → ChildrenStandFor k s → None ≡ slice_get s.children id
   none_there s h = sym (ap (λ ps. slice_get ps id) h.children ∙ past)
 
-  stands_still : (s : Streams) → StandsFor k s → StandsAfter k s.opened s s
+  stands_still : (s : Streams) → ChildrenStandFor k s → StandsAfter k s.opened s s
   stands_still s h = (h, record { servers = refl; connections = refl; opened = refl })
 
   pub comes_absent : {R W : Type 0} (o : Outside W) (change : Child → Doing Child) (at : Reach View W) (result : R)

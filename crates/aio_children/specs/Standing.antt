@@ -11,7 +11,7 @@ use Rattle.aio_change.specs.Seen.{seen_changed}
 use Rattle.aio_children.specs.Kept.{Kept}
 
 -- It keeps no history: what was written stands in the streams alone.
-pub record StandsFor (k : Kept) (s : Streams) : Type 0 where
+pub record ChildrenStandFor (k : Kept) (s : Streams) : Type 0 where
   pub children : s.children ≡ k.children
   pub most : s.most ≡ k.most
 
@@ -28,36 +28,36 @@ opened_after (Some id) opened = opened ++ OpenedChild id ∷ []
 
 -- It stands for what became of these streams, whose listeners and connections are as they were.
 abbrev pub StandsAfter : (new : Kept) (those : List Opened) (before after : Streams) → Type 0
-StandsAfter new those before after = StandsFor new after × Beside those before after
+StandsAfter new those before after = ChildrenStandFor new after × Beside those before after
 
 -- A call does what a tree says, whatever the streams that it stands for, and then stands for those that come of it.
 abbrev pub Comes : {W R : Type 0} → Outside W → (Streams → Doing Streams) → (old new : Kept) → (from to : Reach View W) → Result R Stop → Type 0
 Comes o tree old new from to result =
-    (s : Streams) → StandsFor old s
+    (s : Streams) → ChildrenStandFor old s
     → (after : Streams) × (Follows o seen_changed (tree s) from to (after_of after result) × OnOk result (StandsAfter new s.opened s after))
 
 abbrev pub Answers : {W R : Type 0} → Outside W → (Streams → Doing (Streams × R)) → (old new : Kept) → (from to : Reach View W) → Result R Stop → Type 0
 Answers o tree old new from to result =
-    (s : Streams) → StandsFor old s
+    (s : Streams) → ChildrenStandFor old s
     → (after : Streams) × (Follows o seen_changed (tree s) from to (with_after after result) × OnOk result (StandsAfter new s.opened s after))
 
 -- the same of a launch
 abbrev pub Launches : {W : Type 0} → Outside W → (Streams → Doing (Streams × Option ℕ)) → (old new : Kept) → (from to : Reach View W)
     → Result (Option ℕ) Stop → Type 0
 Launches o tree old new from to result =
-    (s : Streams) → StandsFor old s
+    (s : Streams) → ChildrenStandFor old s
     → (after : Streams)
     × (Follows o seen_changed (tree s) from to (with_after after result) × IfOk result (λ said. StandsAfter new (opened_after said s.opened) s after))
 
 -- the same of a call that asks nothing
 abbrev pub Told : (Streams → Doing Streams) → (old new : Kept) → (from to : View) → Type 0
 Told tree old new from to =
-    (s : Streams) → StandsFor old s → (after : Streams) × (Tells seen_changed (tree s) from to after × StandsAfter new s.opened s after)
+    (s : Streams) → ChildrenStandFor old s → (after : Streams) × (Tells seen_changed (tree s) from to after × StandsAfter new s.opened s after)
 
 abbrev pub ToldWith : {R : Type 0} → (Streams → Doing (Streams × R)) → (old new : Kept) → (from to : View) → R → Type 0
 ToldWith tree old new from to result =
-    (s : Streams) → StandsFor old s → (after : Streams) × (Tells seen_changed (tree s) from to (after, result) × StandsAfter new s.opened s after)
+    (s : Streams) → ChildrenStandFor old s → (after : Streams) × (Tells seen_changed (tree s) from to (after, result) × StandsAfter new s.opened s after)
 
 -- the same of one that changes nothing of the loop
 abbrev pub Becomes : (Streams → Streams) → (old new : Kept) → Type 0
-Becomes change old new = (s : Streams) → StandsFor old s → StandsAfter new s.opened s (change s)
+Becomes change old new = (s : Streams) → ChildrenStandFor old s → StandsAfter new s.opened s (change s)

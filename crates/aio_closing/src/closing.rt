@@ -51,7 +51,7 @@ pub fn close<N: InboxName, R: Wait, L: Launcher<Inbox<N>, Poster<N>>>(
     ensures kills { (L.seen launcher.new).kills
         ≡ with_kills (kills_in (running_in roster.now.children)) (L.seen launcher.old).kills }
     ensures launches { (L.seen launcher.new).launches ≡ (L.seen launcher.old).launches }
-    ensures later { (L.seen launcher.old).faults ≤ (L.seen launcher.new).faults }
+    ensures monotone { (L.seen launcher.old).faults ≤ (L.seen launcher.new).faults }
     ensures ends { IfOk result (λ told. AreEnds (running_in roster.now.children) told.items) }
     ensures settled { SettlesMore
         (4 * length (running_in roster.now.children) + 4 * length free.items) postbox.old

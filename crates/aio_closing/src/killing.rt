@@ -17,7 +17,7 @@ fn kill_one<N: InboxName, L: Launcher<Inbox<N>, Poster<N>>>(
     requires { k < length (running_of roster.now.children) }
     ensures kills { KillsKth k roster.now (L.seen launcher.old).kills (L.seen launcher.new).kills }
     ensures launches { (L.seen launcher.new).launches ≡ (L.seen launcher.old).launches }
-    ensures later { (L.seen launcher.old).faults ≤ (L.seen launcher.new).faults }
+    ensures monotone { (L.seen launcher.old).faults ≤ (L.seen launcher.new).faults }
 {
     let child = roster.running_child(k);
     if !child.exited {
@@ -33,7 +33,7 @@ pub(crate) fn kill_all<N: InboxName, L: Launcher<Inbox<N>, Poster<N>>>(
     ensures kills { (L.seen launcher.new).kills
         ≡ with_kills (kills_in (running_in roster.now.children)) (L.seen launcher.old).kills }
     ensures launches { (L.seen launcher.new).launches ≡ (L.seen launcher.old).launches }
-    ensures later { (L.seen launcher.old).faults ≤ (L.seen launcher.new).faults }
+    ensures monotone { (L.seen launcher.old).faults ≤ (L.seen launcher.new).faults }
 {
     let count = roster.count_running();
     for k in 0..count {

@@ -90,7 +90,7 @@ fn take_one<N: InboxName, R: Wait, L: Launcher<Inbox<N>, Poster<N>>>(
     ensures runs { HaveRuns (k + 1) roster.now lanes.new }
     ensures settled { SettlesMore 4 postbox.old postbox.new }
     ensures none { StartsNone (L.seen launcher.old) (L.seen launcher.new) }
-    ensures later { (L.seen launcher.old).faults ≤ (L.seen launcher.new).faults }
+    ensures monotone { (L.seen launcher.old).faults ≤ (L.seen launcher.new).faults }
 {
     let child = roster.running_child(k);
     let run = taken(lanes, child.number);
@@ -116,7 +116,7 @@ pub(crate) fn take_all<N: InboxName, R: Wait, L: Launcher<Inbox<N>, Poster<N>>>(
     ensures settled { SettlesMore (4 * length (running_in roster.now.children)) postbox.old
         postbox.new }
     ensures none { StartsNone (L.seen launcher.old) (L.seen launcher.new) }
-    ensures later { (L.seen launcher.old).faults ≤ (L.seen launcher.new).faults }
+    ensures monotone { (L.seen launcher.old).faults ≤ (L.seen launcher.new).faults }
 {
     let count = roster.count_running();
     for k in 0..count {

@@ -3,7 +3,7 @@ use Rattle.std.proofs.Common.{◌≡◌, ℕ, ℤ, Bool, true, false, ◌&&◌, 
 use Rattle.std.proofs.Common.{refl, sym, ap, subst, arith}
 use Rattle.std.proofs.Math.Logic.{∥∥₁_elim, ∥∥₁_map}
 use Rattle.std.proofs.lemmas.Bool.{eq-eqb}
-use Rattle.model_value.specs.Action.{Action, Circle}
+use Rattle.model_value.specs.Action.{Action, CycleKind}
 use Rattle.model_value.specs.Input.{Input}
 use Rattle.model_value.specs.declared.action.Action.TheVariants as action
 use Rattle.model_value.specs.declared.input.Input.TheVariants.{Send, Throw}
@@ -11,7 +11,7 @@ use Rattle.model_value.specs.declared.outcome.Outcome.TheVariants.{Value as Retu
 use Rattle.model_value.specs.Value.{Exc, Nothing, Value}
 use Rattle.model_says.specs.Says.{step_limit}
 use Rattle.model_wire.specs.declared.event.Event.TheVariants as event
-use Rattle.model_loop.specs.Circles.{circle_fault}
+use Rattle.model_loop.specs.Cycles.{cycle_exception}
 use Rattle.model_loop.specs.Entries.{ends_sleep_on}
 use Rattle.model_loop.specs.Futures.{settle}
 use Rattle.model_loop.specs.Groups.{child_done}
@@ -47,15 +47,15 @@ use Rattle.law_turns.specs.SoundState.{HasSoundLoop}
 use Rattle.law_turns.proofs.Turning.{as_told, tells_none}
 use Rattle.law_runs.specs.Allowed.{AreAllowed}
 use Rattle.model_machine.specs.Extra.{Extra, ExtraCall, called as called_after}
-use Rattle.aio_task.specs.Keeps.{Ties}
+use Rattle.aio_task.specs.Keeps.{NameMap}
 use Rattle.aio_extra.specs.Called.{CallsAs, IsServed, MayServe}
 use Rattle.aio_body.proofs.Adding.{served_of, stands_called}
-use Rattle.aio_body.specs.declared.body.Body.{Body}
-use Rattle.aio_body.specs.Stands.{Setting, Stands, Possible}
+use Rattle.aio_body.specs.declared.run_state.RunState.{RunState}
+use Rattle.aio_body.specs.Stands.{Context, Stands, Possible}
 use Rattle.aio_body.specs.Taken.{IsNext, IsTaken, IsAfterCallback}
 use Rattle.aio_step.specs.declared.steps.Stepped.{Stepped}
 use Rattle.aio_step.specs.declared.steps.Stepped.TheVariants as went
-use Rattle.aio_step.specs.Stepping.{HearsMade, IsCalled, Steps, stepping}
+use Rattle.aio_step.specs.Stepping.{HearsMade, IsCalled, TaskSteps, stepping}
 use Rattle.std.specs.Prelude.{IfOk}
 use Rattle.law_reach.proofs.Running.{effect_goes}
 use Rattle.law_runs.proofs.Counts.{goes_on_then}
@@ -74,7 +74,7 @@ use Rattle.aio_exchange.specs.Exchanged.{Last, All, Met, Starved}
 use Rattle.aio_body.proofs.Asking.{come_none, comes_alone, comes_goes, comes_without}
 use Rattle.aio_body.specs.Asking.{Comes, ComesBy, WentBegins, before, or_stop}
 use Rattle.aio_streaming.specs.Acting as streaming
-use Rattle.aio_streaming.specs.Acting.{GoesOn}
+use Rattle.aio_streaming.specs.Acting.{CallbackGoesOn}
 use Rattle.aio_core.specs.Running.{StepsBy, acting, goes_as, running_one}
 use Rattle.aio_body.proofs.Lasting.{spares_none, stands_on}
 use Rattle.aio_body.proofs.Left.{leaves_settle}
@@ -85,7 +85,7 @@ use Rattle.aio_body.proofs.Sound.{extra_sound}
 
 module _ {X : Type 0} {a : Added X} where
   -- ---- it is noted that it runs
-  pub taken_so : (it : Action) (c : Setting a) (body : Body X) (s : State a.Kept) (events : EventList) → events ≡ pushed body.events (event.Ran it)
+  pub taken_so : (it : Action) (c : Context a) (body : RunState X) (s : State a.Kept) (events : EventList) → events ≡ pushed body.events (event.Ran it)
       → IsNext it c body s → IsTaken it c (record body { events = events }) (noted (event.Ran it) s)
   taken_so it c body s events e h = record {
     before = h.before;
@@ -106,7 +106,7 @@ off : (b : Bool) → (b && false) ≡ false
 off true = refl
 off false = refl
 
-module _ {X : Type 0} {a : Added X} (it : Action) (c : Setting a) (body : Body X) (s : State a.Kept) (h : IsTaken it c body s) where
+module _ {X : Type 0} {a : Added X} (it : Action) (c : Context a) (body : RunState X) (s : State a.Kept) (h : IsTaken it c body s) where
   abbrev out : State a.Kept
   out = unbooked_in (λ p. record p { pending = h.rest }) h.before
 
@@ -144,47 +144,47 @@ module _ {X : Type 0} {a : Added X} (it : Action) (c : Setting a) (body : Body X
   }
 
   -- after a call that steps no task
-  pub after_so : (new : Body X) (now : State a.Kept) → effect step_limit a.meaning it s ≡ Goes now → IsAfterCallback c new now
-      → Steps c new went.Goes (effect step_limit a.meaning it s)
+  pub after_so : (new : RunState X) (now : State a.Kept) → effect step_limit a.meaning it s ≡ Goes now → IsAfterCallback c new now
+      → TaskSteps c new went.Goes (effect step_limit a.meaning it s)
   after_so new now is after =
-      subst (Steps c new went.Goes) (sym is)
+      subst (TaskSteps c new went.Goes) (sym is)
       (record { stands = after.stands; called = after.called; running = after.running; sound = subst (LeavesStateSound a.meaning) is sound_then })
 
 -- what a handle comes to
-abbrev pub Acts : {X : Type 0} → (a : Added X) → Action → (old new : Body X) → Stepped → Type 0
-Acts a it old new said = (c : Setting a) (s : State a.Kept) → IsTaken it c old s → Steps c new said (effect step_limit a.meaning it s)
+abbrev pub Acts : {X : Type 0} → (a : Added X) → Action → (old new : RunState X) → Stepped → Type 0
+Acts a it old new said = (c : Context a) (s : State a.Kept) → IsTaken it c old s → TaskSteps c new said (effect step_limit a.meaning it s)
 
 module _ {X : Type 0} {a : Added X} where
   -- ---- steps
-  step_called : (task : ℕ) (c : Setting a) (body : Body X) (s : State a.Kept) → IsTaken (action.Step task) c body s → IsCalled task c body s
+  step_called : (task : ℕ) (c : Context a) (body : RunState X) (s : State a.Kept) → IsTaken (action.Step task) c body s → IsCalled task c body s
   step_called task c body s h = called_so (action.Step task) c body s h task (eq-eqb task task refl) refl
 
-  circle_called : (task : ℕ) (circle : Circle) (c : Setting a) (body : Body X) (s : State a.Kept) → IsTaken (action.StepInCircle task circle) c body s
+  cycle_called : (task : ℕ) (cycle : CycleKind) (c : Context a) (body : RunState X) (s : State a.Kept) → IsTaken (action.StepInCycle task cycle) c body s
       → IsCalled task c body s
-  circle_called task circle c body s h = called_so (action.StepInCircle task circle) c body s h task (eq-eqb task task refl) refl
+  cycle_called task cycle c body s h = called_so (action.StepInCycle task cycle) c body s h task (eq-eqb task task refl) refl
 
-  wakeup_called : (task : ℕ) (c : Setting a) (body : Body X) (s : State a.Kept) → IsTaken (action.Wakeup task) c body s → IsCalled task c body s
+  wakeup_called : (task : ℕ) (c : Context a) (body : RunState X) (s : State a.Kept) → IsTaken (action.Wakeup task) c body s → IsCalled task c body s
   wakeup_called task c body s h = called_so (action.Wakeup task) c body s h task (eq-eqb task task refl) refl
 
-  pub wakeup_begins : (task : ℕ) (body : Body X) → Possible a (IsTaken (action.Wakeup task)) body → Possible a (IsCalled task) body
+  pub wakeup_begins : (task : ℕ) (body : RunState X) → Possible a (IsTaken (action.Wakeup task)) body → Possible a (IsCalled task) body
   wakeup_begins task body m = ∥∥₁_map m (λ w. (w.0, (w.1.0, wakeup_called task w.0 body w.1.0 w.1.1)))
 
 -- which task a handle steps, and with what
-module _ {X : Type 0} {a : Added X} (body : Body X) where
+module _ {X : Type 0} {a : Added X} (body : RunState X) where
   pub steps_plain : (task : ℕ) (value : Value) → value ≡ Nothing → StepsBy a (action.Step task) body (Some (task, Send value))
   unfolding effect
   steps_plain task value e =
       subst (λ v. StepsBy a (action.Step task) body (Some (task, Send v))) (sym e) (refl, λ c s h. (step_called task c body s h, refl))
 
-  pub steps_circle : (task : ℕ) (circle : Circle) (fault : Exc) → fault ≡ circle_fault circle
-      → StepsBy a (action.StepInCircle task circle) body (Some (task, Throw fault))
+  pub steps_cycle : (task : ℕ) (cycle : CycleKind) (fault : Exc) → fault ≡ cycle_exception cycle
+      → StepsBy a (action.StepInCycle task cycle) body (Some (task, Throw fault))
   unfolding effect
-  steps_circle task circle fault e =
-      subst (λ f. StepsBy a (action.StepInCircle task circle) body (Some (task, Throw f))) (sym e)
-      (refl, λ c s h. (circle_called task circle c body s h, refl))
+  steps_cycle task cycle fault e =
+      subst (λ f. StepsBy a (action.StepInCycle task cycle) body (Some (task, Throw f))) (sym e)
+      (refl, λ c s h. (cycle_called task cycle c body s h, refl))
 
   pub steps_woken : (task : ℕ) (input : Input) → HearsMade input body
-      → ((c : Setting a) (s : State a.Kept) → IsCalled task c body s → input ≡ woken_with s.loop.parts task)
+      → ((c : Context a) (s : State a.Kept) → IsCalled task c body s → input ≡ woken_with s.loop.parts task)
       → StepsBy a (action.Wakeup task) body (Some (task, input))
   unfolding effect
   steps_woken task input made same =
@@ -197,8 +197,9 @@ module _ {X : Type 0} {a : Added X} (body : Body X) where
 
 -- ---- as pieces of the machine
 -- what a handle tells, where it goes on and leaves the answers as they were
-told_going : {X : Type 0} {a : Added X} (c : Setting a) (old new : Body X) (s : State a.Kept) → s.events ≡ c.past ++ old.events.events → s.answers ≡ c.answers
-    → (w : Went a.Kept) → InRun s (state_of w) → WentAsks s w → Steps c new went.Goes w → AreTold [] All old.events.events new.events.events
+told_going : {X : Type 0} {a : Added X} (c : Context a) (old new : RunState X) (s : State a.Kept) → s.events ≡ c.past ++ old.events.events
+    → s.answers ≡ c.answers
+    → (w : Went a.Kept) → InRun s (state_of w) → WentAsks s w → TaskSteps c new went.Goes w → AreTold [] All old.events.events new.events.events
 told_going c old new s told left (Goes now) row answered h =
     even_told c.past old.events.events new.events.events s now row answered (h.stands.rest ∙ sym left) told h.stands.events
 told_going c old new s told left (Stops how last) row answered h = absurd h
@@ -207,13 +208,13 @@ told_going c old new s told left (Stops how last) row answered h = absurd h
 effect_row : {S : Type 0} (added : Extra S) (it : Action) (s : State S) → InRun s (state_of (effect step_limit added it s))
 effect_row added it s = in_turn added (in_callback added (effect_goes step_limit added it s).reaches)
 
-module _ {X W : Type 0} (a : Added X) (o : Outside W) (it : Action) (body : Body X) where
+module _ {X W : Type 0} (a : Added X) (o : Outside W) (it : Action) (body : RunState X) where
   -- it is noted that it runs
-  pub runs_acting : (mid new : Body X) (was is : W) (result : Result Stepped Stop) → mid ≡ record body { events = pushed body.events (event.Ran it) }
+  pub runs_acting : (mid new : RunState X) (was is : W) (result : Result Stepped Stop) → mid ≡ record body { events = pushed body.events (event.Ran it) }
       → Comes o (acting a it mid new) (ported was mid.events) (ported is new.events) result
       → Comes o (running_one a it body new) (ported was body.events) (ported is new.events) result
   runs_acting mid new was is result e =
-      subst (λ (m : Body X). Comes o (acting a it m new) (ported was m.events) (ported is new.events) result
+      subst (λ (m : RunState X). Comes o (acting a it m new) (ported was m.events) (ported is new.events) result
       → Comes o (running_one a it body new) (ported was body.events) (ported is new.events) result) (sym e) (λ acts.
       comes_goes o (running_one a it body new) [] (ported was body.events) (ported was noted_so.events) (λ c s. IsTaken it c noted_so s)
       (effect step_limit a.meaning it) (ported is new.events) result
@@ -225,11 +226,11 @@ module _ {X W : Type 0} (a : Added X) (o : Outside W) (it : Action) (body : Body
       )))
       acts)
     where
-      noted_so : Body X
+      noted_so : RunState X
       noted_so = record body { events = pushed body.events (event.Ran it) }
 
   -- it steps a task
-  pub acts_stepping : (task : ℕ) (input : Input) → StepsBy a it body (Some (task, input)) → (new : Body X) (was is : W) (result : Result Stepped Stop)
+  pub acts_stepping : (task : ℕ) (input : Input) → StepsBy a it body (Some (task, input)) → (new : RunState X) (was is : W) (result : Result Stepped Stop)
       → Comes o (stepping a task input body new) (ported was body.events) (ported is new.events) result
       → Comes o (acting a it body new) (ported was body.events) (ported is new.events) result
   acts_stepping task input steps new was is result stepped =
@@ -240,12 +241,12 @@ module _ {X W : Type 0} (a : Added X) (o : Outside W) (it : Action) (body : Body
       (λ c s h. (told_none body.events.events, (s, steps.1 c s h))))
       stepped
 
-  acting_begins : (c : Setting a) (s : State a.Kept) → IsTaken it c body s → WentBegins (c.past ++ body.events.events) (effect step_limit a.meaning it s)
+  acting_begins : (c : Context a) (s : State a.Kept) → IsTaken it c body s → WentBegins (c.past ++ body.events.events) (effect step_limit a.meaning it s)
   acting_begins c s h =
       row_begins (c.past ++ body.events.events) s (state_of (effect step_limit a.meaning it s)) (effect_row a.meaning it s) h.stands.events
 
   -- or none, and asks nothing
-  pub acts_alone : (new : Body X) (wire : W) (result : Result Stepped Memory) → IfOk result (λ said. Acts a it body new said)
+  pub acts_alone : (new : RunState X) (wire : W) (result : Result Stepped Memory) → IfOk result (λ said. Acts a it body new said)
       → IfOk result (λ said. said ≡ went.Goes)
       → Comes o (acting a it body new) (ported wire body.events) (ported wire new.events) (or_stop result)
   acts_alone new wire (Err memory) acts goes =
@@ -254,16 +255,16 @@ module _ {X W : Type 0} (a : Added X) (o : Outside W) (it : Action) (body : Body
       comes_alone o (acting a it body new) (ported wire body.events) (ported wire new.events) acting_begins (Ok said) refl (λ c s h. (
         told_going c body new s h.stands.events h.stands.rest (effect step_limit a.meaning it s) (effect_row a.meaning it s)
             (effect_goes step_limit a.meaning it s).asks
-            (subst (λ w. Steps c new w (effect step_limit a.meaning it s)) goes (acts c s h)),
+            (subst (λ w. TaskSteps c new w (effect step_limit a.meaning it s)) goes (acts c s h)),
         acts c s h,
       ))
 
   -- or memory was refused before it did anything
-  pub acts_without : (new : Body X) (wire : W) → Comes o (acting a it body new) (ported wire body.events) (ported wire new.events) (Err stop.Memory)
+  pub acts_without : (new : RunState X) (wire : W) → Comes o (acting a it body new) (ported wire body.events) (ported wire new.events) (Err stop.Memory)
   acts_without new wire = comes_without o (acting a it body new) (ported wire body.events) (ported wire new.events) acting_begins refl
 
   -- or it was noted that it runs
-  pub runs_without : (new : Body X) (wire : W) → Comes o (running_one a it body new) (ported wire body.events) (ported wire new.events) (Err stop.Memory)
+  pub runs_without : (new : RunState X) (wire : W) → Comes o (running_one a it body new) (ported wire body.events) (ported wire new.events) (Err stop.Memory)
   runs_without new wire =
       comes_without o (running_one a it body new) (ported wire body.events) (ported wire new.events) (λ c s h.
       goes_on_then (c.past ++ body.events.events) (s.events ++ event.Ran it ∷ []) _
@@ -272,7 +273,7 @@ module _ {X W : Type 0} (a : Added X) (o : Outside W) (it : Action) (body : Body
       (effect_row a.meaning it (noted (event.Ran it) s))).0) refl
 
 -- ---- the end of a sleep
-module _ {X : Type 0} {a : Added X} (task future : ℕ) (c : Setting a) (body : Body X) (s : State a.Kept)
+module _ {X : Type 0} {a : Added X} (task future : ℕ) (c : Context a) (body : RunState X) (s : State a.Kept)
     (h : IsTaken (action.SleepDone task future) c body s) where
   sleeps_plainly : is_plain s.loop.parts future ≡ true
   sleeps_plainly = subst (λ (t : State a.Kept). is_plain t.loop.parts future ≡ true) (sym h.after) plain
@@ -286,7 +287,7 @@ module _ {X : Type 0} {a : Added X} (task future : ℕ) (c : Setting a) (body : 
           omega (arith, a, b))
 
   pub sleeps_own : owner_at (slice_get body.parts.futures future) ≡ None
-  sleeps_own = owner_kept h.stands.ties body.parts s.loop.parts h.stands.keeps future (plain_within s.loop.parts future sleeps_plainly).0
+  sleeps_own = owner_kept h.stands.name_map body.parts s.loop.parts h.stands.keeps future (plain_within s.loop.parts future sleeps_plainly).0
 
   pub sleep_over : (v : View)
       → v ≡ record body.parts {
@@ -300,7 +301,7 @@ module _ {X : Type 0} {a : Added X} (task future : ℕ) (c : Setting a) (body : 
           futures = settled.settled future (Returned Nothing) body.parts.futures;
           queue = soon_all (called future body.parts.futures) body.parts.queue;
         }) (in_parts (settle future (Returned Nothing))) h.stands
-        (kept_settle h.stands.ties body.parts s.loop.parts h.stands.keeps future (Returned Nothing))
+        (kept_settle h.stands.name_map body.parts s.loop.parts h.stands.keeps future (Returned Nothing))
         (leaves_settle future (Returned Nothing) s.loop.parts (plain_within s.loop.parts future sleeps_plainly).0)
         (spares_none s.loop.parts (named_in a s)) (refl, refl) (ap length (below_soon_all (called future body.parts.futures) body.parts.queue))
         refl;
@@ -309,16 +310,16 @@ module _ {X : Type 0} {a : Added X} (task future : ℕ) (c : Setting a) (body : 
   })
 
 module _ {X : Type 0} {a : Added X} where
-  pub sleep_idle : (task future : ℕ) (body : Body X) → Possible a (IsTaken (action.SleepDone task future)) body → body.parts.called ≡ None
+  pub sleep_idle : (task future : ℕ) (body : RunState X) → Possible a (IsTaken (action.SleepDone task future)) body → body.parts.called ≡ None
   sleep_idle task future body m = ∥∥₁_elim m (same_prop body.parts.called None) (λ w. w.1.1.called)
 
-  pub sleep_free : (task future : ℕ) (body : Body X) → Possible a (IsTaken (action.SleepDone task future)) body
+  pub sleep_free : (task future : ℕ) (body : RunState X) → Possible a (IsTaken (action.SleepDone task future)) body
       → owner_at (slice_get body.parts.futures future) ≡ None
   sleep_free task future body m =
       ∥∥₁_elim m (same_prop (owner_at (slice_get body.parts.futures future)) None)
       (λ w. sleeps_own task future w.0 body w.1.0 w.1.1)
 
-  pub sleep_acts : (task future : ℕ) (old : Body X) (v : View)
+  pub sleep_acts : (task future : ℕ) (old : RunState X) (v : View)
       → v ≡ record old.parts {
         futures = settled.settled future (Returned Nothing) old.parts.futures;
         queue = soon_all (called future old.parts.futures) old.parts.queue;
@@ -330,27 +331,27 @@ module _ {X : Type 0} {a : Added X} where
       (sleep_over task future c old s h v is)
 
   -- ---- groups and timeouts
-  pub group_acts : (group task : ℕ) (old new : Body X)
-      → ((c : Setting a) (s : State a.Kept) → IsTaken (action.GroupDone group task) c old s → IsAfterCallback c new (in_loop (child_done group task) s))
+  pub group_acts : (group task : ℕ) (old new : RunState X)
+      → ((c : Context a) (s : State a.Kept) → IsTaken (action.GroupDone group task) c old s → IsAfterCallback c new (in_loop (child_done group task) s))
       → Acts a (action.GroupDone group task) old new went.Goes
   unfolding effect
   group_acts group task old new does c s h =
       after_so (action.GroupDone group task) c old s h new (in_loop (child_done group task) s) refl (does c s h)
 
-  pub fire_acts : (timeout : ℕ) (old new : Body X)
-      → ((c : Setting a) (s : State a.Kept) → IsTaken (action.Fires timeout) c old s → IsAfterCallback c new (in_loop (fire timeout) s))
+  pub fire_acts : (timeout : ℕ) (old new : RunState X)
+      → ((c : Context a) (s : State a.Kept) → IsTaken (action.Fires timeout) c old s → IsAfterCallback c new (in_loop (fire timeout) s))
       → Acts a (action.Fires timeout) old new went.Goes
   unfolding effect
   fire_acts timeout old new does c s h = after_so (action.Fires timeout) c old s h new (in_loop (fire timeout) s) refl (does c s h)
 
   -- ---- main's callback
-  pub main_acts : (old : Body X) → Acts a action.MainDone old (record old { main_done = true }) went.Goes
+  pub main_acts : (old : RunState X) → Acts a action.MainDone old (record old { main_done = true }) went.Goes
   unfolding effect
   main_acts old c s h =
       after_so action.MainDone c old s h (record old { main_done = true }) (record s { main_done = true }) refl
       (record { stands = stands_main c old s h.stands; called = h.called; running = h.running })
     where
-      stands_main : (c : Setting a) (old : Body X) (s : State a.Kept) → Stands None c old s
+      stands_main : (c : Context a) (old : RunState X) (s : State a.Kept) → Stands None c old s
           → Stands None c (record old { main_done = true }) (record s { main_done = true })
       stands_main c old s h =
           telling_changes None c c old (record old { main_done = true }) s (record s { main_done = true }) h refl refl refl (record {
@@ -364,43 +365,49 @@ module _ {X : Type 0} {a : Added X} where
           })
 
   -- a handle that was taken may do what it does
-  pub may_act : (it : Action) (body : Body X) (events : EventList) → events ≡ pushed body.events (event.Ran it)
+  pub may_act : (it : Action) (body : RunState X) (events : EventList) → events ≡ pushed body.events (event.Ran it)
       → Possible a (IsNext it) body → Possible a (IsTaken it) (record body { events = events })
   may_act it body events e m = ∥∥₁_map m (λ w. (w.0, (noted (event.Ran it) w.1.0, taken_so it w.0 body w.1.0 events e w.1.1)))
 
 -- what is added heard this news
-abbrev pub HearsNews : {X : Type 0} → (a : Added X) → (old : Body X) (v : View) (x : X) (number : ℤ) (bytes : List ℕ) → Type 0
+abbrev pub HearsNews : {X : Type 0} → (a : Added X) → (old : RunState X) (v : View) (x : X) (number : ℤ) (bytes : List ℕ) → Type 0
 HearsNews a old v x number bytes =
-    (t : Ties) (s : State a.Kept) → IsServed a None t s old.extra old.parts → CallsAs a t s old.parts v x (a.meaning.item number bytes s)
+    (t : NameMap) (s : State a.Kept) → IsServed a None t s old.extra old.parts → CallsAs a t s old.parts v x (a.meaning.item number bytes s)
 
 module _ {X : Type 0} {a : Added X} where
   -- ---- handles of what is added, and news for it
-  idle_served : (it : Action) (body : Body X) → is_followed it ≡ false → ((id : ℕ) → fires id it ≡ false) → ((group : ℕ) → told_by group it [] ≡ [])
+  idle_served : (it : Action) (body : RunState X) → is_followed it ≡ false → ((id : ℕ) → fires id it ≡ false) → ((group : ℕ) → told_by group it [] ≡ [])
       → stepped it ≡ None → Possible a (IsTaken it) body → MayServe a None body.extra body.parts
   idle_served it body unfollowed no_fire none idle m =
       ∥∥₁_map m (λ w.
-      let h = w.1.1 in
-      (h.stands.ties, (w.1.0, served_of None None w.0 body w.1.0 h.stands (h.called ∙ idle) h.running (idle_so it w.0 body w.1.0 h unfollowed no_fire none))))
+      let h = w.1.1 in (
+        h.stands.name_map,
+        (
+          w.1.0,
+          served_of None None w.0 body w.1.0 h.stands (h.called ∙ idle) h.running
+              (idle_so it w.0 body w.1.0 h unfollowed no_fire none),
+        ),
+      ))
 
   -- a call of it that steps no task
-  module _ (it : Action) (c : Setting a) (old : Body X) (s : State a.Kept) (h : IsTaken it c old s) (sound : HasSoundLoop s) (idle : stepped it ≡ None)
+  module _ (it : Action) (c : Context a) (old : RunState X) (s : State a.Kept) (h : IsTaken it c old s) (sound : HasSoundLoop s) (idle : stepped it ≡ None)
       (call : ExtraCall a.Kept) (may : AreAllowed call.steps s.loop) (does : effect step_limit a.meaning it s ≡ Goes (called_after call s)) (v : View)
       (x : X) where
-    calls_so : ((t : Ties) (now : State a.Kept) → IsServed a None t now old.extra old.parts → now ≡ s → CallsAs a t s old.parts v x call)
-        → Steps c (record old { parts = v; extra = x }) went.Goes (effect step_limit a.meaning it s)
+    calls_so : ((t : NameMap) (now : State a.Kept) → IsServed a None t now old.extra old.parts → now ≡ s → CallsAs a t s old.parts v x call)
+        → TaskSteps c (record old { parts = v; extra = x }) went.Goes (effect step_limit a.meaning it s)
     calls_so calls =
-        let r = calls h.stands.ties s (served_of None None c old s h.stands (h.called ∙ idle) h.running sound) refl in
+        let r = calls h.stands.name_map s (served_of None None c old s h.stands (h.called ∙ idle) h.running sound) refl in
         after_so it c old s h (record old { parts = v; extra = x }) (called_after call s) does (record {
           stands = stands_called None None c old s v x call h.stands may sound r;
           called = r.called ∙ h.called ∙ idle;
           running = r.running ∙ h.running;
         })
 
-  pub extra_serves : (key : ℕ) (body : Body X) → Possible a (IsTaken (action.Extra key)) body → MayServe a None body.extra body.parts
+  pub extra_serves : (key : ℕ) (body : RunState X) → Possible a (IsTaken (action.Extra key)) body → MayServe a None body.extra body.parts
   extra_serves key body m = idle_served (action.Extra key) body refl (λ id. refl) (λ g. refl) refl m
 
-  pub extra_acts : (key : ℕ) (old : Body X) (v : View) (x : X)
-      → ((t : Ties) (s : State a.Kept) → IsServed a None t s old.extra old.parts → CallsAs a t s old.parts v x (a.meaning.act key s))
+  pub extra_acts : (key : ℕ) (old : RunState X) (v : View) (x : X)
+      → ((t : NameMap) (s : State a.Kept) → IsServed a None t s old.extra old.parts → CallsAs a t s old.parts v x (a.meaning.act key s))
       → Acts a (action.Extra key) old (record old { parts = v; extra = x }) went.Goes
   unfolding effect
   extra_acts key old v x does c s h =
@@ -408,11 +415,11 @@ module _ {X : Type 0} {a : Added X} where
       calls_so (action.Extra key) c old s h sound refl (a.meaning.act key s) (a.allowed.act key s sound) refl v x
       (λ t now served same. does t s (subst (λ n. IsServed a None t n old.extra old.parts) same served))
 
-  pub item_serves : (number : ℤ) (bytes : List ℕ) (body : Body X) → Possible a (IsTaken (action.ExtraItem number bytes)) body
+  pub item_serves : (number : ℤ) (bytes : List ℕ) (body : RunState X) → Possible a (IsTaken (action.ExtraItem number bytes)) body
       → MayServe a None body.extra body.parts
   item_serves number bytes body m = idle_served (action.ExtraItem number bytes) body refl (λ id. refl) (λ g. refl) refl m
 
-  pub item_acts : (number : ℤ) (bytes : List ℕ) (old : Body X) (v : View) (x : X)
+  pub item_acts : (number : ℤ) (bytes : List ℕ) (old : RunState X) (v : View) (x : X)
       → HearsNews a old v x number bytes → Acts a (action.ExtraItem number bytes) old (record old { parts = v; extra = x }) went.Goes
   unfolding effect
   item_acts number bytes old v x does c s h =
@@ -421,11 +428,11 @@ module _ {X : Type 0} {a : Added X} where
       (λ t now served same. does t s (subst (λ n. IsServed a None t n old.extra old.parts) same served))
 
 -- ---- callbacks of listeners, connections and children
-module _ {X : Type 0} {a : Added X} (it : Action) (old new : Body X) where
+module _ {X : Type 0} {a : Added X} (it : Action) (old new : RunState X) where
   -- one that goes on leaves a sound state
-  goes_so : (d c : Setting a) (s : State a.Kept) (h : IsTaken it d old s) (w : Went a.Kept)
-      → effect step_limit a.meaning it s ≡ w → GoesOn c new w
-      → Steps c new went.Goes w
+  goes_so : (d c : Context a) (s : State a.Kept) (h : IsTaken it d old s) (w : Went a.Kept)
+      → effect step_limit a.meaning it s ≡ w → CallbackGoesOn c new w
+      → TaskSteps c new went.Goes w
   goes_so d c s h (Goes now) e goes =
       record {
         stands = goes.stands;
@@ -435,7 +442,7 @@ module _ {X : Type 0} {a : Added X} (it : Action) (old new : Body X) where
       }
   goes_so d c s h (Stops how last) e goes = absurd goes
 
-module _ {X W : Type 0} (a : Added X) (o : Outside W) (it : Action) (body new : Body X) where
+module _ {X W : Type 0} (a : Added X) (o : Outside W) (it : Action) (body new : RunState X) where
   -- one that may ask
   pub acts_streaming : {R : Type 0} (was is : W) (result : Result R Stop)
       → Comes o (streaming.acting a it body new) (ported was body.events) (ported is new.events) result

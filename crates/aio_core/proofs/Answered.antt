@@ -11,9 +11,9 @@ use Rattle.aio_wire.specs.declared.stop.Stop.{Stop}
 use Rattle.aio_exchange.proofs.OneAsk.{asks_one}
 use Rattle.aio_exchange.specs.Exchanged.{AsksOne}
 use Rattle.aio_extra.specs.Added.{Added}
-use Rattle.aio_body.specs.declared.body.Body.{Body}
+use Rattle.aio_body.specs.declared.run_state.RunState.{RunState}
 use Rattle.aio_body.specs.Asking.{Comes}
-use Rattle.aio_body.specs.Stands.{IsBetween, Possible, Setting}
+use Rattle.aio_body.specs.Stands.{IsBetween, Possible, Context}
 use Rattle.aio_core.specs.declared.went.Went as code
 use Rattle.aio_core.specs.Watched.{StandsOn}
 use Rattle.aio_core.specs.Turning.{IsSelect, IsTime, StallsAs, TurnMade, resting, said_by, turning, turning_by}
@@ -23,17 +23,17 @@ use Rattle.aio_core.proofs.Caused.{caused_in}
 use Rattle.aio_core.proofs.Coming.{comes_to, still_so}
 use Rattle.aio_core.proofs.Waking.{fits_time}
 
-module _ {X W : Type 0} {a : Added X} (o : Outside W) (old held : Body X) (on : StandsOn a old held) where
+module _ {X W : Type 0} {a : Added X} (o : Outside W) (old held : RunState X) (on : StandsOn a old held) where
   -- nothing was told as the watch list was made
   pub asked_on : (call : Call) (was is : W) (new : EventList) (result : Result Answer Stop)
       → PortAsked o call (ported was held.events) (ported is new) result → PortAsked o call (ported was old.events) (ported is new) result
   asked_on call was is new result asked = subst (λ es. PortAsked o call (ported was es) (ported is new) result) on.events asked
 
-module _ {X W : Type 0} (a : Added X) (o : Outside W) (old : Body X) (call : Call)
-    (is : (c : Setting a) (s : State a.Kept) → IsBetween c old s → call ≡ call_of a.meaning s)
-    (goes : (c : Setting a) (s : State a.Kept) → IsBetween c old s → false ≡ is_stalled a.meaning s)
-    (held : Body X) (on : StandsOn a old held) (answer : Answer) (mid : Body X)
-    (beside : mid ≡ record held { events = mid.events }) (was at : W)
+module _ {X W : Type 0} (a : Added X) (o : Outside W) (old : RunState X) (call : Call)
+    (is : (c : Context a) (s : State a.Kept) → IsBetween c old s → call ≡ call_of a.meaning s)
+    (goes : (c : Context a) (s : State a.Kept) → IsBetween c old s → false ≡ is_stalled a.meaning s)
+    (held : RunState X) (on : StandsOn a old held) (answer : Answer) (mid : RunState X)
+    (frame : mid ≡ record held { events = mid.events }) (was at : W)
     (asked : PortAsked o call (ported was held.events) (ported at mid.events) (Ok answer)) where
   asks : PortAsked o call (ported was old.events) (ported at mid.events) (Ok answer)
   asks = asked_on o old held on call was at mid.events (Ok answer) asked
@@ -46,18 +46,18 @@ module _ {X W : Type 0} (a : Added X) (o : Outside W) (old : Body X) (call : Cal
 
   -- what the rest of the turn may rely on
   pub alive_then : Possible a IsBetween old → Possible a IsBetween mid
-  alive_then alive = subst (Possible a IsBetween) (sym beside) (got_alive old call is goes held on answer mid.events got.is_noted
+  alive_then alive = subst (Possible a IsBetween) (sym frame) (got_alive old call is goes held on answer mid.events got.is_noted
       alive)
 
   pub time_then : IsSelect call → IsTime answer
   time_then shape = fits_time shape.0 shape.1.0 answer (subst (λ k. fits k answer ≡ true) shape.1.1 got.is_fit)
 
   -- what it comes to then
-  module _ (new : Body X) (last : W) (result : Result code.Went Stop)
+  module _ (new : RunState X) (last : W) (result : Result code.Went Stop)
       (turns : Comes o (turning_by a answer mid new) (ported at mid.events) (ported last new.events) result) where
     beside_so : Comes o (turning_by a answer (record held { events = mid.events }) new) (ported at mid.events)
         (ported last new.events) result
-    beside_so = subst (λ (m : Body X). Comes o (turning_by a answer m new) (ported at mid.events) (ported last new.events) result) beside turns
+    beside_so = subst (λ (m : RunState X). Comes o (turning_by a answer m new) (ported at mid.events) (ported last new.events) result) frame turns
 
     whole : Comes o (turning a old new) (ported was old.events) (ported last new.events) result
     whole = answered_so old call is goes held on o was at answer mid.events one new last result beside_so
@@ -74,7 +74,7 @@ module _ {X W : Type 0} (a : Added X) (o : Outside W) (old : Body X) (call : Cal
           alive = it.1.1;
           fails = λ fails. absurd (failing_answered call answer (asks.fails fails));
           keeps = o.keeps_on was at last asks.keeps turns.exchanged.keeps;
-          quiet = still_so a o old new was last (o.quiet was last) result whole whole.exchanged.still;
+          quiet = still_so a o old new was last (o.quiet was last) result whole whole.exchanged.unchanged;
           stays =
               let first = asks.stays in
               let then_ = turns.exchanged.stays in

@@ -29,9 +29,9 @@ use Rattle.aio_exchange.specs.Among.{AreTold, ExchangedOn, asks_among, told_by, 
 use Rattle.aio_exchange.specs.Exchanged.{Exchange, IsOneMore, Last, All, Met, Starved, StopsAs}
 use Rattle.aio_exchange.specs.Exchanged.{answers_of, asked_by, bytes_last, bytes_to, called_last, calls_of, entries_of, handed_to}
 use Rattle.aio_extra.specs.Added.{Added}
-use Rattle.aio_body.specs.declared.body.Body.{Body}
-use Rattle.aio_body.specs.Asking.{Comes, ComesBy, GoesOn, RestFits, StopsWith, before}
-use Rattle.aio_body.specs.Stands.{Setting, IsBetween}
+use Rattle.aio_body.specs.declared.run_state.RunState.{RunState}
+use Rattle.aio_body.specs.Asking.{Comes, ComesBy, EventsGrow, RestFits, StopsWith, before}
+use Rattle.aio_body.specs.Stands.{Context, IsBetween}
 use Rattle.aio_body.proofs.Answering.{between_again}
 use Rattle.aio_body.specs.Answers.{with_answers}
 use Rattle.aio_core.specs.declared.went.Went as code
@@ -149,7 +149,7 @@ met_other call reply.Over count why is e = cc (sym (ap went.Stopped is) ∙ e)
 met_other call (reply.Bad fault) count why is e = cc (sym (ap went.Stopped is) ∙ e)
 met_other call reply.Failed count why is e = cc (sym (ap went.Stopped is) ∙ e)
 
-none_starves : {X : Type 0} {a : Added X} (c : Setting a) (new : Body X) (said : code.Went) (w : Went a.Kept) → Turned c new said w
+none_starves : {X : Type 0} {a : Added X} (c : Context a) (new : RunState X) (said : code.Went) (w : Went a.Kept) → Turned c new said w
     → said ≡ went.Stopped stop.Memory → ⊥
 none_starves c new said (Goes now) t is = subst (λ s. Turned c new s (Goes now)) is t
 none_starves c new said (Stops how last) t is = subst (λ s. Turned c new s (Stops how last)) is t
@@ -174,12 +174,12 @@ stop_asks call old new before after result why e (inr short) =
     err_same a b e = cc
 
 -- ---- memory was refused in the select, or before it
-module _ {X : Type 0} (a : Added X) (old : Body X) where
+module _ {X : Type 0} (a : Added X) (old : RunState X) where
   -- the machine's turn begins with what was told before it
   grown : (past : List Event) (rest : List Entry) (s : State a.Kept) → IsAtRest a past rest old s
-      → GoesOn (past ++ (old.events.events ++ [])) (state_of (turn step_limit a.meaning s)).events
+      → EventsGrow (past ++ (old.events.events ++ [])) (state_of (turn step_limit a.meaning s)).events
   grown past rest s r =
-      subst (λ es. GoesOn es (state_of (turn step_limit a.meaning s)).events)
+      subst (λ es. EventsGrow es (state_of (turn step_limit a.meaning s)).events)
       (r.1.stands.events ∙ ap (λ es. past ++ es) (sym (append-nil old.events.events))) (turn-grows step_limit a.meaning s)
 
   -- where one call was asked at most
@@ -223,7 +223,7 @@ module _ {X : Type 0} (a : Added X) (old : Body X) where
   stop_starves call events wire result (stop.Failed other) e asks = tt
 
 -- ---- a turn, by what it comes to
-module _ {X W : Type 0} (a : Added X) (o : Outside W) (old new : Body X) (was is : W) where
+module _ {X W : Type 0} (a : Added X) (o : Outside W) (old new : RunState X) (was is : W) where
   -- a state that has these answers left
   pub there : (had : List Exchange) (past : List Event) (answers rest : List Entry) (s : State a.Kept) → (r : IsAtRest a past answers old s)
       → IsBetween (before had (resting a past rest r.0)) old (with_answers (entries_of had ++ rest) s)
@@ -237,8 +237,8 @@ module _ {X W : Type 0} (a : Added X) (o : Outside W) (old new : Body X) (was is
   -- where memory was refused
   abbrev GoesBy : List Exchange → List Event → Type 0
   GoesBy had mid =
-      (c : Setting a) (s : State a.Kept) → IsBetween (before had c) old s
-      → AreTold had All old.events.events mid × GoesOn (c.past ++ mid) (state_of (turn step_limit a.meaning s)).events
+      (c : Context a) (s : State a.Kept) → IsBetween (before had c) old s
+      → AreTold had All old.events.events mid × EventsGrow (c.past ++ mid) (state_of (turn step_limit a.meaning s)).events
 
   starved_by : (had : List Exchange) → ExchangedOn o had Starved was is → (mid : List Event) → GoesBy had mid
       → (past : List Event) (answers : List Entry) (s : State a.Kept) → IsAtRest a past answers old s
@@ -262,7 +262,7 @@ module _ {X W : Type 0} (a : Added X) (o : Outside W) (old new : Body X) (was is
         );
         first = told.more;
         begins = λ before_ rest t b.
-            subst (λ es. GoesOn (before_ ++ es) (state_of (turn step_limit a.meaning t)).events) told.adds
+            subst (λ es. EventsGrow (before_ ++ es) (state_of (turn step_limit a.meaning t)).events) told.adds
             (goes (resting a before_ rest b.0) t
             (subst (λ es. IsBetween (resting a before_ (es ++ rest) b.0) old t) (sym (entries_map (it ∷ had))) b.1)).1;
         more = exchanged.besides.more;
@@ -276,7 +276,7 @@ module _ {X W : Type 0} (a : Added X) (o : Outside W) (old new : Body X) (was is
     -- from a state that has what was had, and then these
     abbrev StopsThere : Last → Stop → Type 0
     StopsThere last why =
-        (c : Setting a) (t : State a.Kept) → IsBetween (before h.had c) old t → RestFits last c.answers
+        (c : Context a) (t : State a.Kept) → IsBetween (before h.had c) old t → RestFits last c.answers
         → AreTold h.had last old.events.events new.events.events × StopsWith Stops why c.past new.events.events (turn step_limit a.meaning t)
 
     told_stop : (last : Last) (why : Stop) (rest : List Entry) → RestFits last rest → StopsThere last why

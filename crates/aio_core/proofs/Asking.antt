@@ -32,8 +32,8 @@ use Rattle.aio_wire.specs.declared.wire.JournalFault.{JournalFault}
 use Rattle.aio_wire.specs.declared.wire.Reply.{Reply}
 use Rattle.aio_wire.specs.declared.wire.Reply.TheVariants as reply
 use Rattle.aio_extra.specs.Added.{Added}
-use Rattle.aio_body.specs.declared.body.Body.{Body}
-use Rattle.aio_body.specs.Stands.{Setting, IsBetween, Possible}
+use Rattle.aio_body.specs.declared.run_state.RunState.{RunState}
+use Rattle.aio_body.specs.Stands.{Context, IsBetween, Possible}
 use Rattle.aio_body.proofs.Answering.{stands_again}
 use Rattle.aio_body.proofs.Noting.{counted, stands_noted}
 use Rattle.aio_core.specs.declared.went.Went as code
@@ -61,10 +61,10 @@ abbrev pub got_at : {S : Type 0} → Call → Answer → List Entry → State S 
 got_at call answer rest s = noted (event.Got answer) (record (called_at call s) { answers = rest })
 
 -- ---- of a turn that isn't stalled, by its call
-module _ {X : Type 0} {a : Added X} (old : Body X) (call : Call)
-    (is : (c : Setting a) (s : State a.Kept) → IsBetween c old s → call ≡ call_of a.meaning s)
-    (goes : (c : Setting a) (s : State a.Kept) → IsBetween c old s → false ≡ is_stalled a.meaning s) where
-  turned_as : (c : Setting a) (s : State a.Kept) → IsBetween c old s → (answers : List Entry) → s.answers ≡ answers
+module _ {X : Type 0} {a : Added X} (old : RunState X) (call : Call)
+    (is : (c : Context a) (s : State a.Kept) → IsBetween c old s → call ≡ call_of a.meaning s)
+    (goes : (c : Context a) (s : State a.Kept) → IsBetween c old s → false ≡ is_stalled a.meaning s) where
+  turned_as : (c : Context a) (s : State a.Kept) → IsBetween c old s → (answers : List Entry) → s.answers ≡ answers
       → turn step_limit a.meaning s ≡ answered_by answers call (turned_by step_limit a.meaning) (called_at call s)
   turned_as c s h answers e =
       turn_asks a.meaning s (sym (goes c s h)) ∙ ap (λ it. ask it (turned_by step_limit a.meaning) s) (sym (is c s h))
@@ -216,13 +216,13 @@ module _ {X : Type 0} {a : Added X} (old : Body X) (call : Call)
       at reply.Failed x replied = absurd (let y = sym x.1 ∙ e in cc)
 
   -- what is stood for then, where all this was stood for as the watch list was made
-  module _ (held : Body X) (on : StandsOn a old held) where
+  module _ (held : RunState X) (on : StandsOn a old held) where
     held_notes : (it : Event) → pushed old.events it ≡ pushed held.events it
     held_notes it = ap (λ (l : EventList). pushed l it) (sym on.events)
 
     pub got_between : (answer : Answer) (events : EventList) → events ≡ pushed (pushed old.events (event.Called call))
         (event.Got answer)
-        → (c : Setting a) (s : State a.Kept) (rest : List Entry) → IsBetween c old s
+        → (c : Context a) (s : State a.Kept) (rest : List Entry) → IsBetween c old s
         → IsBetween (record c { answers = rest }) (record held { events = events }) (got_at call answer rest s)
     got_between answer events e c s rest before_ =
         let h = on.between c s before_ in record {
@@ -256,7 +256,7 @@ module _ {X : Type 0} {a : Added X} (old : Body X) (call : Call)
       abbrev asked : List Exchange
       asked = record { call = call; answer = answer } ∷ []
 
-      pub answered_so : (new : Body X) (is : W) (result : Result code.Went Stop)
+      pub answered_so : (new : RunState X) (is : W) (result : Result code.Went Stop)
           → Comes o (turning_by a answer (record held { events = events }) new) (ported mid events) (ported is new.events) result
           → Comes o (turning a old new) (ported was old.events) (ported is new.events) result
       answered_so new is result turns =
@@ -281,7 +281,7 @@ module _ {X : Type 0} {a : Added X} (old : Body X) (call : Call)
 
 module _ {X : Type 0} {a : Added X} where
   -- ---- a turn that is stalled
-  pub stalls_so : (old : Body X) (seen : WireSeen) → ((c : Setting a) (s : State a.Kept) → IsBetween c old s → true ≡ is_stalled a.meaning s)
+  pub stalls_so : (old : RunState X) (seen : WireSeen) → ((c : Context a) (s : State a.Kept) → IsBetween c old s → true ≡ is_stalled a.meaning s)
       → ComesTo a.meaning seen seen (changed_by a old old) went.Stalled
   stalls_so old seen is = (
     refl,

@@ -17,10 +17,10 @@ use Rattle.model_machine.specs.Turn.{effect, next_below, ran, run_below, run_if}
 use Rattle.model_machine.specs.Went.{Goes, went_on}
 use Rattle.aio_ready.specs.Queue as queue
 use Rattle.aio_task.specs.View.{View, stepped_at}
-use Rattle.aio_task.specs.Keeps.{Ties, Keeps, Kept}
+use Rattle.aio_task.specs.Keeps.{NameMap, Keeps, Kept}
 use Rattle.aio_extra.specs.Added.{Added, named_in}
-use Rattle.aio_body.specs.declared.body.Body.{Body}
-use Rattle.aio_body.specs.Stands.{Setting, IsBetween}
+use Rattle.aio_body.specs.declared.run_state.RunState.{RunState}
+use Rattle.aio_body.specs.Stands.{Context, IsBetween}
 use Rattle.aio_body.specs.Taken.{IsNext}
 use Rattle.refine_parts.specs.Runs.{IsPastBar, Runs, Skips}
 use Rattle.refine_parts.proofs.Running.{count_early}
@@ -106,17 +106,17 @@ count_dead bar (h ∷ dead) left are =
 pub pending_leaves : (p : Parts) (handles : List Handle) → Leaves None p (record p { pending = handles })
 pending_leaves p handles = leaves_handles p (record p { pending = handles }) refl refl refl
 
-pub pending_kept : (t : Ties) (v : View) (p : Parts) (handles : List Handle) → Keeps t v (record p { pending = handles })
+pub pending_kept : (t : NameMap) (v : View) (p : Parts) (handles : List Handle) → Keeps t v (record p { pending = handles })
     → Kept t p v (record p { pending = handles })
 pending_kept t v p handles k = record {
-  ties = t;
+  name_map = t;
   keeps = k;
   extends = record { known = λ tag below. refl; tags = omega arith; gone = refl; bar = refl };
 }
 
 module _ {X : Type 0} {a : Added X} where
   -- after a call of `next_below` that gave an action
-  pub record IsRunning (action : Action) (c : Setting a) (body : Body X) (w : View) (s : State a.Kept) : Type 0 where
+  pub record IsRunning (action : Action) (c : Context a) (body : RunState X) (w : View) (s : State a.Kept) : Type 0 where
     pub now : State a.Kept
     pub next : IsNext action (record c { left = length w.queue.below }) (record body { parts = w }) now
     pub goes : run_below step_limit a.meaning c.bar c.left s
@@ -127,13 +127,13 @@ abbrev pub left_by : View → View
 left_by v = record v { queue = queue.taken v.queue; called = stepped_at (queue.next_action v.queue) }
 
 module _ {X : Type 0} {a : Added X} where
-  pub next_runs : (c : Setting a) (body : Body X) (s : State a.Kept) (w : View) (action : Action) → (h : IsBetween c body s)
-      → (skips : Skips h.stands.ties w s.loop.parts (Some action)) → w ≡ left_by body.parts → queue.next_action body.parts.queue ≡ Some action
+  pub next_runs : (c : Context a) (body : RunState X) (s : State a.Kept) (w : View) (action : Action) → (h : IsBetween c body s)
+      → (skips : Skips h.stands.name_map w s.loop.parts (Some action)) → w ≡ left_by body.parts → queue.next_action body.parts.queue ≡ Some action
       → IsRunning action c body w s
   next_runs c body s w action h skips is next = at skips.left skips.pending skips.runs
     where
-      t : Ties
-      t = h.stands.ties
+      t : NameMap
+      t = h.stands.name_map
 
       p : Parts
       p = s.loop.parts
@@ -182,13 +182,13 @@ module _ {X : Type 0} {a : Added X} where
               omega (arith, all, dead, rest, more, one, few)
 
   -- where it gave none, none is left
-  pub record IsAtBar (c : Setting a) (body : Body X) (w : View) (s : State a.Kept) : Type 0 where
+  pub record IsAtBar (c : Context a) (body : RunState X) (w : View) (s : State a.Kept) : Type 0 where
     pub now : State a.Kept
     pub between : IsBetween (record c { left = length w.queue.below }) (record body { parts = w }) now
     pub goes : run_below step_limit a.meaning c.bar c.left s ≡ Goes now
 
-  pub next_none : (c : Setting a) (body : Body X) (s : State a.Kept) (w : View) → (h : IsBetween c body s)
-      → (skips : Skips h.stands.ties w s.loop.parts None) → w ≡ left_by body.parts → queue.next_action body.parts.queue ≡ None
+  pub next_none : (c : Context a) (body : RunState X) (s : State a.Kept) (w : View) → (h : IsBetween c body s)
+      → (skips : Skips h.stands.name_map w s.loop.parts None) → w ≡ left_by body.parts → queue.next_action body.parts.queue ≡ None
       → IsAtBar c body w s
   next_none c body s w h skips is next = record {
     now = with_pending skips.left s;
@@ -207,8 +207,8 @@ module _ {X : Type 0} {a : Added X} where
         ∙ none_left a.meaning t.bar (length w.queue.below) (with_pending skips.left s) skips.runs.0);
   }
     where
-      t : Ties
-      t = h.stands.ties
+      t : NameMap
+      t = h.stands.name_map
 
       p : Parts
       p = s.loop.parts
@@ -222,9 +222,9 @@ module _ {X : Type 0} {a : Added X} where
           omega (arith, all, dead, rest, few)
 
   -- what the parts beneath say of this call
-  pub skipped : (c : Setting a) (body : Body X) (s : State a.Kept) (w : View) (next : Option Action) → (h : IsBetween c body s)
-      → w ≡ left_by body.parts → queue.next_action body.parts.queue ≡ next → Skips h.stands.ties w s.loop.parts next
+  pub skipped : (c : Context a) (body : RunState X) (s : State a.Kept) (w : View) (next : Option Action) → (h : IsBetween c body s)
+      → w ≡ left_by body.parts → queue.next_action body.parts.queue ≡ next → Skips h.stands.name_map w s.loop.parts next
   skipped c body s w next h is same =
-      subst (λ n. Skips h.stands.ties w s.loop.parts n) same
-      (subst (λ x. Skips h.stands.ties x s.loop.parts (queue.next_action body.parts.queue)) (sym is)
-      (keeps_next h.stands.ties body.parts s.loop.parts (stepped_at (queue.next_action body.parts.queue)) h.stands.keeps))
+      subst (λ n. Skips h.stands.name_map w s.loop.parts n) same
+      (subst (λ x. Skips h.stands.name_map x s.loop.parts (queue.next_action body.parts.queue)) (sym is)
+      (keeps_next h.stands.name_map body.parts s.loop.parts (stepped_at (queue.next_action body.parts.queue)) h.stands.keeps))

@@ -19,9 +19,9 @@ use Rattle.aio_wire.specs.declared.wire.Reply.{Reply}
 use Rattle.aio_wire.specs.declared.wire.Reply.TheVariants as reply
 use Rattle.aio_exchange.specs.Exchanged.{EndsSo, Exchange, IsFitting, Last, All, Met, Starved, StopsAs, entries_of}
 use Rattle.aio_extra.specs.Added.{Added}
-use Rattle.aio_body.specs.declared.body.Body.{Body}
+use Rattle.aio_body.specs.declared.run_state.RunState.{RunState}
 use Rattle.aio_body.specs.Asking.{Comes, ComesBy}
-use Rattle.aio_body.specs.Stands.{Setting}
+use Rattle.aio_body.specs.Stands.{Context}
 use Rattle.aio_body.specs.Answers.{with_answers}
 use Rattle.aio_core.specs.declared.went.Went as code
 use Rattle.aio_core.specs.declared.went.Went.TheVariants as went
@@ -45,7 +45,7 @@ module _ (before after : WireSeen) where
   met_caused call reply.Failed count why is ends fits = subst Causes (sym is) tt
 
   -- a turn that went on, or ended otherwise
-  turned_caused : {X : Type 0} {a : Added X} (c : Setting a) (new : Body X) (said : code.Went) (w : Went a.Kept) → Turned c new said w
+  turned_caused : {X : Type 0} {a : Added X} (c : Context a) (new : RunState X) (said : code.Went) (w : Went a.Kept) → Turned c new said w
       → HasCause before after said
   turned_caused c new went.Went w t = tt
   turned_caused c new (went.Finished outcome) w t = tt
@@ -82,7 +82,7 @@ select_caused call old new before after result why e (inl (said, exchanged, repl
     at reply.Failed r replied = subst (Causes before after) (err_same (stop.Failed call) why (sym r ∙ e)) tt
 
 -- ---- a turn, by what it comes to
-module _ {X W : Type 0} (a : Added X) (o : Outside W) (old new : Body X) (was is : W) where
+module _ {X W : Type 0} (a : Added X) (o : Outside W) (old new : RunState X) (was is : W) where
   pub caused_in : (result : Result code.Went Stop) → Comes o (turning a old new) (ported was old.events) (ported is new.events) result
       → (past : List Event) (answers : List Entry) (s : State a.Kept) → IsAtRest a past answers old s
       → HasCause (o.seen was) (o.seen is) (said_by result)

@@ -23,9 +23,9 @@ use Rattle.aio_exchange.specs.Among.{ExchangedOn}
 use Rattle.aio_exchange.specs.Exchanged as exchange
 use Rattle.aio_exchange.specs.Exchanged.{Exchange, Last, All, Met, Starved, StopsAs, answers_of, entries_of}
 use Rattle.aio_extra.specs.Added.{Added}
-use Rattle.aio_body.specs.declared.body.Body.{Body}
+use Rattle.aio_body.specs.declared.run_state.RunState.{RunState}
 use Rattle.aio_body.specs.Asking.{Comes, ComesBy, EndsAs, RestFits, StopsWith, before}
-use Rattle.aio_body.specs.Stands.{Setting, IsBetween, Possible}
+use Rattle.aio_body.specs.Stands.{Context, IsBetween, Possible}
 use Rattle.aio_body.proofs.Answering.{between_again}
 use Rattle.aio_body.specs.Answers.{with_answers}
 use Rattle.aio_core.specs.declared.went.Went as code
@@ -44,7 +44,7 @@ one_more : (had : List Exchange) (answer : Answer) (rest : List Entry)
 one_more [] answer rest = refl
 one_more (it ∷ had) answer rest = ap (λ es. Answered it.answer ∷ es) (one_more had answer rest)
 
-module _ {X W : Type 0} (a : Added X) (o : Outside W) (old new : Body X) (was is : W) where
+module _ {X W : Type 0} (a : Added X) (o : Outside W) (old new : RunState X) (was is : W) where
   abbrev To : code.Went → Type 0
   To said = ComesTo a.meaning (o.seen was) (o.seen is) (changed_by a old new) said
 
@@ -64,11 +64,11 @@ module _ {X W : Type 0} (a : Added X) (o : Outside W) (old new : Body X) (was is
 
     -- ---- it goes on, or the run is over
     module _ (said : code.Went) (exchanged : ExchangedOn o had All was is)
-        (comes : (c : Setting a) (s : State a.Kept) → IsBetween (before had c) old s
+        (comes : (c : Context a) (s : State a.Kept) → IsBetween (before had c) old s
         → (bar : ℕ) × Turned (record c { left = 0; bar = bar }) new said (turn step_limit a.meaning s)) where
       abbrev Each : code.Went → Type 0
       Each it =
-          (c : Setting a) (s : State a.Kept) → IsBetween (before had c) old s
+          (c : Context a) (s : State a.Kept) → IsBetween (before had c) old s
           → (bar : ℕ) × Turned (record c { left = 0; bar = bar }) new it (turn step_limit a.meaning s)
 
       goes_at : (past : List Event) (rest : List Entry) (bar : ℕ) (w : Went a.Kept) → Turned (resting a past rest bar) new went.Went w
@@ -89,20 +89,20 @@ module _ {X W : Type 0} (a : Added X) (o : Outside W) (old new : Body X) (was is
       runs_at task past rest bar s (Goes now) e t = absurd t
       runs_at task past rest bar s (Stops how last) e t = record { end = how; last = last; way = t.0; stops = e; told = t.1 }
 
-      none_stalled : (c : Setting a) (w : Went a.Kept) → Turned c new went.Stalled w → ⊥
+      none_stalled : (c : Context a) (w : Went a.Kept) → Turned c new went.Stalled w → ⊥
       none_stalled c (Goes now) t = t
       none_stalled c (Stops how last) t = t
 
-      none_stopped : (why : Stop) (c : Setting a) (w : Went a.Kept) → Turned c new (went.Stopped why) w → ⊥
+      none_stopped : (why : Stop) (c : Context a) (w : Went a.Kept) → Turned c new (went.Stopped why) w → ⊥
       none_stopped why c (Goes now) t = t
       none_stopped why c (Stops how last) t = t
 
-      goes_between : (c : Setting a) (w : Went a.Kept) → Turned c new went.Went w → (now : State a.Kept) × IsBetween c new now
+      goes_between : (c : Context a) (w : Went a.Kept) → Turned c new went.Went w → (now : State a.Kept) × IsBetween c new now
       goes_between c (Goes now) t = (now, t)
       goes_between c (Stops how last) t = absurd t
 
       -- some state is stood for
-      some : Possible a IsBetween old → ∥ ((c : Setting a) × ((s : State a.Kept) × IsBetween (before had c) old s)) ∥₁
+      some : Possible a IsBetween old → ∥ ((c : Context a) × ((s : State a.Kept) × IsBetween (before had c) old s)) ∥₁
       some alive =
           ∥∥₁_map alive (λ w. (
             w.0,
@@ -112,7 +112,7 @@ module _ {X W : Type 0} (a : Added X) (o : Outside W) (old new : Body X) (was is
             ),
           ))
 
-      never : (it : code.Went) → Each it → Possible a IsBetween old → ((c : Setting a) (w : Went a.Kept) → Turned c new it w → ⊥) → ⊥
+      never : (it : code.Went) → Each it → Possible a IsBetween old → ((c : Context a) (w : Went a.Kept) → Turned c new it w → ⊥) → ⊥
       never it each alive refutes =
           ∥∥₁_elim (some alive) (λ x y. absurd x) (λ w.
           let t = each w.0 w.1.0 w.1.1 in
@@ -169,7 +169,7 @@ module _ {X W : Type 0} (a : Added X) (o : Outside W) (old new : Body X) (was is
     -- ---- a call has no answer that fits
     abbrev Stopped : Last → Stop → Type 0
     Stopped last why =
-        (c : Setting a) (s : State a.Kept) → IsBetween (before had c) old s → RestFits last c.answers
+        (c : Context a) (s : State a.Kept) → IsBetween (before had c) old s → RestFits last c.answers
         → StopsWith Stops why c.past new.events.events (turn step_limit a.meaning s)
 
     ends_so : (last : Last) (why : Stop) → Stopped last why → (left : List Entry → Type 0) → ((rest : List Entry) → left rest → RestFits last rest)

@@ -22,12 +22,12 @@ use Rattle.aio_exchange.specs.Exchanged.{Exchange, Last, All, Met, Starved}
 use Rattle.aio_extra.specs.Added.{Added}
 use Rattle.aio_step.specs.declared.steps.Stepped.{Stepped}
 use Rattle.aio_step.specs.declared.steps.Stepped.TheVariants as stepped
-use Rattle.aio_step.specs.Stepping.{Steps}
+use Rattle.aio_step.specs.Stepping.{TaskSteps}
 use Rattle.aio_body.proofs.Asking.{HasCome, come_beside, come_none, come_then, comes_ends, comes_starved, comes_stops}
 use Rattle.aio_body.proofs.Asking.{comes_without}
-use Rattle.aio_body.specs.declared.body.Body.{Body}
+use Rattle.aio_body.specs.declared.run_state.RunState.{RunState}
 use Rattle.aio_body.specs.Asking.{Comes, ComesBy, Piece, WentBegins, before, or_stop}
-use Rattle.aio_body.specs.Stands.{Setting, IsBetween, Possible}
+use Rattle.aio_body.specs.Stands.{Context, IsBetween, Possible}
 use Rattle.aio_body.proofs.Answering.{alive_come, between_again}
 use Rattle.aio_body.proofs.Growing.{OnlyAdds, row_begins, went_begins}
 use Rattle.aio_body.proofs.Unasked.{told_so}
@@ -40,15 +40,15 @@ use Rattle.aio_core.proofs.Running.{goes_on}
 
 module _ {X : Type 0} {a : Added X} where
   -- a state that is stood for leads to one that is stood for then
-  pub alive_by : (old new : Body X) (setting : Setting a → State a.Kept → Setting a) (change : State a.Kept → State a.Kept) → Possible a IsBetween old
-      → ((c : Setting a) (s : State a.Kept) → IsBetween c old s → IsBetween (setting c s) new (change s)) → Possible a IsBetween new
-  alive_by old new setting change alive by = ∥∥₁_map alive (λ w. (setting w.0 w.1.0, (change w.1.0, by w.0 w.1.0 w.1.1)))
+  pub alive_by : (old new : RunState X) (context : Context a → State a.Kept → Context a) (change : State a.Kept → State a.Kept) → Possible a IsBetween old
+      → ((c : Context a) (s : State a.Kept) → IsBetween c old s → IsBetween (context c s) new (change s)) → Possible a IsBetween new
+  alive_by old new context change alive by = ∥∥₁_map alive (λ w. (context w.0 w.1.0, (change w.1.0, by w.0 w.1.0 w.1.1)))
 
 abbrev pub woken_to : {S : Type 0} → Answer → State S → State S
 woken_to answer s = unbooked_in (woken_by answer) s
 
 -- the state that is left at the end of a turn
-pub told_turned : {X : Type 0} {a : Added X} (new : Body X) (c : Setting a) (it : Said.Went) (w : Went a.Kept) → Turned c new it w
+pub told_turned : {X : Type 0} {a : Added X} (new : RunState X) (c : Context a) (it : Said.Went) (w : Went a.Kept) → Turned c new it w
     → (state_of w).events ≡ c.past ++ new.events.events
 told_turned new c went.Went (Goes now) t = t.stands.events
 told_turned new c went.Went (Stops how last) t = absurd t
@@ -79,13 +79,13 @@ over_events done_before s = at (s.main_done && not done_before)
 over_adds : {S : Type 0} (done_before : Bool) → OnlyAdds {S = S} (turn_over done_before)
 over_adds done_before s = ([], over_events done_before s ∙ sym (append-nil s.events))
 
-module _ {X W : Type 0} (a : Added X) (o : Outside W) (answer : Answer) (old mid ran : Body X)
-    (woken : (c : Setting a) (s : State a.Kept) → IsBetween c old s → IsBetween (all_below c (woken_to answer s)) mid (woken_to answer s)) (was is : W) where
-  abbrev From : Setting a → State a.Kept → Type 0
+module _ {X W : Type 0} (a : Added X) (o : Outside W) (answer : Answer) (old mid ran : RunState X)
+    (woken : (c : Context a) (s : State a.Kept) → IsBetween c old s → IsBetween (all_below c (woken_to answer s)) mid (woken_to answer s)) (was is : W) where
+  abbrev From : Context a → State a.Kept → Type 0
   From c s = IsBetween c old s
 
   -- all that is pending stands before the bar
-  abbrev Begun : Setting a → State a.Kept → Type 0
+  abbrev Begun : Context a → State a.Kept → Type 0
   Begun c s = IsBetween (all_below c (woken_to answer s)) mid (woken_to answer s)
 
   begins : HasCome o From [] (ported was old.events) (ported was mid.events) Begun
@@ -102,7 +102,7 @@ module _ {X W : Type 0} (a : Added X) (o : Outside W) (answer : Answer) (old mid
         from = Begun;
         does = λ s. run_pending step_limit a.meaning (woken_to answer s);
         ends = Stops;
-        says = λ c said it. (bar : ℕ) × Steps (record c { left = 0; bar = bar }) ran said it;
+        says = λ c said it. (bar : ℕ) × TaskSteps (record c { left = 0; bar = bar }) ran said it;
         begins = WentBegins;
       }
 
@@ -132,7 +132,7 @@ module _ {X W : Type 0} (a : Added X) (o : Outside W) (answer : Answer) (old mid
 
   -- ---- all ran
   module _ (runs : Comes o (running a mid ran) (ported was mid.events) (ported is ran.events) (Ok stepped.Goes)) where
-    pub record HasRun (c : Setting a) (s : State a.Kept) : Type 0 where
+    pub record HasRun (c : Context a) (s : State a.Kept) : Type 0 where
       pub now : State a.Kept
       pub bar : ℕ
       pub ran_so : run_pending step_limit a.meaning (woken_to answer s) ≡ Goes now
@@ -159,8 +159,8 @@ module _ {X W : Type 0} (a : Added X) (o : Outside W) (answer : Answer) (old mid
         (ported is ran.events) HasRun gone.1 alive) (λ w. (record w.0 { left = 0; bar = w.1.1.bar }, (w.1.1.now, w.1.1.between)))
 
     -- and the turn ends, which asks nothing
-    pub after_goes : (new : Body X) (result : Result Said.Went Memory)
-        → IfOk result (λ said. (c : Setting a) (s : State a.Kept) → IsBetween c ran s → Turned c new said (turn_over mid.main_done s))
+    pub after_goes : (new : RunState X) (result : Result Said.Went Memory)
+        → IfOk result (λ said. (c : Context a) (s : State a.Kept) → IsBetween c ran s → Turned c new said (turn_over mid.main_done s))
         → Comes o (turning_by a answer old new) (ported was old.events) (ported is new.events) (or_stop result)
     after_goes new (Err memory) ends =
         comes_starved o (turning_by a answer old new) gone.0 (ported was old.events) (ported is ran.events) (ported is new.events) refl
@@ -177,7 +177,7 @@ module _ {X W : Type 0} (a : Added X) (o : Outside W) (answer : Answer) (old mid
         comes_ends o (turning_by a answer old new) gone.0 (ported was old.events) (ported is new.events) said
         (come_beside o From gone.0 (ported was old.events) (ported is ran.events) (ported is new.events) HasRun
         (λ c s. (bar : ℕ) × Turned (record c { left = 0; bar = bar }) new said (turned_by step_limit a.meaning answer s)) gone.1 refl (λ c s t.
-        let d : Setting a = record c { left = 0; bar = t.bar } in
+        let d : Context a = record c { left = 0; bar = t.bar } in
         let turned = ends d t.now t.between in (
           told_so c.past ran.events.events new.events.events t.now.events (state_of (turn_over mid.main_done t.now)).events t.between.stands.events
               (told_turned new d said (turn_over mid.main_done t.now) turned) (over_adds mid.main_done t.now)
@@ -207,7 +207,7 @@ module _ {X W : Type 0} (a : Added X) (o : Outside W) (answer : Answer) (old mid
       )) in
       comes_ends o (turning_by a answer old ran) all.0 (ported was old.events) (ported is ran.events) (went.Runaway task) all.1
     where
-      off : (go_on : State a.Kept → Went a.Kept) (d : Setting a) (w : Went a.Kept) → Steps d ran (stepped.Runaway task) w
+      off : (go_on : State a.Kept → Went a.Kept) (d : Context a) (w : Went a.Kept) → TaskSteps d ran (stepped.Runaway task) w
           → Turned d ran (went.Runaway task) (went_on go_on w)
       off go_on d (Goes now) t = absurd t
       off go_on d (Stops how last) t = t
@@ -238,7 +238,7 @@ module _ {X W : Type 0} (a : Added X) (o : Outside W) (answer : Answer) (old mid
       }) (runs_below (Err why) runs)
 
 -- ---- or memory was refused before any handle ran
-module _ {X W : Type 0} (a : Added X) (o : Outside W) (answer : Answer) (old new : Body X) (was : W) where
+module _ {X W : Type 0} (a : Added X) (o : Outside W) (answer : Answer) (old new : RunState X) (was : W) where
   pub after_starves : Comes o (turning_by a answer old new) (ported was old.events) (ported was new.events) (Err stop.Memory)
   after_starves =
       comes_without o (turning_by a answer old new) (ported was old.events) (ported was new.events) (λ c s h.
@@ -247,14 +247,14 @@ module _ {X W : Type 0} (a : Added X) (o : Outside W) (answer : Answer) (old new
 
 module _ {X : Type 0} {a : Added X} where
   -- whether each task is cancelled
-  pub cancelled_then : (old new : Body X) (done_before : Bool) → old.main_done ≡ true → done_before ≡ false
-      → ((c : Setting a) (s : State a.Kept) → IsBetween c old s → IsBetween c new (cancelled_if true s))
-      → (c : Setting a) (s : State a.Kept) → IsBetween c old s → IsBetween c new (cancelled_if (s.main_done && not done_before) s)
+  pub cancelled_then : (old new : RunState X) (done_before : Bool) → old.main_done ≡ true → done_before ≡ false
+      → ((c : Context a) (s : State a.Kept) → IsBetween c old s → IsBetween c new (cancelled_if true s))
+      → (c : Context a) (s : State a.Kept) → IsBetween c old s → IsBetween c new (cancelled_if (s.main_done && not done_before) s)
   cancelled_then old new done_before main before by c s h =
       subst (λ b. IsBetween c new (cancelled_if b s))
       (sym (ap (λ b. b && not done_before) (sym h.stands.main_done ∙ main) ∙ ap not before)) (by c s h)
 
-  pub cancelled_else : (old : Body X) (done_before : Bool) → (old.main_done && not done_before) ≡ false
-      → (c : Setting a) (s : State a.Kept) → IsBetween c old s → IsBetween c old (cancelled_if (s.main_done && not done_before) s)
+  pub cancelled_else : (old : RunState X) (done_before : Bool) → (old.main_done && not done_before) ≡ false
+      → (c : Context a) (s : State a.Kept) → IsBetween c old s → IsBetween c old (cancelled_if (s.main_done && not done_before) s)
   cancelled_else old done_before off c s h =
       subst (λ b. IsBetween c old (cancelled_if b s)) (sym (ap (λ b. b && not done_before) (sym h.stands.main_done) ∙ off)) h

@@ -18,13 +18,13 @@ use Rattle.law_runs.proofs.Callbacks.{woken_made}
 use Rattle.refine_parts.proofs.Telling.{outcome_kept}
 use Rattle.aio_task.specs.View.{parts}
 use Rattle.aio_extra.specs.Added.{Added}
-use Rattle.aio_body.specs.declared.body.Body.{Body}
-use Rattle.aio_body.specs.Stands.{Setting, Possible}
+use Rattle.aio_body.specs.declared.run_state.RunState.{RunState}
+use Rattle.aio_body.specs.Stands.{Context, Possible}
 use Rattle.aio_step.specs.Stepping.{IsCalled}
 
-module _ {X : Type 0} {a : Added X} (task : ℕ) (c : Setting a) (body : Body X) (s : State a.Kept) (h : IsCalled task c body s) where
-  woken_there : (on : ℕ) → waiter_of s.loop.parts task ≡ Some on → h.stands.ties.gone on ≡ false
-  woken_there on waits = false_from_ne_true (h.stands.ties.gone on) (λ e. absurd (none_some ((h.stands.gone on e).alone task waits)))
+module _ {X : Type 0} {a : Added X} (task : ℕ) (c : Context a) (body : RunState X) (s : State a.Kept) (h : IsCalled task c body s) where
+  woken_there : (on : ℕ) → waiter_of s.loop.parts task ≡ Some on → h.stands.name_map.gone on ≡ false
+  woken_there on waits = false_from_ne_true (h.stands.name_map.gone on) (λ e. absurd (none_some ((h.stands.gone on e).alone task waits)))
     where
       none_some : None ≡ Some task → ⊥
       none_some e = absurd (cc)
@@ -42,7 +42,7 @@ module _ {X : Type 0} {a : Added X} (task : ℕ) (c : Setting a) (body : Body X)
   woken_on on outcome waits ended =
       let there = sym waits_same ∙ waits in
       ap (λ o. option_map_or input_of o (Send Nothing))
-      (sym ended ∙ outcome_kept h.stands.ties body.parts s.loop.parts h.stands.keeps on (woken_there on there))
+      (sym ended ∙ outcome_kept h.stands.name_map body.parts s.loop.parts h.stands.keeps on (woken_there on there))
       ∙ sym (ap (λ o. option_map_or input_of (option_and_then (future_outcome s.loop.parts) o) (Send Nothing)) there)
 
   pub woken_sends : sends_made (length body.slots.items) (woken_with s.loop.parts task) ≡ true
@@ -60,8 +60,8 @@ module _ {X : Type 0} {a : Added X} (task : ℕ) (c : Setting a) (body : Body X)
           (woken_made a.meaning h.before h.sound task)
 
 module _ {X : Type 0} {a : Added X} where
-  pub woken_sends_may : (task : ℕ) (body : Body X) (input : Input) → Possible a (IsCalled task) body
-      → ((c : Setting a) (s : State a.Kept) → IsCalled task c body s → input ≡ woken_with s.loop.parts task)
+  pub woken_sends_may : (task : ℕ) (body : RunState X) (input : Input) → Possible a (IsCalled task) body
+      → ((c : Context a) (s : State a.Kept) → IsCalled task c body s → input ≡ woken_with s.loop.parts task)
       → sends_made (length body.slots.items) input ≡ true
   woken_sends_may task body input m is =
       ∥∥₁_elim m (bool_prop (sends_made (length body.slots.items) input) true)

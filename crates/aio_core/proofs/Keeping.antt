@@ -10,19 +10,19 @@ use Rattle.aio_wire.specs.EventList.{EventList}
 use Rattle.aio_wire.specs.Outside.{Outside}
 use Rattle.aio_wire.specs.declared.stop.Stop.TheVariants as stop
 use Rattle.aio_extra.specs.Added.{Added}
-use Rattle.aio_body.specs.declared.body.Body.{Body}
-use Rattle.aio_body.specs.Stands.{Setting, IsBetween, Possible}
+use Rattle.aio_body.specs.declared.run_state.RunState.{RunState}
+use Rattle.aio_body.specs.Stands.{Context, IsBetween, Possible}
 use Rattle.aio_body.proofs.Noting.{telling_changes}
 use Rattle.aio_core.specs.declared.kernel.Kernel.{Kernel}
 use Rattle.aio_core.specs.declared.went.Went as code
 use Rattle.aio_core.specs.declared.went.Went.TheVariants as went
 use Rattle.aio_core.specs.Again.{Again, IsKept}
-use Rattle.aio_core.specs.Turned.{KeepsEnd, StandsFor, TurnedBy, TurnsTo, ended, stood_for, untaken}
+use Rattle.aio_core.specs.Turned.{KeepsEnd, KernelStandsFor, TurnedBy, TurnsTo, ended, stood_for, untaken}
 use Rattle.aio_core.specs.Turning.{AliveIfWent, AliveUnless, ComesTo, IsAtRest, StarvesAs, TurnMade, WireTurn, changed_by, resting, stood_by, wire_turn}
 
 module _ {X : Type 0} {a : Added X} where
   pub stands_up : {g : _} (past : List Event) (left : List Entry) (kernel : Kernel X g) (s : State a.Kept) → ended kernel ≡ None
-      → IsAtRest a past left kernel.body s → StandsFor a past left kernel s
+      → IsAtRest a past left kernel.body s → KernelStandsFor a past left kernel s
   stands_up past left kernel s goes h = record { events = h.1.stands.events; answers = h.1.stands.rest; goes = goes; rests = h }
 
 module _ {X : Type 0} (a : Added X) {g : _} (old new : Kernel X g) (before after : WireSeen) where
@@ -79,13 +79,13 @@ module _ {X : Type 0} {a : Added X} where
     asks = λ past answers s h. made.asked past answers s h.rests;
     caused = λ past answers s h. made.caused past answers s h.rests;
     starved = λ past answers s h. starves_up a (wire_turn o was is) old said (made.starved past answers s h.rests);
-    still = made.quiet;
+    unchanged = made.quiet;
     failing = made.fails;
     either = either;
   }
 
   -- ---- events are taken out
-  pub between_taken : (c : Setting a) (body : Body X) (events : EventList) (s : State a.Kept) → events ≡ record body.events { events = [] }
+  pub between_taken : (c : Context a) (body : RunState X) (events : EventList) (s : State a.Kept) → events ≡ record body.events { events = [] }
       → IsBetween c body s → IsBetween (record c { past = c.past ++ body.events.events }) (record body { events = events }) s
   between_taken c body events s e h = record {
     stands =
@@ -106,13 +106,13 @@ module _ {X : Type 0} {a : Added X} where
     sound = h.sound;
   }
 
-  pub events_taken : (past : List Event) (answers : List Entry) (body : Body X) (events : EventList) (s : State a.Kept)
+  pub events_taken : (past : List Event) (answers : List Entry) (body : RunState X) (events : EventList) (s : State a.Kept)
       → events ≡ record body.events { events = [] }
       → IsAtRest a past answers body s → IsAtRest a (past ++ body.events.events) answers (record body { events = events }) s
   events_taken past answers body events s e h = (h.0, between_taken (resting a past answers h.0) body events s e h.1)
 
 module _ {X : Type 0} (a : Added X) where
-  pub alive_taken : (kept : Option code.Went) (body : Body X) (events : EventList) → events ≡ record body.events { events = [] }
+  pub alive_taken : (kept : Option code.Went) (body : RunState X) (events : EventList) → events ≡ record body.events { events = [] }
       → ∥ AliveUnless a kept body ∥₁ → ∥ AliveUnless a kept (record body { events = events }) ∥₁
   alive_taken kept body events e alive = ∥∥₁_map alive (at kept)
     where
@@ -120,7 +120,7 @@ module _ {X : Type 0} (a : Added X) where
       at None it = ∥∥₁_map it (λ w. (record w.0 { past = w.0.past ++ body.events.events }, (w.1.0, between_taken w.0 body events w.1.0 e w.1.1)))
       at (Some end) it = tt
 
-  pub alive_of : (kept : Option code.Went) (body : Body X) → kept ≡ None → ∥ AliveUnless a kept body ∥₁ → Possible a IsBetween body
+  pub alive_of : (kept : Option code.Went) (body : RunState X) → kept ≡ None → ∥ AliveUnless a kept body ∥₁ → Possible a IsBetween body
   alive_of kept body none alive = ∥∥₁_elim (subst (λ o. ∥ AliveUnless a o body ∥₁) none alive) ∥∥₁_prop (λ it. it)
 
 -- ---- an end is kept
@@ -132,7 +132,7 @@ kept_end (went.Runaway task) kept e = e
 kept_end (went.Stopped why) kept e = e
 
 module _ {X : Type 0} (a : Added X) where
-  pub alive_ended : (kept : Option code.Went) (result : code.Went) (body : Body X) → kept ≡ Some result → ∥ AliveUnless a kept body ∥₁
+  pub alive_ended : (kept : Option code.Went) (result : code.Went) (body : RunState X) → kept ≡ Some result → ∥ AliveUnless a kept body ∥₁
   alive_ended kept result body e = subst (λ o. ∥ AliveUnless a o body ∥₁) (sym e) ∣ tt ∣₁
 
 -- a turn was made, and what it said is kept
@@ -160,7 +160,7 @@ module _ (said result : code.Went) (kept now : Option code.Went) (none : kept �
       at (went.Runaway task) k = kept_end result now k.1
       at (went.Stopped why) k = kept_end result now k.1
 
-  pub kept_alive : {X : Type 0} (a : Added X) (body : Body X) → AliveIfWent a said body → ∥ AliveUnless a now body ∥₁
+  pub kept_alive : {X : Type 0} (a : Added X) (body : RunState X) → AliveIfWent a said body → ∥ AliveUnless a now body ∥₁
   kept_alive a body alive = at said is alive
     where
       at : (it : code.Went) → IsKept it kept now result → AliveIfWent a it body → ∥ AliveUnless a now body ∥₁

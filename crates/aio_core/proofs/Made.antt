@@ -8,8 +8,8 @@ use Rattle.aio_wire.specs.Port.{PortAsked, ported}
 use Rattle.aio_wire.specs.declared.stop.Stop.{Stop}
 use Rattle.aio_wire.specs.declared.stop.Stop.TheVariants as stop
 use Rattle.aio_extra.specs.Added.{Added}
-use Rattle.aio_body.specs.declared.body.Body.{Body}
-use Rattle.aio_body.specs.Stands.{IsBetween, Setting}
+use Rattle.aio_body.specs.declared.run_state.RunState.{RunState}
+use Rattle.aio_body.specs.Stands.{IsBetween, Context}
 use Rattle.aio_core.specs.declared.went.Went.TheVariants as went
 use Rattle.aio_core.specs.Watched.{StandsOn}
 use Rattle.aio_core.specs.Turning.{StallsAs, TurnMade, resting, stood_by, wire_turn}
@@ -19,9 +19,9 @@ use Rattle.aio_core.proofs.AskedByTurn.{once_starves, stop_asks, stop_starves}
 use Rattle.aio_core.proofs.Asking.{failing_stopped, stalls_so, stalls_stopped, still_stopped, stops_so}
 use Rattle.aio_core.proofs.Caused.{select_caused}
 
-module _ {X W : Type 0} (a : Added X) (o : Outside W) (old : Body X) (was : W) where
+module _ {X W : Type 0} (a : Added X) (o : Outside W) (old : RunState X) (was : W) where
   -- nothing is pending and nothing can come
-  pub made_stalled : ((c : Setting a) (s : State a.Kept) → IsBetween c old s → true ≡ is_stalled a.meaning s)
+  pub made_stalled : ((c : Context a) (s : State a.Kept) → IsBetween c old s → true ≡ is_stalled a.meaning s)
       → TurnMade a o was was old old went.Stalled
   made_stalled is = record {
     comes = stalls_so old (o.seen was) is;
@@ -37,7 +37,7 @@ module _ {X W : Type 0} (a : Added X) (o : Outside W) (old : Body X) (was : W) w
   }
 
   -- memory was refused before the call
-  pub made_starved : (new : Body X) → TurnMade a o was was old new (went.Stopped stop.Memory)
+  pub made_starved : (new : RunState X) → TurnMade a o was was old new (went.Stopped stop.Memory)
   made_starved new = record {
     comes = tt;
     stalls = λ past answers s h. tt;
@@ -52,9 +52,9 @@ module _ {X W : Type 0} (a : Added X) (o : Outside W) (old : Body X) (was : W) w
   }
 
   -- the call has no answer that fits
-  pub made_stopped : (call : Call) → ((c : Setting a) (s : State a.Kept) → IsBetween c old s → call ≡ call_of a.meaning s)
-      → ((c : Setting a) (s : State a.Kept) → IsBetween c old s → false ≡ is_stalled a.meaning s) → (held : Body X) → StandsOn a old held
-      → (new : Body X) (is : W) (why : Stop) → PortAsked o call (ported was held.events) (ported is new.events) (Err why)
+  pub made_stopped : (call : Call) → ((c : Context a) (s : State a.Kept) → IsBetween c old s → call ≡ call_of a.meaning s)
+      → ((c : Context a) (s : State a.Kept) → IsBetween c old s → false ≡ is_stalled a.meaning s) → (held : RunState X) → StandsOn a old held
+      → (new : RunState X) (is : W) (why : Stop) → PortAsked o call (ported was held.events) (ported is new.events) (Err why)
       → TurnMade a o was is old new (went.Stopped why)
   made_stopped call calls goes held on new is why asked =
       let asks = asked_on o old held on call was is new.events (Err why) asked in

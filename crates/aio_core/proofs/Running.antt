@@ -24,11 +24,11 @@ use Rattle.aio_exchange.specs.Exchanged.{Exchange}
 use Rattle.aio_extra.specs.Added.{Added}
 use Rattle.aio_step.specs.declared.steps.Stepped.{Stepped}
 use Rattle.aio_step.specs.declared.steps.Stepped.TheVariants as went
-use Rattle.aio_step.specs.Stepping.{Steps}
+use Rattle.aio_step.specs.Stepping.{TaskSteps}
 use Rattle.aio_body.proofs.Asking.{HasCome, come_beside, come_none, come_then, comes_ends, comes_stops}
-use Rattle.aio_body.specs.declared.body.Body.{Body}
+use Rattle.aio_body.specs.declared.run_state.RunState.{RunState}
 use Rattle.aio_body.specs.Asking.{Comes, Piece, WentBegins, before}
-use Rattle.aio_body.specs.Stands.{Setting, IsBetween, Possible}
+use Rattle.aio_body.specs.Stands.{Context, IsBetween, Possible}
 use Rattle.aio_body.specs.Taken.{IsNext}
 use Rattle.aio_body.proofs.Answering.{alive_come, between_again}
 use Rattle.aio_body.proofs.Growing.{OnlyAdds, row_begins, went_begins}
@@ -38,44 +38,44 @@ use Rattle.aio_core.specs.Running.{running, running_one}
 use Rattle.aio_core.specs.Turning.{at_bar}
 use Rattle.aio_core.proofs.Below.{IsRunning, left_by, next_none, next_runs, skipped}
 
-abbrev pub below_of : {X : Type 0} → Body X → ℕ
+abbrev pub below_of : {X : Type 0} → RunState X → ℕ
 below_of body = length body.parts.queue.below
 
 module _ {X : Type 0} {a : Added X} where
   -- as many are left as stand before the bar
-  abbrev pub with_left : ℕ → Setting a → Setting a
+  abbrev pub with_left : ℕ → Context a → Context a
   with_left count c = record c { left = count }
 
   -- A state was come to, from which the rest runs as from the first: that, its bar, and how many were left before it.
-  pub record Reached (body : Body X) (c : Setting a) (at : State a.Kept × (ℕ × ℕ)) : Type 0 where
+  pub record Reached (body : RunState X) (c : Context a) (at : State a.Kept × (ℕ × ℕ)) : Type 0 where
     pub now : State a.Kept
     pub between : IsBetween (with_left (below_of body) c) body now
     pub same : run_below step_limit a.meaning at.1.0 at.1.1 at.0 ≡ run_below step_limit a.meaning c.bar (below_of body) now
 
 -- from wherever it began, after some asks
-abbrev pub HasReached : {X W : Type 0} → (a : Added X) → Outside W → (first : Body X) (was : W) (body : Body X) (is : W) → Type 0
+abbrev pub HasReached : {X W : Type 0} → (a : Added X) → Outside W → (first : RunState X) (was : W) (body : RunState X) (is : W) → Type 0
 HasReached a o first was body is =
     (had : List Exchange)
     × HasCome {At = State a.Kept × (ℕ × ℕ)} {a = a} o (λ c at. IsBetween c first at.0 × ((c.bar ≡ at.1.0) × (c.left ≡ at.1.1))) had
     (ported was first.events) (ported is body.events) (Reached body)
 
 -- ---- a handle was taken
-module _ {X : Type 0} {a : Added X} (body : Body X) (w : View) (action : Action) (is : w ≡ left_by body.parts)
+module _ {X : Type 0} {a : Added X} (body : RunState X) (w : View) (action : Action) (is : w ≡ left_by body.parts)
     (next : queue.next_action body.parts.queue ≡ Some action) where
-  pub running_of : (c : Setting a) (s : State a.Kept) → IsBetween c body s → IsRunning action c body w s
+  pub running_of : (c : Context a) (s : State a.Kept) → IsBetween c body s → IsRunning action c body w s
   running_of c s h = next_runs c body s w action h (skipped c body s w (Some action) h is next) is next
 
   pub may_run : Possible a IsBetween body → Possible a (IsNext action) (record body { parts = w })
   may_run alive = ∥∥₁_map alive (λ x. let r = running_of x.0 x.1.0 x.1.1 in (record x.0 { left = length w.queue.below }, (r.now, r.next)))
 
 module _ {X : Type 0} {a : Added X} where
-  pub goes_on : (c : Setting a) (new : Body X) (w : Went a.Kept) → Steps c new went.Goes w
+  pub goes_on : (c : Context a) (new : RunState X) (w : Went a.Kept) → TaskSteps c new went.Goes w
       → (now : State a.Kept) × ((w ≡ Goes now) × IsBetween c new now)
   goes_on c new (Goes now) h = (now, (refl, h))
   goes_on c new (Stops end last) h = absurd h
 
-  pub runs_off : (c : Setting a) (new : Body X) (task : ℕ) (go_on : State a.Kept → Went a.Kept) (w : Went a.Kept)
-      → Steps c new (went.Runaway task) w → Steps (at_bar c) new (went.Runaway task) (went_on go_on w)
+  pub runs_off : (c : Context a) (new : RunState X) (task : ℕ) (go_on : State a.Kept → Went a.Kept) (w : Went a.Kept)
+      → TaskSteps c new (went.Runaway task) w → TaskSteps (at_bar c) new (went.Runaway task) (went_on go_on w)
   runs_off c new task go_on (Goes now) h = absurd h
   runs_off c new task go_on (Stops end last) h = h
 
@@ -113,8 +113,8 @@ live_first (handle ∷ handles) it e = at_dead handle.dead (λ x. live_first han
 taken_fewer : (q : queue.Queue) (it : Action) → queue.next_action q ≡ Some it → length (queue.taken q).below < length q.below
 taken_fewer q it e = live_first q.below it e
 
-module _ {X W : Type 0} (a : Added X) (o : Outside W) (first : Body X) (was : W) where
-  abbrev From : Setting a → State a.Kept × (ℕ × ℕ) → Type 0
+module _ {X W : Type 0} (a : Added X) (o : Outside W) (first : RunState X) (was : W) where
+  abbrev From : Context a → State a.Kept × (ℕ × ℕ) → Type 0
   From c at = IsBetween c first at.0 × ((c.bar ≡ at.1.0) × (c.left ≡ at.1.1))
 
   -- what the whole does
@@ -138,25 +138,25 @@ module _ {X W : Type 0} (a : Added X) (o : Outside W) (first : Body X) (was : W)
   )
 
   -- what is possible wherever it began is so after some asks
-  still_possible : (had : List Exchange) (body : Body X) (mid : W) (so : Setting a → State a.Kept × (ℕ × ℕ) → Type 0)
+  still_possible : (had : List Exchange) (body : RunState X) (mid : W) (so : Context a → State a.Kept × (ℕ × ℕ) → Type 0)
       → HasCome o From had (ported was first.events) (ported mid body.events) so → Possible a IsBetween first
-      → ∥ ((c : Setting a) × ((at : State a.Kept × (ℕ × ℕ)) × so c at)) ∥₁
+      → ∥ ((c : Context a) × ((at : State a.Kept × (ℕ × ℕ)) × so c at)) ∥₁
   still_possible had body mid so come alive =
       alive_come o From (λ answers c at h. ((with_answers answers at.0, at.1), (between_again answers c first at.0 h.0, h.1))) had
       (ported was first.events) (ported mid body.events) so come
       (∥∥₁_map alive (λ w. (w.0, ((w.1.0, (w.0.bar, w.0.left)), (w.1.1, (refl, refl))))))
 
-  module _ (body : Body X) (mid : W) (reached : HasReached a o first was body mid) where
+  module _ (body : RunState X) (mid : W) (reached : HasReached a o first was body mid) where
     pub alive_on : Possible a IsBetween first → Possible a IsBetween body
     alive_on alive =
         ∥∥₁_map (still_possible reached.0 body mid (Reached body) reached.1 alive) (λ w. (with_left (below_of body) w.0, (w.1.1.now, w.1.1.between)))
 
     module _ (w : View) (is : w ≡ left_by body.parts) where
-      abbrev taken : Body X
+      abbrev taken : RunState X
       taken = record body { parts = w }
 
       -- ---- a handle was taken, and ran
-      module _ (action : Action) (next : queue.next_action body.parts.queue ≡ Some action) (new : Body X) (last : W) where
+      module _ (action : Action) (next : queue.next_action body.parts.queue ≡ Some action) (new : RunState X) (last : W) where
         abbrev left : ℕ
         left = length w.queue.below
 
@@ -169,11 +169,11 @@ module _ {X W : Type 0} (a : Added X) (o : Outside W) (first : Body X) (was : W)
             comes_over o (with_left left) (record { answers = λ es c. refl; rest = λ c. refl; past = λ c. refl }) (running_one a action taken new)
             (ported mid body.events) (ported last new.events) result ran
 
-        here : (c : Setting a) (at : State a.Kept × (ℕ × ℕ)) → (t : Reached body c at) → IsRunning action (with_left (below_of body) c) body w t.now
+        here : (c : Context a) (at : State a.Kept × (ℕ × ℕ)) → (t : Reached body c at) → IsRunning action (with_left (below_of body) c) body w t.now
         here c at t = running_of body w action is next (with_left (below_of body) c) t.now t.between
 
         -- what the whole does from there
-        on : (c : Setting a) (at : State a.Kept × (ℕ × ℕ)) (t : Reached body c at) → does at
+        on : (c : Context a) (at : State a.Kept × (ℕ × ℕ)) (t : Reached body c at) → does at
             ≡ went_on (run_below step_limit a.meaning c.bar left) (effect step_limit a.meaning action (noted (event.Ran action) (here c at t).now))
         on c at t = t.same ∙ (here c at t).goes
 
@@ -203,13 +203,13 @@ module _ {X W : Type 0} (a : Added X) (o : Outside W) (first : Body X) (was : W)
             → Comes o (running a first new) (ported was first.events) (ported last new.events) (Ok (went.Runaway task))
         runs_away task ran =
             let all = come_then o From reached.0 (ported was first.events) (ported mid body.events) one (ported last new.events) (Reached body)
-            (λ c at. Steps (at_bar c) new (went.Runaway task) (does at)) (went.Runaway task) reached.1 (held (Ok (went.Runaway task)) ran)
+            (λ c at. TaskSteps (at_bar c) new (went.Runaway task) (does at)) (went.Runaway task) reached.1 (held (Ok (went.Runaway task)) ran)
             (λ more c at t. (
               (here (before more c) at t).now,
               (
                 (here (before more c) at t).next,
                 λ says.
-                    subst (Steps (at_bar c) new (went.Runaway task)) (sym (on (before more c) at t))
+                    subst (TaskSteps (at_bar c) new (went.Runaway task)) (sym (on (before more c) at t))
                     (runs_off (with_left left c) new task (run_below step_limit a.meaning c.bar left)
                     (effect step_limit a.meaning action (noted (event.Ran action) (here (before more c) at t).now)) says),
               ),
@@ -220,7 +220,7 @@ module _ {X W : Type 0} (a : Added X) (o : Outside W) (first : Body X) (was : W)
             → Comes o (running a first new) (ported was first.events) (ported last new.events) (Err why)
         run_stops why ran =
             comes_stops o From reached.0 (ported was first.events) (ported mid body.events) one (ported last new.events)
-            (does, (Stops, (λ c said it. Steps (at_bar c) new said it, WentBegins))) why
+            (does, (Stops, (λ c said it. TaskSteps (at_bar c) new said it, WentBegins))) why
             (record {
               exchanged = reached.1.exchanged;
               told = λ c at h.
@@ -269,7 +269,7 @@ module _ {X W : Type 0} (a : Added X) (o : Outside W) (first : Body X) (was : W)
       at_bar_so none =
           comes_ends o (running a first taken) reached.0 (ported was first.events) (ported mid body.events) went.Goes
           (come_beside o From reached.0 (ported was first.events) (ported mid body.events) (ported mid body.events) (Reached body)
-          (λ c at. Steps (at_bar c) taken went.Goes (does at)) reached.1 refl (λ c at t. (told_none body.events.events, ends c at t)))
+          (λ c at. TaskSteps (at_bar c) taken went.Goes (does at)) reached.1 refl (λ c at t. (told_none body.events.events, ends c at t)))
         where
           none_live : (handles : List QueueHandle) → queue.first_action (queue.from_live handles) ≡ None
               → length (drop 1 (queue.from_live handles)) ≡ 0
@@ -279,10 +279,10 @@ module _ {X W : Type 0} (a : Added X) (o : Outside W) (first : Body X) (was : W)
               by [] e = refl
               by (handle ∷ rest) e = absurd (cc)
 
-          ends : (c : Setting a) (at : State a.Kept × (ℕ × ℕ)) → Reached body c at → Steps (at_bar c) taken went.Goes (does at)
+          ends : (c : Context a) (at : State a.Kept × (ℕ × ℕ)) → Reached body c at → TaskSteps (at_bar c) taken went.Goes (does at)
           ends c at t =
               let d = with_left (below_of body) c in
               let last = next_none d body t.now w t.between (skipped d body t.now w None t.between is none) is none in
               let same = ap (λ (x : View). length x.queue.below) is ∙ none_live body.parts.queue.below none in
-              subst (Steps (at_bar c) taken went.Goes) (sym (t.same ∙ last.goes))
+              subst (TaskSteps (at_bar c) taken went.Goes) (sym (t.same ∙ last.goes))
               (subst (λ n. IsBetween (with_left n c) taken last.now) same last.between)

@@ -9,10 +9,10 @@ use Rattle.aio_extra.specs.Added.{Added}
 use Rattle.aio_body.proofs.Sound.{extra_sound}
 use Rattle.aio_core.specs.declared.kernel.Kernel.{Kernel}
 use Rattle.aio_core.specs.Sound.{IsTurnSound}
-use Rattle.aio_core.specs.Turned.{StandsFor}
+use Rattle.aio_core.specs.Turned.{KernelStandsFor}
 
 pub turn_sound : {X : Type 0} {g : _} (a : Added X) (past : List Event) (answers : List Entry) (kernel : Kernel X g) (s : State a.Kept)
-    → StandsFor a past answers kernel s → IsTurnSound a s
+    → KernelStandsFor a past answers kernel s → IsTurnSound a s
 turn_sound a past answers kernel s h = record {
   between = mids_in a.meaning (extra_sound a) s h.rests.1.sound;
   after = turn_in a.meaning (extra_sound a) s h.rests.1.sound;

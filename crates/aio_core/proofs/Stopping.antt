@@ -29,8 +29,8 @@ use Rattle.refine_parts.proofs.Telling.{future_of_kept, outcome_kept, pending_ke
 use Rattle.aio_cancel.specs.Awaitables.{Appended}
 use Rattle.aio_task.specs.View.{View, parts}
 use Rattle.aio_extra.specs.Added.{Added, named_in}
-use Rattle.aio_body.specs.declared.body.Body.{Body}
-use Rattle.aio_body.specs.Stands.{Setting, Stands, IsBetween, Possible}
+use Rattle.aio_body.specs.declared.run_state.RunState.{RunState}
+use Rattle.aio_body.specs.Stands.{Context, Stands, IsBetween, Possible}
 use Rattle.aio_body.specs.Taken.{IsAfterCallback}
 use Rattle.aio_body.proofs.Lasting.{spares_none, stands_on}
 use Rattle.aio_body.proofs.Left.{leaves_request}
@@ -84,15 +84,15 @@ some_not test first (suc count) n above below fails =
 
 -- ---- which tasks live
 -- a task's own future, as the code has it
-abbrev pub own_of : {X : Type 0} → Body X → ℕ → ℕ
+abbrev pub own_of : {X : Type 0} → RunState X → ℕ → ℕ
 own_of body task = future_of (parts body.parts) task
 
 module _ {X : Type 0} {a : Added X} where
-  pub pends_so : (out : Option ℕ) (c : Setting a) (body : Body X) (s : State a.Kept) (task : ℕ) → Stands out c body s
+  pub pends_so : (out : Option ℕ) (c : Context a) (body : RunState X) (s : State a.Kept) (task : ℕ) → Stands out c body s
       → is_pending_at (slice_get body.parts.futures (own_of body task)) ≡ lives s.loop.parts task
   pends_so out c body s task h =
-      pending_kept h.ties body.parts s.loop.parts h.keeps (own_of body task)
-      ∙ ap (is_pending s.loop.parts) (future_of_kept h.ties body.parts s.loop.parts h.keeps task)
+      pending_kept h.name_map body.parts s.loop.parts h.keeps (own_of body task)
+      ∙ ap (is_pending s.loop.parts) (future_of_kept h.name_map body.parts s.loop.parts h.keeps task)
 
 -- ---- all are cancelled
 abbrev pub tasks_to : ℕ → List ℕ
@@ -102,11 +102,11 @@ abbrev pub ended_to : {S : Type 0} → ℕ → State S → State S
 ended_to count s = in_loop (book (request_each ByEnd (tasks_to count))) s
 
 -- so far, from wherever it began
-abbrev pub HasCancelled : {X : Type 0} → (a : Added X) → (first body : Body X) → ℕ → Type 0
-HasCancelled a first body count = (c : Setting a) (s : State a.Kept) → IsBetween c first s → IsAfterCallback c body (ended_to count s)
+abbrev pub HasCancelled : {X : Type 0} → (a : Added X) → (first body : RunState X) → ℕ → Type 0
+HasCancelled a first body count = (c : Context a) (s : State a.Kept) → IsBetween c first s → IsAfterCallback c body (ended_to count s)
 
 module _ {X : Type 0} {a : Added X} where
-  pub cancelled_first : (body : Body X) → HasCancelled a body body 0
+  pub cancelled_first : (body : RunState X) → HasCancelled a body body 0
   cancelled_first body c s h =
       subst (IsAfterCallback c body) (ap (λ es. record s { loop = record s.loop { ledger = es } }) (sym (append-nil s.loop.ledger)))
       (record { stands = h.stands; called = h.called; running = h.running })
@@ -135,28 +135,28 @@ ended_more count s =
 
 module _ {X : Type 0} {a : Added X} where
   -- it lives, and was asked to end
-  pub cancelled_more : (first body : Body X) (count : ℕ) (v : View) → HasCancelled a first body count
+  pub cancelled_more : (first body : RunState X) (count : ℕ) (v : View) → HasCancelled a first body count
       → is_pending_at (slice_get body.parts.futures (own_of body count)) ≡ true
       → parts v ≡ (cancel (own_of body count) (parts body.parts)).parts → Appended body.parts.queue v.queue
       → v ≡ record body.parts { queue = v.queue; futures = v.futures; tasks = v.tasks }
       → HasCancelled a first (record body { parts = v }) (suc count)
-  cancelled_more first body count v had pends after appended beside c s h =
+  cancelled_more first body count v had pends after appended frame c s h =
       subst (IsAfterCallback c (record body { parts = v }))
       (sym (ended_more count s ∙ ap (λ b. in_loop (book (request_where b ByEnd (future_of p count))) t) alive
       ∙ ap (λ id. in_loop (book (request_where true ByEnd id)) t) (sym same)))
       (record {
         stands =
             stands_on None None c body t v (book (λ q. (request ByEnd own q).booked)) so.stands
-            (kept_request so.stands.ties body.parts v p so.stands.keeps ByEnd own (record {
+            (kept_request so.stands.name_map body.parts v p so.stands.keeps ByEnd own (record {
               parts = after;
               queue = appended;
-              time = ap (λ (x : View). x.time) beside;
-              schedule = ap (λ (x : View). x.schedule) beside;
+              time = ap (λ (x : View). x.time) frame;
+              schedule = ap (λ (x : View). x.schedule) frame;
             }))
             (leaves_request ByEnd own p) (spares_none p (named_in a t)) (refl, refl) (below_appended body.parts.queue v.queue appended)
-            (ap (λ (x : View). x.profile) beside);
-        called = ap (λ (x : View). x.called) beside ∙ so.called;
-        running = ap (λ (x : View). x.running) beside ∙ so.running;
+            (ap (λ (x : View). x.profile) frame);
+        called = ap (λ (x : View). x.called) frame ∙ so.called;
+        running = ap (λ (x : View). x.running) frame ∙ so.running;
       })
     where
       t : State a.Kept
@@ -172,7 +172,7 @@ module _ {X : Type 0} {a : Added X} where
       so = had c s h
 
       same : own ≡ future_of p count
-      same = future_of_kept so.stands.ties body.parts p so.stands.keeps count
+      same = future_of_kept so.stands.name_map body.parts p so.stands.keeps count
 
       alive : lives p count ≡ true
       alive = sym (pends_so None c body t count so.stands) ∙ pends
@@ -182,7 +182,7 @@ plus_one n = omega arith
 
 module _ {X : Type 0} {a : Added X} where
   -- it is done
-  pub cancelled_on : (first body : Body X) (count : ℕ) → HasCancelled a first body count
+  pub cancelled_on : (first body : RunState X) (count : ℕ) → HasCancelled a first body count
       → is_pending_at (slice_get body.parts.futures (own_of body count)) ≡ false → HasCancelled a first body (suc count)
   cancelled_on first body count had done c s h =
       subst (IsAfterCallback c body) (sym (ended_more count s ∙ ap (λ b. in_loop (book (request_where b ByEnd (future_of t.loop.parts count))) t) over
@@ -197,7 +197,7 @@ module _ {X : Type 0} {a : Added X} where
       over : lives t.loop.parts count ≡ false
       over = sym (pends_so None c body t count so.stands) ∙ done
 
-  pub cancelled_idle : (first body : Body X) (count : ℕ) → Possible a IsBetween first → HasCancelled a first body count → body.parts.called ≡ None
+  pub cancelled_idle : (first body : RunState X) (count : ℕ) → Possible a IsBetween first → HasCancelled a first body count → body.parts.called ≡ None
   cancelled_idle first body count alive had =
       ∥∥₁_elim alive (same_prop body.parts.called None) (λ w. (had w.0 w.1.0 w.1.1).called)
 
@@ -214,10 +214,10 @@ cancelled_sound added s sound =
         (each_after (names_made (next_task s.loop.parts)) false None ByEnd (range_with_len 0 (next_task s.loop.parts)) s.loop.parts)
 
 -- ---- whether one lives
-abbrev pub NoneLives : {X : Type 0} → Body X → ℕ → Type 0
+abbrev pub NoneLives : {X : Type 0} → RunState X → ℕ → Type 0
 NoneLives body count = (task : ℕ) → task < count → is_pending_at (slice_get body.parts.futures (own_of body task)) ≡ false
 
-pub none_more : {X : Type 0} (body : Body X) (count : ℕ) → NoneLives body count → is_pending_at (slice_get body.parts.futures (own_of body count)) ≡ false
+pub none_more : {X : Type 0} (body : RunState X) (count : ℕ) → NoneLives body count → is_pending_at (slice_get body.parts.futures (own_of body count)) ≡ false
     → NoneLives body (count + 1)
 none_more body count none done task below = at (cases_eq task count)
   where
@@ -230,22 +230,22 @@ none_more body count none done task below = at (cases_eq task count)
         lower (inr more) = let same : task ≡ count = omega (arith, below, more) in absurd (other same)
 
 module _ {X : Type 0} {a : Added X} where
-  pub cancelled_all : (first body : Body X) (count : ℕ) → count ≡ length first.slots.items → HasCancelled a first body count
-      → (c : Setting a) (s : State a.Kept) → IsBetween c first s → IsBetween c body (in_loop cancel_everything s)
+  pub cancelled_all : (first body : RunState X) (count : ℕ) → count ≡ length first.slots.items → HasCancelled a first body count
+      → (c : Context a) (s : State a.Kept) → IsBetween c first s → IsBetween c body (in_loop cancel_everything s)
   cancelled_all first body count all had c s h =
       let so = subst (λ n. IsAfterCallback c body (ended_to n s)) (all ∙ h.stands.made) (had c s h) in
       record { stands = so.stands; called = so.called; running = so.running; sound = cancelled_sound a.meaning s h.sound }
 
-  pub some_lives : (body : Body X) (task : ℕ) → task < length body.slots.items
+  pub some_lives : (body : RunState X) (task : ℕ) → task < length body.slots.items
       → is_pending_at (slice_get body.parts.futures (own_of body task)) ≡ true
-      → (c : Setting a) (s : State a.Kept) → IsBetween c body s → true ≡ not (no_task_lives s.loop.parts)
+      → (c : Context a) (s : State a.Kept) → IsBetween c body s → true ≡ not (no_task_lives s.loop.parts)
   some_lives body task within pends c s h =
       let alive = sym (pends_so None c body s task h.stands) ∙ pends in
       let made = h.stands.made in
       sym (ap not (some_not (λ t. not (lives s.loop.parts t)) 0 (next_task s.loop.parts) task (omega arith) (omega (arith, within, made)) (ap not alive)))
 
-  pub none_lives : (body : Body X) → NoneLives body (length body.slots.items)
-      → (c : Setting a) (s : State a.Kept) → IsBetween c body s → false ≡ not (no_task_lives s.loop.parts)
+  pub none_lives : (body : RunState X) → NoneLives body (length body.slots.items)
+      → (c : Context a) (s : State a.Kept) → IsBetween c body s → false ≡ not (no_task_lives s.loop.parts)
   none_lives body none c s h =
       sym (ap not (all_so (λ t. not (lives s.loop.parts t)) 0 (next_task s.loop.parts) each))
     where
@@ -255,11 +255,11 @@ module _ {X : Type 0} {a : Added X} where
           ap not (sym (pends_so None c body s task h.stands) ∙ none task (omega (arith, below, made)))
 
   -- ---- the end of a turn
-  pub outcome_so : (c : Setting a) (body : Body X) (s : State a.Kept) → IsBetween c body s
+  pub outcome_so : (c : Context a) (body : RunState X) (s : State a.Kept) → IsBetween c body s
       → outcome_at (slice_get body.parts.futures (own_of body 0)) ≡ future_outcome s.loop.parts (future_of s.loop.parts 0)
   outcome_so c body s h =
-      ap (λ id. outcome_at (slice_get body.parts.futures id)) (future_of_kept h.stands.ties body.parts s.loop.parts h.stands.keeps 0)
-      ∙ outcome_kept h.stands.ties body.parts s.loop.parts h.stands.keeps (future_of s.loop.parts 0)
+      ap (λ id. outcome_at (slice_get body.parts.futures id)) (future_of_kept h.stands.name_map body.parts s.loop.parts h.stands.keeps 0)
+      ∙ outcome_kept h.stands.name_map body.parts s.loop.parts h.stands.keeps (future_of s.loop.parts 0)
       (own_stays None c body s h.stands h.sound.loop.parts.owns 0)
 
 -- main's outcome, where main's callback ran and no task lives
@@ -271,7 +271,7 @@ abbrev pub said_at : Option Outcome → Said.Went
 said_at None = went.Went
 said_at (Some outcome) = went.Finished outcome
 
-module _ {X : Type 0} {a : Added X} (c : Setting a) (body : Body X) (s : State a.Kept) (h : IsBetween c body s) where
+module _ {X : Type 0} {a : Added X} (c : Context a) (body : RunState X) (s : State a.Kept) (h : IsBetween c body s) where
   said_so : (o : Option Outcome) → finished_as s ≡ o → Turned c body (said_at o) (finished_if (finished_as s) s)
   said_so None e = subst (λ o. Turned c body went.Went (finished_if o s)) (sym e) h
   said_so (Some outcome) e = subst (λ o. Turned c body (went.Finished outcome) (finished_if o s)) (sym e)

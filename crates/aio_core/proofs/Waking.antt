@@ -22,7 +22,7 @@ use Rattle.model_machine.specs.State.{State, unbooked_in}
 use Rattle.model_machine.specs.Turn.{is_stalled, longest_wait, wait_of, watched_by, woken_by}
 use Rattle.refine_parts.proofs.Appending.{kept_soon_all, waiting_kept}
 use Rattle.refine_parts.proofs.Running.{keeps_barred}
-use Rattle.refine_parts.proofs.Scheduling.{due_ties, keeps_fallen, stall_kept, wait_kept}
+use Rattle.refine_parts.proofs.Scheduling.{due_name_map, keeps_fallen, stall_kept, wait_kept}
 use Rattle.refine_parts.specs.Waiting.{is_none_watched, stalls_by, wait_by}
 use Rattle.law_runs.proofs.Turning.{woken_in}
 use Rattle.aio_ready.specs.Queue as queue
@@ -30,13 +30,13 @@ use Rattle.aio_timer.specs.Schedule as schedule
 use Rattle.aio_timer.specs.declared.live.TimerId.{TimerId}
 use Rattle.aio_cancel.specs.Awaitables.{waiting}
 use Rattle.aio_timeout.proofs.Keeping.{timeouts_stay}
-use Rattle.aio_group.specs.GoesOn.{GoesOn}
+use Rattle.aio_group.specs.GoesOn.{PartsGoOn}
 use Rattle.aio_group.proofs.Standing.{groups_on}
 use Rattle.aio_task.specs.View.{View}
-use Rattle.aio_task.specs.Keeps.{Ties, Keeps, Knows, ByTimer, handle_as}
+use Rattle.aio_task.specs.Keeps.{NameMap, Keeps, Knows, ByTimer, handle_as}
 use Rattle.aio_extra.specs.Added.{Added, GoesBeside, named_in}
-use Rattle.aio_body.specs.declared.body.Body.{Body}
-use Rattle.aio_body.specs.Stands.{Setting, Stands, IsBetween, IsOwnSleep, Possible}
+use Rattle.aio_body.specs.declared.run_state.RunState.{RunState}
+use Rattle.aio_body.specs.Stands.{Context, Stands, IsBetween, IsOwnSleep, Possible}
 use Rattle.aio_body.proofs.Lasting.{parts_change, spares_none, stands_left}
 use Rattle.aio_body.proofs.Left.{leaves_handles}
 use Rattle.aio_body.proofs.May.{same_prop}
@@ -53,7 +53,7 @@ fits_time wait watched (answer.Turn now items) h =
 fits_time wait watched _ h = absurd (false≢true h)
 
 -- ---- the time
-pub keeps_timed : (t : Ties) (v : View) (p : Parts) (now : ℕ) → Keeps t v p → Keeps t (record v { time = now }) (record p { time = now })
+pub keeps_timed : (t : NameMap) (v : View) (p : Parts) (now : ℕ) → Keeps t v p → Keeps t (record v { time = now }) (record p { time = now })
 keeps_timed t v p now k = record {
   time = refl;
   handles = record {
@@ -80,31 +80,31 @@ own_timed : (p : Parts) (now : ℕ) (named : ℕ → Type 0) (sleeper : Option �
     → IsOwnSleep (record p { time = now }) named sleeper id
 own_timed p now named sleeper id own = record { plain = own.plain; unnamed = own.unnamed; alone = own.alone }
 
-knows_timed : (t : Ties) (p : Parts) (now bar tag : ℕ) (id : TimerId) → Knows t p tag (ByTimer id)
+knows_timed : (t : NameMap) (p : Parts) (now bar tag : ℕ) (id : TimerId) → Knows t p tag (ByTimer id)
     → Knows (record t { bar = bar }) (record p { time = now }) tag (ByTimer id)
 knows_timed t p now bar tag id k = record { given = k.given; known = k.known }
 
 module _ {X : Type 0} {a : Added X} where
   -- The time is set, and the bar stands here.
-  pub stands_timed : (c : Setting a) (body : Body X) (s : State a.Kept) (v : View) (now bar : ℕ) (h : Stands None c body s) → now ≤ most
+  pub stands_timed : (c : Context a) (body : RunState X) (s : State a.Kept) (v : View) (now bar : ℕ) (h : Stands None c body s) → now ≤ most
       → v.profile ≡ body.parts.profile
-      → Keeps (record h.ties { bar = bar }) v (record s.loop.parts { time = now })
+      → Keeps (record h.name_map { bar = bar }) v (record s.loop.parts { time = now })
       → Stands None (record c { left = length v.queue.below; bar = bar }) (record body { parts = v }) (unbooked_in (λ p. record p { time = now }) s)
   stands_timed c body s v now bar h few profile keeps =
       parts_change None c body s u v body.timeouts body.groups body.extra (in_parts (λ _. q) s.loop) s.extra (length v.queue.below) bar h (record {
         keeps = keeps;
         blocks = record {
-          timeouts = timeouts_stay h.ties u p q body.timeouts s.loop.timeouts (λ tag below. refl) (omega arith) h.blocks.timeouts;
-          groups = groups_on h.ties u p q on refl body.groups s.loop.groups h.blocks.groups;
+          timeouts = timeouts_stay h.name_map u p q body.timeouts s.loop.timeouts (λ tag below. refl) (omega arith) h.blocks.timeouts;
+          groups = groups_on h.name_map u p q on refl body.groups s.loop.groups h.blocks.groups;
         };
         tasks = refl;
         living = λ task l. l;
-        knows = λ tag timer. knows_timed h.ties p now bar tag timer;
+        knows = λ tag timer. knows_timed h.name_map p now bar tag timer;
         own = own_timed p now (named_in a s);
         gone = λ id e. own_timed p now (named_in a s) None id (h.gone id e);
         time = few;
         counts = h.counts;
-        extra = a.goes_on h.ties u p q body.extra s.extra h.extra beside;
+        extra = a.goes_on h.name_map u p q body.extra s.extra h.extra frame;
       }) refl refl profile
     where
       p : Parts
@@ -113,10 +113,10 @@ module _ {X : Type 0} {a : Added X} where
       q : Parts
       q = record s.loop.parts { time = now }
 
-      u : Ties
-      u = record h.ties { bar = bar }
+      u : NameMap
+      u = record h.name_map { bar = bar }
 
-      on : GoesOn p q
+      on : PartsGoOn p q
       on = record {
         tasks = omega arith;
         futures = omega arith;
@@ -125,8 +125,8 @@ module _ {X : Type 0} {a : Added X} where
         failures = λ _ _ e. e;
       }
 
-      beside : GoesBeside (a.owns s.extra) h.ties p u q
-      beside = record {
+      frame : GoesBeside (a.owns s.extra) h.name_map p u q
+      frame = record {
         known = λ tag below. refl;
         tags = omega arith;
         gone = λ id own. refl;
@@ -176,7 +176,7 @@ due_keeps p =
     fall_due_keeps (by_deadline (filter (λ (timer : Timer). nat_le timer.when p.time) p.timers))
     (record p { timers = filter (λ (timer : Timer). nat_lt p.time timer.when) p.timers })
 
-module _ {X : Type 0} {a : Added X} (c : Setting a) (body : Body X) (s : State a.Kept) (actions : List Action) (now : ℕ)
+module _ {X : Type 0} {a : Added X} (c : Context a) (body : RunState X) (s : State a.Kept) (actions : List Action) (now : ℕ)
     (few : now ≤ most) where
   abbrev at_now : View
   at_now = timed_view now body.parts
@@ -194,43 +194,43 @@ module _ {X : Type 0} {a : Added X} (c : Setting a) (body : Body X) (s : State a
   fell = unbooked_in due told
 
   timed_stands : (h : Stands None c body s)
-      → Stands None (record c { left = length body.parts.queue.below; bar = h.ties.bar }) (record body { parts = at_now }) timed
-  timed_stands h = stands_timed c body s at_now now h.ties.bar h few refl (keeps_timed h.ties body.parts s.loop.parts now h.keeps)
+      → Stands None (record c { left = length body.parts.queue.below; bar = h.name_map.bar }) (record body { parts = at_now }) timed
+  timed_stands h = stands_timed c body s at_now now h.name_map.bar h few refl (keeps_timed h.name_map body.parts s.loop.parts now h.keeps)
 
-  told_stands : (d : Setting a) (h : Stands None d (record body { parts = at_now }) timed)
+  told_stands : (d : Context a) (h : Stands None d (record body { parts = at_now }) timed)
       → Stands None (record d { left = length heard.queue.below }) (record body { parts = heard }) told
   told_stands d h =
       let is = soon_all_keeps actions timed.loop.parts in
       stands_left None None d (record body { parts = at_now }) timed heard (in_parts (soon_all actions)) h
-      (kept_soon_all h.ties at_now timed.loop.parts actions h.keeps)
+      (kept_soon_all h.name_map at_now timed.loop.parts actions h.keeps)
       (leaves_handles timed.loop.parts (soon_all actions timed.loop.parts) is.0 is.1 is.2)
       (spares_none timed.loop.parts (named_in a timed)) (refl, refl)
       refl
 
-  fell_stands : (d : Setting a) (h : Stands None d (record body { parts = heard }) told)
+  fell_stands : (d : Context a) (h : Stands None d (record body { parts = heard }) told)
       → Stands None (record d { left = length (due_view now heard).queue.below }) (record body { parts = due_view now heard })
       fell
   fell_stands d h =
       let is = due_keeps told.loop.parts in
       stands_left None None d (record body { parts = heard }) told (due_view now heard) (in_parts due) h
       (record {
-        ties = h.ties;
-        keeps = keeps_fallen h.ties heard told.loop.parts now h.keeps refl;
-        extends = due_ties h.ties told.loop.parts;
+        name_map = h.name_map;
+        keeps = keeps_fallen h.name_map heard told.loop.parts now h.keeps refl;
+        extends = due_name_map h.name_map told.loop.parts;
       })
       (leaves_handles told.loop.parts (due told.loop.parts) is.0 is.1 is.2) (spares_none told.loop.parts (named_in a told))
       (refl, refl) refl
 
-  all_stand : (d : Setting a) (h : Stands None d (record body { parts = due_view now heard }) fell)
+  all_stand : (d : Context a) (h : Stands None d (record body { parts = due_view now heard }) fell)
       → Stands None (record d { left = length fell.loop.parts.pending; bar = fell.loop.parts.next_stamp })
       (record body { parts = woken_view actions now body.parts }) fell
   all_stand d h =
       subst (λ n. Stands None (record d { left = n; bar = fell.loop.parts.next_stamp })
       (record body { parts = woken_view actions now body.parts }) fell)
-      (ap length (waiting_kept h.ties (due_view now heard) fell.loop.parts h.keeps) ∙ length-map fell.loop.parts.pending
-      (handle_as h.ties.known))
+      (ap length (waiting_kept h.name_map (due_view now heard) fell.loop.parts h.keeps) ∙ length-map fell.loop.parts.pending
+      (handle_as h.name_map.known))
       (stands_timed d (record body { parts = due_view now heard }) fell (woken_view actions now body.parts) fell.loop.parts.time
-      fell.loop.parts.next_stamp h h.time refl (keeps_barred h.ties (due_view now heard) fell.loop.parts h.keeps))
+      fell.loop.parts.next_stamp h h.time refl (keeps_barred h.name_map (due_view now heard) fell.loop.parts h.keeps))
 
   pub wakes : Stands None c body s
       → Stands None (record c { left = length fell.loop.parts.pending; bar = fell.loop.parts.next_stamp })
@@ -246,14 +246,14 @@ pub later_time : (it : Answer) → IsTime it → (time : ℕ) → time ≤ most 
 later_time it h time few = let most_it = most_of it h in omega (arith, few, most_it)
 
 module _ {X : Type 0} {a : Added X} where
-  pub time_few : (body : Body X) → Possible a IsBetween body → body.parts.time ≤ most
+  pub time_few : (body : RunState X) → Possible a IsBetween body → body.parts.time ≤ most
   time_few body alive =
       ∥∥₁_elim alive le_prop (λ w. subst (λ n. n ≤ most) (sym w.1.1.stands.keeps.time) w.1.1.stands.time)
 
-  pub idle_alive : (body : Body X) → Possible a IsBetween body → body.parts.called ≡ None
+  pub idle_alive : (body : RunState X) → Possible a IsBetween body → body.parts.called ≡ None
   idle_alive body alive = ∥∥₁_elim alive (same_prop body.parts.called None) (λ w. w.1.1.called)
 
-  pub wakes_so : (c : Setting a) (body : Body X) (s : State a.Kept) (it : Answer) → IsTime it → IsBetween c body s
+  pub wakes_so : (c : Context a) (body : RunState X) (s : State a.Kept) (it : Answer) → IsTime it → IsBetween c body s
       → IsBetween (all_below c (unbooked_in (woken_by it) s))
       (record body { parts = woken_view (news_of it) (max body.parts.time (time_of it)) body.parts })
       (unbooked_in (woken_by it) s)
@@ -275,7 +275,7 @@ module _ {X : Type 0} {a : Added X} where
       same : woken_by it s.loop.parts ≡ due (soon_all (news_of it) (record s.loop.parts { time = now }))
       same = ap (λ n. due (soon_all (news_of it) (record s.loop.parts { time = max n (time_of it) }))) (sym h.stands.keeps.time)
 
-  pub tasks_few : (body : Body X) → Possible a IsBetween body → length body.slots.items < 2 ^ 32
+  pub tasks_few : (body : RunState X) → Possible a IsBetween body → length body.slots.items < 2 ^ 32
   tasks_few body alive = ∥∥₁_elim alive le_prop (λ w. w.1.1.stands.few)
 
 -- ---- what a turn asks first
@@ -316,13 +316,13 @@ wait_idle true first time e = refl
 wait_idle false first time e = absurd (false≢true e)
 
 module _ {X : Type 0} {a : Added X} where
-  pub stalls_so : (c : Setting a) (body : Body X) (s : State a.Kept) → IsBetween c body s
+  pub stalls_so : (c : Context a) (body : RunState X) (s : State a.Kept) → IsBetween c body s
       → stalls_by (queue.is_empty (waiting body.parts.queue)) (schedule.first_when body.parts.schedule.live)
       (watched_by a.meaning s)
       ≡ is_stalled a.meaning s
-  stalls_so c body s h = sym (stall_kept h.stands.ties body.parts s.loop.parts h.stands.keeps (watched_by a.meaning s))
+  stalls_so c body s h = sym (stall_kept h.stands.name_map body.parts s.loop.parts h.stands.keeps (watched_by a.meaning s))
 
-  pub waits_for : (c : Setting a) (body : Body X) (s : State a.Kept) → IsBetween c body s
+  pub waits_for : (c : Context a) (body : RunState X) (s : State a.Kept) → IsBetween c body s
       → wait_by (queue.is_empty (waiting body.parts.queue)) (schedule.first_when body.parts.schedule.live)
       body.parts.time ≡ wait_of s.loop.parts
-  waits_for c body s h = sym (wait_kept h.stands.ties body.parts s.loop.parts h.stands.keeps)
+  waits_for c body s h = sym (wait_kept h.stands.name_map body.parts s.loop.parts h.stands.keeps)

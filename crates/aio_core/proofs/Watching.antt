@@ -11,10 +11,10 @@ use Rattle.model_machine.specs.State.{State}
 use Rattle.model_machine.specs.Turn.{watched_by}
 use Rattle.refine_parts.specs.Waiting.{is_none_watched}
 use Rattle.aio_transports.specs.Kept.{Kept}
-use Rattle.aio_transports.specs.Standing.{StandsFor as AreTransports}
+use Rattle.aio_transports.specs.Standing.{TransportsStandFor as AreTransports}
 use Rattle.aio_extra.specs.Added.{Added}
-use Rattle.aio_body.specs.declared.body.Body.{Body}
-use Rattle.aio_body.specs.Stands.{Setting, Stands}
+use Rattle.aio_body.specs.declared.run_state.RunState.{RunState}
+use Rattle.aio_body.specs.Stands.{Context, Stands}
 use Rattle.aio_core.specs.Watched.{StandsOn}
 
 -- ---- whether there is an entry
@@ -47,12 +47,12 @@ list_so added s first entries watches opened as_added all =
 module _ {X : Type 0} {a : Added X} where
   -- ---- what is stood for
   -- other transports stand for the same streams
-  module _ (old : Body X) (transports : Kept) (same : (streams : Streams) → AreTransports old.transports streams
+  module _ (old : RunState X) (transports : Kept) (same : (streams : Streams) → AreTransports old.transports streams
       → AreTransports transports streams) where
-    stands_so : (c : Setting a) (s : State a.Kept) → Stands None c old s → Stands None c (record old { transports = transports })
+    stands_so : (c : Context a) (s : State a.Kept) → Stands None c old s → Stands None c (record old { transports = transports })
         s
     stands_so c s h = record {
-      ties = h.ties;
+      name_map = h.name_map;
       code = h.code;
       profile = h.profile;
       keeps = h.keeps;

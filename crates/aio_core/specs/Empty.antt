@@ -5,11 +5,11 @@ use Rattle.model_tree.specs.Syntax.{Program}
 use Rattle.model_machine.specs.Replies.{most_ids}
 use Rattle.aio_flat.specs.Code.{IsCodeOf}
 use Rattle.aio_task.specs.View.{empty}
-use Rattle.aio_transports.specs.Standing.{StandsFor as AreTransports}
+use Rattle.aio_transports.specs.Standing.{TransportsStandFor as AreTransports}
 use Rattle.aio_body.specs.Stands.{profile_of}
-use Rattle.aio_body.specs.declared.body.Body.{Body}
+use Rattle.aio_body.specs.declared.run_state.RunState.{RunState}
 
-pub record IsEmpty {X : Type 0} (program : Program) (extra : X) (body : Body X) : Type 0 where
+pub record IsEmpty {X : Type 0} (program : Program) (extra : X) (body : RunState X) : Type 0 where
   pub code : IsCodeOf program body.code
   pub parts : body.parts ≡ empty (profile_of program)
   pub slots : body.slots.items ≡ []

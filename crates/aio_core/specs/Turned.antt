@@ -35,7 +35,7 @@ ended kernel = kernel.ended
 
 -- A kernel stands for a state between two turns, where these events were taken out before and the outside has these left
 -- to answer. The run hasn't ended.
-pub record StandsFor {X : Type 0} {g : _} (a : Added X) (past : List Event) (left : List Entry) (kernel : Kernel X g)
+pub record KernelStandsFor {X : Type 0} {g : _} (a : Added X) (past : List Event) (left : List Entry) (kernel : Kernel X g)
     (s : State a.Kept) : Type 0 where
   pub events : s.events ≡ past ++ untaken kernel
   pub answers : s.answers ≡ left
@@ -44,14 +44,14 @@ pub record StandsFor {X : Type 0} {g : _} (a : Added X) (past : List Event) (lef
 
 -- a run begins, in which what is added keeps nothing so far
 abbrev pub Begins : {X : Type 0} {g : _} → (a : Added X) → a.Kept → Program → Kernel X g → Type 0
-Begins a kept program kernel = (answers : List Entry) → StandsFor a [] answers kernel (start most_ids kept program answers)
+Begins a kept program kernel = (answers : List Entry) → KernelStandsFor a [] answers kernel (start most_ids kept program answers)
 
 -- ---- a turn
 abbrev pub stood_for : {X : Type 0} {g : _} → (a : Added X) → Kernel X g → Stood a.Kept
-stood_for a kernel past left s = StandsFor a past left kernel s
+stood_for a kernel past left s = KernelStandsFor a past left kernel s
 
-abbrev pub GoesOn : {X : Type 0} {g : _} → Added X → List Answer → (old new : Kernel X g) → Type 0
-GoesOn a had old new = GoesOnFrom a.meaning had (stood_for a old) (stood_for a new)
+abbrev pub KernelGoesOn : {X : Type 0} {g : _} → Added X → List Answer → (old new : Kernel X g) → Type 0
+KernelGoesOn a had old new = GoesOnFrom a.meaning had (stood_for a old) (stood_for a new)
 
 abbrev pub Ends : {X : Type 0} {g : _} → (a : Added X) → (ways : End → State a.Kept → Type 0) → (past : List Event)
     → (new : Kernel X g) → State a.Kept → Type 0
@@ -73,15 +73,15 @@ TurnsTo a before after old new said = ComesTo a.meaning before after (change_of 
 -- A turn of a run that hasn't ended. `said` is what it came to; memory may have been refused after it.
 pub record TurnedBy {X : Type 0} {g : _} (a : Added X) (wire : WireTurn) (old new : Kernel X g) (result said : code.Went) : Type 0 where
   pub turns : TurnsTo a wire.before wire.after old new said
-  pub stalls : (past : List Event) (answers : List Entry) (s : State a.Kept) → StandsFor a past answers old s
+  pub stalls : (past : List Event) (answers : List Entry) (s : State a.Kept) → KernelStandsFor a past answers old s
       → StallsAs (is_stalled a.meaning s) said
-  pub asks : (past : List Event) (answers : List Entry) (s : State a.Kept) → StandsFor a past answers old s
+  pub asks : (past : List Event) (answers : List Entry) (s : State a.Kept) → KernelStandsFor a past answers old s
       → AsksBy (untaken old) (untaken new) wire.before wire.after said
-  pub caused : (past : List Event) (answers : List Entry) (s : State a.Kept) → StandsFor a past answers old s
+  pub caused : (past : List Event) (answers : List Entry) (s : State a.Kept) → KernelStandsFor a past answers old s
       → HasCause wire.before wire.after said
-  pub starved : (past : List Event) (answers : List Entry) (s : State a.Kept) → StandsFor a past answers old s
+  pub starved : (past : List Event) (answers : List Entry) (s : State a.Kept) → KernelStandsFor a past answers old s
       → StarvesAs a.meaning wire (stood_for a old) (untaken old) said
-  pub still : UnlessFailed wire.quiet said
+  pub unchanged : UnlessFailed wire.quiet said
   pub failing : wire.fails → OfFailing said
   pub either : (result ≡ said) ⊎ (result ≡ went.Stopped stop.Memory)
 
@@ -95,11 +95,11 @@ pub record KernelTurned {X W : Type 0} {g : _} (a : Added X) (o : Outside W) (wa
   -- where the run hadn't ended it made one
   pub turned : ended old ≡ None → (said : code.Went) × TurnedBy a (wire_turn o was is) old new result said
   -- which is sound all along
-  pub sound : (past : List Event) (answers : List Entry) (s : State a.Kept) → StandsFor a past answers old s → IsTurnSound a s
+  pub sound : (past : List Event) (answers : List Entry) (s : State a.Kept) → KernelStandsFor a past answers old s → IsTurnSound a s
   -- of the wire: what stays from call to call, and whether its answers fit, which stays, with its count of faults, which didn't fall
   pub keeps : o.keeps was is
   pub stays : Stays (o.seen was) (o.seen is)
   -- the end is kept, and after it nothing is asked
   pub kept : KeepsEnd result (ended new)
   pub again : IfSome (ended old) (λ went. Again went result)
-  pub still : IfSome (ended old) (λ went. is ≡ was)
+  pub unchanged : IfSome (ended old) (λ went. is ≡ was)

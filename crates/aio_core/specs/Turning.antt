@@ -24,23 +24,23 @@ use Rattle.aio_wire.specs.Told.{refused_of}
 use Rattle.aio_wire.specs.declared.stop.Stop.{Stop}
 use Rattle.aio_wire.specs.declared.stop.Stop.TheVariants as stop
 use Rattle.aio_extra.specs.Added.{Added}
-use Rattle.aio_body.specs.declared.body.Body.{Body}
+use Rattle.aio_body.specs.declared.run_state.RunState.{RunState}
 use Rattle.aio_core.specs.declared.went.Went as code
 use Rattle.aio_core.specs.declared.went.Went.TheVariants as went
-use Rattle.aio_body.specs.Asking.{GoesOn, Piece, WentBegins}
-use Rattle.aio_body.specs.Stands.{Setting, IsBetween, Possible}
+use Rattle.aio_body.specs.Asking.{EventsGrow, Piece, WentBegins}
+use Rattle.aio_body.specs.Stands.{Context, IsBetween, Possible}
 use Rattle.aio_core.specs.Asked.{Asks}
 
 -- none stands before the bar any more
-abbrev pub at_bar : {X : Type 0} {a : Added X} → Setting a → Setting a
+abbrev pub at_bar : {X : Type 0} {a : Added X} → Context a → Context a
 at_bar c = record c { left = 0 }
 
 -- ---- between two turns
 -- these events were taken out before, and the outside has these answers left
-abbrev pub resting : {X : Type 0} → (a : Added X) → List Event → List Entry → (bar : ℕ) → Setting a
+abbrev pub resting : {X : Type 0} → (a : Added X) → List Event → List Entry → (bar : ℕ) → Context a
 resting a past answers bar = record { past = past; answers = answers; left = 0; bar = bar; coroutine = None }
 
-abbrev pub IsAtRest : {X : Type 0} → (a : Added X) → List Event → List Entry → Body X → State a.Kept → Type 0
+abbrev pub IsAtRest : {X : Type 0} → (a : Added X) → List Event → List Entry → RunState X → State a.Kept → Type 0
 IsAtRest a past answers body s = (bar : ℕ) × IsBetween (resting a past answers bar) body s
 
 -- ---- what a turn asks
@@ -53,7 +53,7 @@ IsTime (answer.Turn now items) = now ≤ most
 IsTime _ = ⊥
 
 -- all that is pending stands before the bar
-abbrev pub all_below : {X : Type 0} {a : Added X} → Setting a → State a.Kept → Setting a
+abbrev pub all_below : {X : Type 0} {a : Added X} → Context a → State a.Kept → Context a
 all_below c s = record c { left = length s.loop.parts.pending; bar = s.loop.parts.next_stamp }
 
 -- ---- the end of a turn
@@ -62,7 +62,7 @@ abbrev pub HasMade : {S : Type 0} → (tasks : ℕ) → State S → Type 0
 HasMade tasks s = (tasks ≡ next_task s.loop.parts) × (tasks < 2 ^ 32)
 
 -- The run goes on, or it ended in this way, and what happened is told. Where it finished, each task that was made has its slot.
-abbrev pub Turned : {X : Type 0} {a : Added X} → Setting a → Body X → code.Went → Went a.Kept → Type 0
+abbrev pub Turned : {X : Type 0} {a : Added X} → Context a → RunState X → code.Went → Went a.Kept → Type 0
 Turned c body went.Went (Goes now) = IsBetween c body now
 Turned c body (went.Finished outcome) (Stops it last) =
     (it ≡ end_of outcome) × ((last.events ≡ c.past ++ body.events.events) × HasMade (length body.slots.items) last)
@@ -70,7 +70,7 @@ Turned c body (went.Runaway task) (Stops it last) = (it ≡ end.Runaway task) ×
 Turned c body _ _ = ⊥
 
 -- As pieces of the machine: what comes once the turn has its answer, and the whole.
-abbrev pub turning_by : {X : Type 0} → (a : Added X) → Answer → (old new : Body X) → Piece a (State a.Kept) (Went a.Kept) code.Went
+abbrev pub turning_by : {X : Type 0} → (a : Added X) → Answer → (old new : RunState X) → Piece a (State a.Kept) (Went a.Kept) code.Went
 turning_by a answer old new =
     record {
       from = λ c s. IsBetween c old s;
@@ -80,7 +80,7 @@ turning_by a answer old new =
       begins = WentBegins;
     }
 
-abbrev pub turning : {X : Type 0} → (a : Added X) → (old new : Body X) → Piece a (State a.Kept) (Went a.Kept) code.Went
+abbrev pub turning : {X : Type 0} → (a : Added X) → (old new : RunState X) → Piece a (State a.Kept) (Went a.Kept) code.Went
 turning a old new =
     record {
       from = λ c s. IsBetween c old s;
@@ -104,7 +104,7 @@ Takes before after had = (rest : List Entry) → Agrees after rest → Agrees be
 abbrev pub Stood : Type 0 → Type 1
 Stood S = List Event → List Entry → State S → Type 0
 
-abbrev pub stood_by : {X : Type 0} → (a : Added X) → Body X → Stood a.Kept
+abbrev pub stood_by : {X : Type 0} → (a : Added X) → RunState X → Stood a.Kept
 stood_by a body past answers s = IsAtRest a past answers body s
 
 -- The machine's turn goes on, and is stood for, whatever the outside has left.
@@ -156,7 +156,7 @@ pub record Change (S : Type 0) : Type 1 where
   pub untaken : List Event
   pub tasks : ℕ
 
-abbrev pub changed_by : {X : Type 0} → (a : Added X) → (old new : Body X) → Change a.Kept
+abbrev pub changed_by : {X : Type 0} → (a : Added X) → (old new : RunState X) → Change a.Kept
 changed_by a old new =
     record { old = stood_by a old; new = stood_by a new; untaken = new.events.events; tasks = length new.slots.items }
 
@@ -215,7 +215,7 @@ pub record IsStarved {S : Type 0} (added : Extra S) (wire : WireTurn) (old : Sto
   pub left : (rest : List Entry) × Agrees wire.before.left (map Answered had ++ rest)
   pub first : List Event
   pub begins : (past : List Event) (rest : List Entry) (s : State S) → old past (map Answered had ++ rest) s
-      → GoesOn (past ++ (untaken ++ first)) (state_of (turn step_limit added s)).events
+      → EventsGrow (past ++ (untaken ++ first)) (state_of (turn step_limit added s)).events
   pub more : List Event
   pub one : length (calls_in more) ≤ 1
   pub asks : Asks (first ++ more) wire.before wire.after
@@ -226,12 +226,12 @@ StarvesAs added wire old untaken (went.Stopped stop.Memory) = IsStarved added wi
 StarvesAs added wire old untaken _ = Unit {0}
 
 -- where the run goes on there is a state that is stood for
-abbrev pub AliveIfWent : {X : Type 0} → Added X → code.Went → Body X → Type 0
+abbrev pub AliveIfWent : {X : Type 0} → Added X → code.Went → RunState X → Type 0
 AliveIfWent a went.Went body = Possible a IsBetween body
 AliveIfWent a _ body = Unit {0}
 
 -- between two turns there is such a state, unless the run ended
-abbrev pub AliveUnless : {X : Type 0} → Added X → (ended : Option code.Went) → Body X → Type 0
+abbrev pub AliveUnless : {X : Type 0} → Added X → (ended : Option code.Went) → RunState X → Type 0
 AliveUnless a None body = Possible a IsBetween body
 AliveUnless a (Some _) body = Unit {0}
 
@@ -256,7 +256,7 @@ OfFailing _ = ⊥
 
 -- ---- the turn of a body
 -- A turn was made over a wire, which `was` so before it and `is` so after it, and this was said.
-pub record TurnMade {X W : Type 0} (a : Added X) (o : Outside W) (was is : W) (old new : Body X) (said : code.Went) : Type 0 where
+pub record TurnMade {X W : Type 0} (a : Added X) (o : Outside W) (was is : W) (old new : RunState X) (said : code.Went) : Type 0 where
   -- what it comes to
   pub comes : ComesTo a.meaning (o.seen was) (o.seen is) (changed_by a old new) said
   -- it is stalled where the state was

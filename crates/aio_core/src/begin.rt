@@ -11,7 +11,7 @@ ghost use Rattle.aio_core.specs.Empty.{IsEmpty};
 ghost use Rattle.aio_core.specs.Turning.{IsAtRest};
 
 use aio_base::{Action, Memory, ValueList};
-use aio_body::Body;
+use aio_body::RunState;
 use aio_extra::Extra;
 use aio_flat::flatten;
 use aio_group::Groups;
@@ -27,7 +27,11 @@ const MOST_IDS: u32 = 4_294_967_295;
 
 /// A run begins at time 0, with main's task, whose first step is pending, and what is called when
 /// it is done.
-pub fn begin<X: Extra + Drop>(alloc: Global, program: &Program, extra: X) -> Result<Body<X>, Memory>
+pub fn begin<X: Extra + Drop>(
+    alloc: Global,
+    program: &Program,
+    extra: X,
+) -> Result<RunState<X>, Memory>
     ensures { IfOk result (λ body. (kept : X.added.Kept) → KeepsNothing X.added extra kept
         → (answers : List Entry)
         → IsAtRest X.added [] answers body (start most_ids kept program.now answers)) }
@@ -38,7 +42,11 @@ pub fn begin<X: Extra + Drop>(alloc: Global, program: &Program, extra: X) -> Res
 }
 
 // Main's task is made.
-fn make_main<X: Extra>(alloc: Global, program: &Program, body: &mut Body<X>) -> Result<(), Memory>
+fn make_main<X: Extra>(
+    alloc: Global,
+    program: &Program,
+    body: &mut RunState<X>,
+) -> Result<(), Memory>
     requires idle { body.old.parts.called ≡ None }
     ensures { OnOk result ((extra : X) (kept : X.added.Kept) → KeepsNothing X.added extra kept
         → IsEmpty program.now extra body.old → (answers : List Entry)
@@ -54,14 +62,14 @@ fn make_main<X: Extra>(alloc: Global, program: &Program, body: &mut Body<X>) -> 
 }
 
 // Nothing has happened, and there are no tasks.
-fn empty<X: Drop>(alloc: Global, program: &Program, extra: X) -> Result<Body<X>, Memory>
+fn empty<X: Drop>(alloc: Global, program: &Program, extra: X) -> Result<RunState<X>, Memory>
     ensures { IfOk result (IsEmpty program.now extra) }
 {
     let timeouts = Timeouts::new(alloc)?;
     let groups = Groups::new(alloc)?;
     let code = flatten(alloc, program)?;
     let parts = Parts::new(alloc, profile_of(program))?;
-    Ok(Body {
+    Ok(RunState {
         code,
         parts,
         slots: Vec::new(alloc),

@@ -11,7 +11,7 @@ pub fn copy_of_action(alloc: Global, action: &Action) -> Result<Action, Memory>
 {
     match action {
         &Action::Step(task) => Ok(Action::Step(task)),
-        &Action::StepInCircle { task, circle } => Ok(Action::StepInCircle { task, circle }),
+        &Action::StepInCycle { task, cycle } => Ok(Action::StepInCycle { task, cycle }),
         &Action::Wakeup(task) => Ok(Action::Wakeup(task)),
         &Action::SleepDone { task, future } => Ok(Action::SleepDone { task, future }),
         &Action::GroupDone { group, task } => Ok(Action::GroupDone { group, task }),

@@ -2,7 +2,7 @@
 ghost use Rattle.std.specs.Prelude.{◌≡◌, false, None, Ok, IfOk, OnOk};
 ghost use Rattle.model_says.specs.Says.{step_limit};
 ghost use Rattle.model_wire.specs.declared.event.Event.TheVariants as event;
-ghost use Rattle.model_loop.specs.Circles.{circle_fault as plain_circle_fault};
+ghost use Rattle.model_loop.specs.Cycles.{cycle_exception as plain_cycle_exception};
 ghost use Rattle.model_machine.specs.Outcomes.{woken_with as plain_woken_with};
 ghost use Rattle.model_machine.specs.State.{State};
 ghost use Rattle.model_machine.specs.Turn.{effect as plain_effect};
@@ -11,15 +11,15 @@ ghost use Rattle.law_reach.specs.Changes.{runner_of};
 ghost use Rattle.aio_wire.specs.Events.{pushed};
 ghost use Rattle.aio_wire.specs.Port.{ported};
 ghost use Rattle.aio_body.specs.Asking.{Comes};
-ghost use Rattle.aio_body.specs.Stands.{Setting, IsBetween, Possible};
+ghost use Rattle.aio_body.specs.Stands.{Context, IsBetween, Possible};
 ghost use Rattle.aio_body.specs.Taken.{IsNext, IsTaken};
 ghost use Rattle.aio_step.specs.declared.steps.Stepped.TheVariants.{Goes};
-ghost use Rattle.aio_step.specs.Stepping.{Steps, HearsMade, IsCalled};
+ghost use Rattle.aio_step.specs.Stepping.{TaskSteps, HearsMade, IsCalled};
 ghost use Rattle.aio_core.specs.Running.{StepsBy, acting, goes_as, running, running_one};
 
 use crate::copying::copy_of_action;
-use aio_base::{Action, Circle, Exc, Input, Kind, Memory, Outcome, Value, exception};
-use aio_body::{Body, input_of, or_stop};
+use aio_base::{Action, CycleKind, Exc, Input, Kind, Memory, Outcome, Value, exception};
+use aio_body::{RunState, input_of, or_stop};
 use aio_extra::Extra;
 use aio_serve::{child_done, fire};
 use aio_step::{Stepped, step};
@@ -29,7 +29,7 @@ use std::alloc::Global;
 
 /// The handles before the bar run, in order. They may ask the outside.
 pub fn run_below<W: Wire, X: Extra>(
-    body: &mut Body<X>,
+    body: &mut RunState<X>,
     alloc: Global,
     wire: &mut W,
 ) -> Result<Stepped, Stop>
@@ -49,7 +49,7 @@ pub fn run_below<W: Wire, X: Extra>(
 
 // A handle runs, and what it ran is let go.
 fn run_next<W: Wire, X: Extra>(
-    body: &mut Body<X>,
+    body: &mut RunState<X>,
     alloc: Global,
     wire: &mut W,
     action: Action,
@@ -68,7 +68,7 @@ fn forget_action(_action: Action) {}
 
 // A handle runs, and it is noted that it does.
 fn run<W: Wire, X: Extra>(
-    body: &mut Body<X>,
+    body: &mut RunState<X>,
     alloc: Global,
     wire: &mut W,
     action: &Action,
@@ -84,7 +84,7 @@ fn run<W: Wire, X: Extra>(
     }
 }
 
-fn note<X: Extra>(body: &mut Body<X>, alloc: Global, action: &Action) -> Result<(), Memory>
+fn note<X: Extra>(body: &mut RunState<X>, alloc: Global, action: &Action) -> Result<(), Memory>
     ensures { OnOk result (body.new ≡ record body.old {
       events = pushed body.old.events (event.Ran action.now);
     }) }
@@ -96,7 +96,7 @@ fn note<X: Extra>(body: &mut Body<X>, alloc: Global, action: &Action) -> Result<
 
 // What a handle does.
 fn act<W: Wire, X: Extra>(
-    body: &mut Body<X>,
+    body: &mut RunState<X>,
     alloc: Global,
     wire: &mut W,
     action: &Action,
@@ -116,7 +116,7 @@ fn act<W: Wire, X: Extra>(
 // What a handle does that steps no task. One of a listener, a connection or a child may ask the
 // outside.
 fn call_back<W: Wire, X: Extra>(
-    body: &mut Body<X>,
+    body: &mut RunState<X>,
     alloc: Global,
     wire: &mut W,
     action: &Action,
@@ -140,7 +140,7 @@ fn call_back<W: Wire, X: Extra>(
         | Action::LostChild { .. } => goes(aio_streaming::act(body, alloc, wire, action)),
         Action::Made(conn) => goes(or_stop(aio_streaming::made(body, alloc, *conn))),
         Action::Step(_)
-        | Action::StepInCircle { .. }
+        | Action::StepInCycle { .. }
         | Action::Wakeup(_)
         | Action::SleepDone { .. }
         | Action::GroupDone { .. }
@@ -163,7 +163,7 @@ fn goes(said: Result<(), Stop>) -> Result<Stepped, Stop>
 
 // Which task a handle steps, and with what.
 fn stepped_by<X: Extra>(
-    body: &Body<X>,
+    body: &RunState<X>,
     alloc: Global,
     action: &Action,
 ) -> Result<Option<(u32, Input)>, Memory>
@@ -172,8 +172,8 @@ fn stepped_by<X: Extra>(
 {
     match action {
         Action::Step(task) => Ok(Some((*task, Input::Send(Value::nothing())))),
-        Action::StepInCircle { task, circle } => {
-            let fault = circle_fault(alloc, *circle)?;
+        Action::StepInCycle { task, cycle } => {
+            let fault = cycle_exception(alloc, *cycle)?;
             Ok(Some((*task, Input::Throw(fault))))
         }
         Action::Wakeup(task) => {
@@ -202,13 +202,13 @@ fn stepped_by<X: Extra>(
 }
 
 // What a handle of the loop itself does, or of what is added, that steps no task.
-fn call<X: Extra>(body: &mut Body<X>, alloc: Global, action: &Action) -> Result<Stepped, Memory>
+fn call<X: Extra>(body: &mut RunState<X>, alloc: Global, action: &Action) -> Result<Stepped, Memory>
     requires taken { Possible X.added (IsTaken action.now) body.old }
     requires idle { runner_of action.now ≡ None }
     requires of_loop { is_of_streams action.now ≡ false }
     ensures acts { IfOk result
-        (λ went. (c : Setting X.added) (s : State X.added.Kept) → IsTaken action.now c body.old s
-        → Steps c body.new went (plain_effect step_limit X.added.meaning action.now s)) }
+        (λ went. (c : Context X.added) (s : State X.added.Kept) → IsTaken action.now c body.old s
+        → TaskSteps c body.new went (plain_effect step_limit X.added.meaning action.now s)) }
     ensures goes { IfOk result (λ went. went ≡ Goes) }
 {
     match action {
@@ -241,7 +241,7 @@ fn call<X: Extra>(body: &mut Body<X>, alloc: Global, action: &Action) -> Result<
         }
         // Those of steps, listeners, connections and children are no such calls.
         Action::Step(_)
-        | Action::StepInCircle { .. }
+        | Action::StepInCycle { .. }
         | Action::Wakeup(_)
         | Action::Made(_)
         | Action::StartRead(_)
@@ -266,10 +266,10 @@ fn pass() -> Result<Stepped, Memory>
 }
 
 // What a task is woken with: how that ended for which it waits.
-fn woken_with<X: Extra>(body: &Body<X>, task: u32) -> Result<Input, Memory>
+fn woken_with<X: Extra>(body: &RunState<X>, task: u32) -> Result<Input, Memory>
     requires { Possible X.added (IsCalled task) body.now }
     ensures input { IfOk result
-        (λ input. (c : Setting X.added) (s : State X.added.Kept) → IsCalled task c body.now s
+        (λ input. (c : Context X.added) (s : State X.added.Kept) → IsCalled task c body.now s
         → input ≡ plain_woken_with s.loop.parts task) }
     ensures made { IfOk result (λ input. HearsMade input body.now) }
 {
@@ -282,12 +282,12 @@ fn woken_with<X: Extra>(body: &Body<X>, task: u32) -> Result<Input, Memory>
     }
 }
 
-fn circle_fault(alloc: Global, circle: Circle) -> Result<Exc, Memory>
-    ensures { IfOk result (λ fault. fault ≡ plain_circle_fault circle) }
+fn cycle_exception(alloc: Global, cycle: CycleKind) -> Result<Exc, Memory>
+    ensures { IfOk result (λ fault. fault ≡ plain_cycle_exception cycle) }
 {
-    match circle {
-        Circle::Itself => exception(alloc, Kind::RuntimeError, "Task cannot await on itself"),
-        Circle::ItsWaiter => exception(
+    match cycle {
+        CycleKind::Itself => exception(alloc, Kind::RuntimeError, "Task cannot await on itself"),
+        CycleKind::ItsWaiter => exception(
             alloc,
             Kind::RuntimeError,
             "Task cannot await a task that waits for it",

@@ -6,7 +6,7 @@ use crate::ending::{end, keep};
 use crate::turns::{is_stalled, turn};
 use crate::went::Went;
 use aio_base::Memory;
-use aio_body::Body;
+use aio_body::RunState;
 use aio_extra::Extra;
 use aio_program::Program;
 use aio_wire::{Events, Wire};
@@ -16,7 +16,7 @@ use std::alloc::Global;
 /// answer of a turn but `Went` the run has ended.
 #[derive(Drop)]
 pub struct Kernel<X: Extra> {
-    body: Body<X>,
+    body: RunState<X>,
     // how the run ended
     ended: Option<Went>,
     // once main is done, the task that was seen last to live
@@ -32,7 +32,7 @@ impl<X: Extra + Drop> Kernel<X> {
     ghost use Rattle.model_machine.specs.State.{State};
     ghost use Rattle.model_machine.specs.Turn.{is_stalled};
     ghost use Rattle.aio_extra.specs.Added.{KeepsNothing};
-    ghost use Rattle.aio_core.specs.Turned.{StandsFor, Begins, KernelTurned, ended, held_tasks, untaken};
+    ghost use Rattle.aio_core.specs.Turned.{KernelStandsFor, Begins, KernelTurned, ended, held_tasks, untaken};
 
     /// A run begins at time 0, with main's task, whose first step is pending. What is added keeps
     /// nothing so far.
@@ -70,8 +70,8 @@ impl<X: Extra + Drop> Kernel<X> {
         ensures ended { ended self.new ≡ ended self.old }
         ensures tasks { held_tasks self.new ≡ held_tasks self.old }
         ensures stands { (past : List Event) (answers : List Entry) (s : State X.added.Kept)
-            → StandsFor X.added past answers self.old s
-            → StandsFor X.added (past ++ untaken self.old) answers self.new s }
+            → KernelStandsFor X.added past answers self.old s
+            → KernelStandsFor X.added (past ++ untaken self.old) answers self.new s }
     {
         self.body.events.take()
     }
@@ -79,7 +79,8 @@ impl<X: Extra + Drop> Kernel<X> {
     /// Whether nothing is pending and nothing can come, so that the next turn is stalled.
     pub fn is_stalled(&self) -> bool
         ensures { (past : List Event) (answers : List Entry) (s : State X.added.Kept)
-            → StandsFor X.added past answers self.now s → result ≡ is_stalled X.added.meaning s }
+            → KernelStandsFor X.added past answers self.now s
+            → result ≡ is_stalled X.added.meaning s }
     {
         is_stalled(&self.body)
     }
@@ -87,7 +88,7 @@ impl<X: Extra + Drop> Kernel<X> {
     /// How many tasks were made so far. After a turn with which a run finished, it is all of them.
     pub fn tasks(&self) -> u32
         ensures made { (past : List Event) (answers : List Entry) (s : State X.added.Kept)
-            → StandsFor X.added past answers self.now s → result ≡ next_task s.loop.parts }
+            → KernelStandsFor X.added past answers self.now s → result ≡ next_task s.loop.parts }
         ensures held { held_tasks self.now < 2 ^ 32 → result ≡ held_tasks self.now }
     {
         u32::try_from(self.body.slots.len()).unwrap_or(u32::MAX)

@@ -11,7 +11,7 @@ ghost use Rattle.model_stream.specs.Watching.{entry_if};
 ghost use Rattle.refine_parts.specs.Waiting.{is_none_watched};
 ghost use Rattle.aio_wire.specs.Port.{PortAsked, ported};
 ghost use Rattle.aio_body.specs.Asking.{Comes};
-ghost use Rattle.aio_body.specs.Stands.{Setting, IsBetween, Possible};
+ghost use Rattle.aio_body.specs.Stands.{Context, IsBetween, Possible};
 ghost use Rattle.aio_core.specs.Watched.{StandsOn};
 ghost use Rattle.aio_core.specs.Turning.{IsSelect, IsTime, TurnMade, Turned, all_below, said_by, turning_by};
 
@@ -19,7 +19,7 @@ use crate::handles::run_below;
 use crate::news::note_news;
 use crate::went::{Went, copy_of_outcome};
 use aio_base::Memory;
-use aio_body::{Body, or_stop};
+use aio_body::{RunState, or_stop};
 use aio_extra::Extra;
 use aio_step::Stepped;
 use aio_wire::{Answer, Call, Port, Stop, Watch, WatchList, Wire};
@@ -31,7 +31,7 @@ const LONGEST_WAIT: u64 = 86_400_000;
 /// A turn: the outside is asked for the time and what came, and then the handles that are pending
 /// run, which may ask it too. Once main is done, `seen` is the task that was seen last to live.
 pub fn turn<W: Wire, X: Extra>(
-    body: &mut Body<X>,
+    body: &mut RunState<X>,
     alloc: Global,
     wire: &mut W,
     seen: &mut u32,
@@ -52,8 +52,8 @@ pub fn turn<W: Wire, X: Extra>(
 }
 
 /// Nothing is pending, and nothing can come.
-pub fn is_stalled<X: Extra>(body: &Body<X>) -> bool
-    ensures { (c : Setting X.added) (s : State X.added.Kept) → IsBetween c body.now s
+pub fn is_stalled<X: Extra>(body: &RunState<X>) -> bool
+    ensures { (c : Context X.added) (s : State X.added.Kept) → IsBetween c body.now s
         → result ≡ plain_is_stalled X.added.meaning s }
 {
     if !body.parts.is_empty() {
@@ -63,17 +63,17 @@ pub fn is_stalled<X: Extra>(body: &Body<X>) -> bool
 }
 
 // Whether a turn watches anything.
-fn is_watched<X: Extra>(body: &Body<X>) -> bool
-    ensures { (c : Setting X.added) (s : State X.added.Kept) → IsBetween c body.now s
+fn is_watched<X: Extra>(body: &RunState<X>) -> bool
+    ensures { (c : Context X.added) (s : State X.added.Kept) → IsBetween c body.now s
         → result ≡ not (is_none_watched (watched_by X.added.meaning s)) }
 {
     body.transports.is_watched() || body.extra.watches()
 }
 
 // What a turn asks first.
-fn first_call<X: Extra>(body: &mut Body<X>, alloc: Global) -> Result<Call, Memory>
+fn first_call<X: Extra>(body: &mut RunState<X>, alloc: Global) -> Result<Call, Memory>
     ensures call { IfOk result
-        (λ call. (c : Setting X.added) (s : State X.added.Kept) → IsBetween c body.old s
+        (λ call. (c : Context X.added) (s : State X.added.Kept) → IsBetween c body.old s
         → call ≡ call_of X.added.meaning s) }
     ensures shape { IfOk result (λ call. IsSelect call) }
     ensures stands { OnOk result (StandsOn X.added body.old body.new) }
@@ -85,9 +85,9 @@ fn first_call<X: Extra>(body: &mut Body<X>, alloc: Global) -> Result<Call, Memor
 
 // What a turn watches: listeners, connections and children in order of opening, and then what is
 // added, where it watches.
-fn watched<X: Extra>(body: &mut Body<X>, alloc: Global) -> Result<WatchList, Memory>
+fn watched<X: Extra>(body: &mut RunState<X>, alloc: Global) -> Result<WatchList, Memory>
     ensures list { IfOk result
-        (λ list. (c : Setting X.added) (s : State X.added.Kept) → IsBetween c body.old s
+        (λ list. (c : Context X.added) (s : State X.added.Kept) → IsBetween c body.old s
         → list ≡ watched_by X.added.meaning s) }
     ensures stands { OnOk result (StandsOn X.added body.old body.new) }
 {
@@ -109,8 +109,8 @@ fn put_extra(entries: &mut Vec<Watch>, watches: bool) -> Result<(), Memory>
 
 // How long a turn waits: not at all where something is pending, else until the next deadline, and
 // without a bound where there is none.
-fn wait<X: Extra>(body: &Body<X>) -> Option<u64>
-    ensures { (c : Setting X.added) (s : State X.added.Kept) → IsBetween c body.now s
+fn wait<X: Extra>(body: &RunState<X>) -> Option<u64>
+    ensures { (c : Context X.added) (s : State X.added.Kept) → IsBetween c body.now s
         → result ≡ wait_of s.loop.parts }
 {
     if !body.parts.is_empty() {
@@ -124,12 +124,12 @@ fn wait<X: Extra>(body: &Body<X>) -> Option<u64>
 
 // The outside is asked once, and it is noted.
 fn ask<W: Wire, X: Extra>(
-    body: &mut Body<X>,
+    body: &mut RunState<X>,
     alloc: Global,
     wire: &mut W,
     call: Call,
 ) -> Result<Answer, Stop>
-    ensures beside { body.new ≡ record body.old { events = body.new.events } }
+    ensures frame { body.new ≡ record body.old { events = body.new.events } }
     ensures asked { PortAsked W.outside call (ported wire.old body.old.events)
         (ported wire.new body.new.events) result }
 {
@@ -139,7 +139,7 @@ fn ask<W: Wire, X: Extra>(
 
 // What a turn does once it has its answer.
 fn after<W: Wire, X: Extra>(
-    body: &mut Body<X>,
+    body: &mut RunState<X>,
     alloc: Global,
     wire: &mut W,
     answer: &Answer,
@@ -165,10 +165,10 @@ fn after<W: Wire, X: Extra>(
 
 // The time goes on, and never back. What came appends its callbacks, and behind them stand the
 // timers that fall due. All that is pending then stands before the bar.
-fn wake<X: Extra>(body: &mut Body<X>, alloc: Global, answer: &Answer) -> Result<(), Memory>
+fn wake<X: Extra>(body: &mut RunState<X>, alloc: Global, answer: &Answer) -> Result<(), Memory>
     requires alive { Possible X.added IsBetween body.old }
     requires time { IsTime answer.now }
-    ensures { OnOk result ((c : Setting X.added) (s : State X.added.Kept) → IsBetween c body.old s
+    ensures { OnOk result ((c : Context X.added) (s : State X.added.Kept) → IsBetween c body.old s
         → IsBetween (all_below c (unbooked_in (woken_by answer.now) s)) body.new
         (unbooked_in (woken_by answer.now) s)) }
 {
@@ -182,19 +182,23 @@ fn wake<X: Extra>(body: &mut Body<X>, alloc: Global, answer: &Answer) -> Result<
 
 // After the turn in which main's callback ran, each task that lives is cancelled. The run ends with
 // the first turn, from that one on, after which none lives.
-fn end_turn<X: Extra>(body: &mut Body<X>, done_before: bool, seen: &mut u32) -> Result<Went, Memory>
+fn end_turn<X: Extra>(
+    body: &mut RunState<X>,
+    done_before: bool,
+    seen: &mut u32,
+) -> Result<Went, Memory>
     requires { Possible X.added IsBetween body.old }
     ensures { IfOk result
-        (λ went. (c : Setting X.added) (s : State X.added.Kept) → IsBetween c body.old s
+        (λ went. (c : Context X.added) (s : State X.added.Kept) → IsBetween c body.old s
         → Turned c body.new went (turn_over done_before s)) }
 {
     cancel_after_main(body, done_before);
     finish(body, seen)
 }
 
-fn cancel_after_main<X: Extra>(body: &mut Body<X>, done_before: bool)
+fn cancel_after_main<X: Extra>(body: &mut RunState<X>, done_before: bool)
     requires { Possible X.added IsBetween body.old }
-    ensures { (c : Setting X.added) (s : State X.added.Kept) → IsBetween c body.old s
+    ensures { (c : Context X.added) (s : State X.added.Kept) → IsBetween c body.old s
         → IsBetween c body.new (cancelled_if (s.main_done && not done_before) s) }
 {
     if body.main_done && !done_before {
@@ -203,10 +207,10 @@ fn cancel_after_main<X: Extra>(body: &mut Body<X>, done_before: bool)
 }
 
 // The run ends where main's callback ran and no task lives.
-fn finish<X: Extra>(body: &Body<X>, seen: &mut u32) -> Result<Went, Memory>
+fn finish<X: Extra>(body: &RunState<X>, seen: &mut u32) -> Result<Went, Memory>
     requires { Possible X.added IsBetween body.now }
     ensures { IfOk result
-        (λ went. (c : Setting X.added) (s : State X.added.Kept) → IsBetween c body.now s
+        (λ went. (c : Context X.added) (s : State X.added.Kept) → IsBetween c body.now s
         → Turned c body.now went (finished_if (finished_as s) s)) }
 {
     if !body.main_done || some_task_lives(body, seen) {
@@ -219,9 +223,9 @@ fn finish<X: Extra>(body: &Body<X>, seen: &mut u32) -> Result<Went, Memory>
 }
 
 // Each task that lives is cancelled, in order of making.
-fn cancel_everything<X: Extra>(body: &mut Body<X>)
+fn cancel_everything<X: Extra>(body: &mut RunState<X>)
     requires { Possible X.added IsBetween body.old }
-    ensures { (c : Setting X.added) (s : State X.added.Kept) → IsBetween c body.old s
+    ensures { (c : Context X.added) (s : State X.added.Kept) → IsBetween c body.old s
         → IsBetween c body.new (in_loop plain_cancel_everything s) }
 {
     for task in 0..tasks(body) {
@@ -234,18 +238,18 @@ fn cancel_everything<X: Extra>(body: &mut Body<X>)
 
 // From the task on that was seen last to live, and then from the first on. Tasks that are done stay
 // done, and new ones have greater numbers, so all turns together look at each task about once.
-fn some_task_lives<X: Extra>(body: &Body<X>, seen: &mut u32) -> bool
+fn some_task_lives<X: Extra>(body: &RunState<X>, seen: &mut u32) -> bool
     requires { Possible X.added IsBetween body.now }
-    ensures { (c : Setting X.added) (s : State X.added.Kept) → IsBetween c body.now s
+    ensures { (c : Context X.added) (s : State X.added.Kept) → IsBetween c body.now s
         → result ≡ not (no_task_lives s.loop.parts) }
 {
     lives_from(body, seen) || any_lives(body)
 }
 
 // Whether a task lives from this one on, which is then that task.
-fn lives_from<X: Extra>(body: &Body<X>, seen: &mut u32) -> bool
+fn lives_from<X: Extra>(body: &RunState<X>, seen: &mut u32) -> bool
     requires { Possible X.added IsBetween body.now }
-    ensures { result ≡ true → (c : Setting X.added) (s : State X.added.Kept)
+    ensures { result ≡ true → (c : Context X.added) (s : State X.added.Kept)
         → IsBetween c body.now s
         → true ≡ not (no_task_lives s.loop.parts) }
 {
@@ -258,9 +262,9 @@ fn lives_from<X: Extra>(body: &Body<X>, seen: &mut u32) -> bool
     false
 }
 
-fn any_lives<X: Extra>(body: &Body<X>) -> bool
+fn any_lives<X: Extra>(body: &RunState<X>) -> bool
     requires { Possible X.added IsBetween body.now }
-    ensures { (c : Setting X.added) (s : State X.added.Kept) → IsBetween c body.now s
+    ensures { (c : Context X.added) (s : State X.added.Kept) → IsBetween c body.now s
         → result ≡ not (no_task_lives s.loop.parts) }
 {
     for task in 0..tasks(body) {
@@ -272,7 +276,7 @@ fn any_lives<X: Extra>(body: &Body<X>) -> bool
 }
 
 /// How many tasks were made.
-pub fn tasks<X: Extra>(body: &Body<X>) -> u32
+pub fn tasks<X: Extra>(body: &RunState<X>) -> u32
     requires { Possible X.added IsBetween body.now }
     ensures { result ≡ length body.now.slots.items }
 {

@@ -25,7 +25,7 @@ use Rattle.aio_wire.specs.declared.stop.Stop.TheVariants as stop
 use Rattle.aio_extra.specs.Nothing.{nothing_added}
 use Rattle.aio_extra.specs.declared.nothing.NoExtra.{NoExtra}
 use Rattle.law_runs.specs.Growth as growth
-use Rattle.aio_core.specs.Turned.{Begins, Ends, EndsAs, GoesOn, StandsFor, TurnsTo, held_tasks, stood_for, untaken}
+use Rattle.aio_core.specs.Turned.{Begins, Ends, EndsAs, KernelGoesOn, KernelStandsFor, TurnsTo, held_tasks, stood_for, untaken}
 use Rattle.aio_core.specs.Asked.{Asks}
 use Rattle.aio_core.specs.Turning.{AnyLeft, AsksBy, Is, IsFinished, IsMismatch, IsStarved, Takes, WireTurn}
 use Rattle.aio_core.proofs.Asked.{asks_none, asks_then}
@@ -42,7 +42,7 @@ use Rattle.aio_drive.proofs.Turns.{lines-append, run_on-last, run_on-turn}
 pub record At {g : _} (program : Program) (how : Manner) (made left : ℕ) (kernel : Kernel NoExtra g) (past : List Entry) (taken : List Event)
     (rest : List Entry) : Type 0 where
   pub s : State (Unit {0})
-  pub stands : StandsFor nothing_added taken rest kernel s
+  pub stands : KernelStandsFor nothing_added taken rest kernel s
   pub on : (allowed more : ℕ)
       → run_on step_limit no_extra allowed (made + more) (start most_ids tt program (past ++ rest))
       ≡ run_on step_limit no_extra allowed more s
@@ -156,7 +156,7 @@ module _ {g : _} {program : Program} {how : Manner} {made left : ℕ} {kernel : 
 
   -- where no turn is left
   pub ends_last : left ≡ 0 → (end : End)
-      → ((past : List Event) (answers : List Entry) (s : State (Unit {0})) → StandsFor nothing_added past answers kernel s
+      → ((past : List Event) (answers : List Entry) (s : State (Unit {0})) → KernelStandsFor nothing_added past answers kernel s
       → end ≡ turns_over (is_stalled no_extra s) how.turns)
       → EndsHere program how made taken first_seen.left taken end
   ends_last none end is =
@@ -296,10 +296,10 @@ module _ {g : _} {program : Program} {how : Manner} {made left : ℕ} {kernel : 
       let so = subst (λ (w : code.Went). TurnsTo nothing_added now_seen new_seen kernel new w) is comes in
       (fails_so call so, so.1.2)
 
-  module _ (had : List Answer) (takes : Takes now_seen.left new_seen.left had) (goes : GoesOn nothing_added had kernel new) where
+  module _ (had : List Answer) (takes : Takes now_seen.left new_seen.left had) (goes : KernelGoesOn nothing_added had kernel new) where
     goes_over : (rest : List Entry)
         → (now : State (Unit {0})) × ((turn step_limit no_extra (running.at (map Answered had ++ rest)).s ≡ Goes now)
-        × StandsFor nothing_added taken rest new now)
+        × KernelStandsFor nothing_added taken rest new now)
     goes_over rest = let here = running.at (map Answered had ++ rest) in goes taken rest here.s here.stands
 
     -- the run goes on after it
@@ -322,8 +322,8 @@ module _ {g : _} {program : Program} {how : Manner} {made left : ℕ} {kernel : 
     regrouped rest = sym (append_assoc past (map Answered had) rest)
 
     pub turned_on : (after : Kernel NoExtra g) (sink_after : SinkSeen)
-        → ((past : List Event) (answers : List Entry) (s : State (Unit {0})) → StandsFor nothing_added past answers new s
-        → StandsFor nothing_added (past ++ untaken new) answers after s)
+        → ((past : List Event) (answers : List Entry) (s : State (Unit {0})) → KernelStandsFor nothing_added past answers new s
+        → KernelStandsFor nothing_added (past ++ untaken new) answers after s)
         → untaken after ≡ [] → sink_after ≡ took sink (lines_of_events how.trace (untaken new))
         → Asks so_far first_seen new_seen
         → IsDriven program how (made + 1) left after (past ++ map Answered had) so_far first_seen new_seen first sink_after
@@ -383,7 +383,7 @@ module _ {g : _} {program : Program} {how : Manner} {made left : ℕ} {kernel : 
   told_here (went.Stopped stop.Memory) told comes = absurd told
 
   -- where memory was refused in it, what was asked by then is
-  after_grows : (went : Went (Unit {0})) → growth.GoesOn (state_of went).events (run_after (run_on step_limit no_extra how.turns left) went).events
+  after_grows : (went : Went (Unit {0})) → growth.EventsGrow (state_of went).events (run_after (run_on step_limit no_extra how.turns left) went).events
   after_grows (Goes now) = run-grows step_limit no_extra how.turns left now
   after_grows (Stops end last) = ([], sym (append-nil last.events))
 

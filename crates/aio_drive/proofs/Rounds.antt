@@ -21,7 +21,7 @@ use Rattle.aio_wire.specs.declared.stop.Stop.TheVariants as stop
 use Rattle.aio_extra.specs.Nothing.{nothing_added}
 use Rattle.aio_extra.specs.declared.nothing.NoExtra.{NoExtra}
 use Rattle.aio_core.specs.Asked.{Asks}
-use Rattle.aio_core.specs.Turned.{Begins, GoesOn, StandsFor, TurnedBy, TurnsTo, ended as kernel_ended, untaken}
+use Rattle.aio_core.specs.Turned.{Begins, KernelGoesOn, KernelStandsFor, TurnedBy, TurnsTo, ended as kernel_ended, untaken}
 use Rattle.aio_core.specs.Turning.{AsksBy, OfFailing, Takes, UnlessFailed}
 use Rattle.aio_core.specs.declared.kernel.Kernel.{Kernel}
 use Rattle.aio_core.specs.declared.went.Went as code
@@ -54,7 +54,7 @@ pub record IsUnderWay {g : _} (program : Program) (how : Manner) (made : ℕ) (k
   pub running : IsDriven program how made left kernel past taken first_seen now_seen first now
   pub noted : Records shelf.name (recorded taken) shelf.old shelf.new
   pub fails : fails_first → (made ≡ 0) × fails_now
-  pub still : quiet
+  pub unchanged : quiet
   pub unmade : made ≡ 0 → same
 
 -- one that begins
@@ -68,7 +68,7 @@ under_way_first program how kernel seen sink name files fails quiet same begins 
   running = running_first program how kernel seen sink begins;
   noted = records_none name files;
   fails = λ all. (refl, all);
-  still = still;
+  unchanged = still;
   unmade = λ none. unmade;
 }
 
@@ -120,7 +120,7 @@ module _ {g : _} {program : Program} {how : Manner} {made left : ℕ} {kernel ne
       λ fails.
           let (none, here) = fails_then fails in
           alive new last running said turned.turns (ended-told said end what) (turned.failing here) none,
-      quietly (ended-quiet said end quiet_now what turned.still),
+      quietly (ended-quiet said end quiet_now what turned.unchanged),
     ),
   )
 
@@ -135,7 +135,7 @@ module _ {g : _} {program : Program} {how : Manner} {made left : ℕ} {kernel ne
       (here, rose_earlier seen.faults now.faults last.faults stays.1 rose)
 
   pub goes_at : result ≡ went.Went
-      → (had : List Answer) × (Takes now.left last.left had × (GoesOn nothing_added had kernel new × Undisturbed fails_first quiet))
+      → (had : List Answer) × (Takes now.left last.left had × (KernelGoesOn nothing_added had kernel new × Undisturbed fails_first quiet))
   goes_at is =
       let went = said_so went.Went is (λ e. cc e) in
       let (had, (takes, goes)) = subst (λ (w : code.Went). TurnsTo nothing_added now last kernel new w) went turned.turns in (
@@ -146,7 +146,7 @@ module _ {g : _} {program : Program} {how : Manner} {made left : ℕ} {kernel ne
             goes,
             (
               λ fails. subst OfFailing went (turned.failing (fails_then fails).1),
-              quietly (subst (λ (w : code.Went). UnlessFailed quiet_now w) went turned.still),
+              quietly (subst (λ (w : code.Went). UnlessFailed quiet_now w) went turned.unchanged),
             ),
           ),
         ),
@@ -162,7 +162,7 @@ module _ {g : _} {program : Program} {how : Manner} {made left : ℕ} {kernel ne
     refused_at unnoted unmade =
         refused new seen last fault fails_first fails_now quiet shelf same running (rose_earlier seen.faults now.faults last.faults stays.1) fails_then
         (subst (λ (s : ShelfSeen). Records shelf.name (recorded taken) shelf.old s) unnoted noted) unmade quiet_now said turned.turns
-        (still_as said turned.still) asks_now (let here = running.at [] in turned.starved taken [] here.s here.stands) turned.failing
+        (still_as said turned.unchanged) asks_now (let here = running.at [] in turned.starved taken [] here.s here.stands) turned.failing
       where
         still_as : (w : code.Went) → UnlessFailed quiet_now w → UnlessFailed quiet w
         still_as went.Went still = quietly still
@@ -301,8 +301,8 @@ module _ {g : _} {program : Program} {how : Manner} {made left : ℕ} {kernel ne
 
     -- the run is under way after it
     pub goes_on : (told : Option ℕ) → told ≡ None → WroteTurn fault (lines_of_events how.trace events) sink final told result → (after : Kernel NoExtra g)
-        → ((past : List Event) (answers : List Entry) (s : State (Unit {0})) → StandsFor nothing_added past answers new s
-        → StandsFor nothing_added (past ++ untaken new) answers after s)
+        → ((past : List Event) (answers : List Entry) (s : State (Unit {0})) → KernelStandsFor nothing_added past answers new s
+        → KernelStandsFor nothing_added (past ++ untaken new) answers after s)
         → untaken after ≡ [] → (name : Option (List ℕ)) (old_shelf mid_shelf new_shelf : ShelfSeen)
         → Records name (recorded taken) old_shelf mid_shelf → Records name (recorded events) mid_shelf new_shelf
         → (left_then : ℕ) × (past_then : List Entry) × (taken_then : List Event)
@@ -373,7 +373,7 @@ module _ {g : _} {program : Program} {how : Manner} {made : ℕ} {kernel new : K
         running = running_then;
         noted = noted;
         fails = λ fails. absurd (still.0 fails);
-        still = still.1;
+        unchanged = still.1;
         unmade = λ none. absurd (omega arith);
       }
 
@@ -389,7 +389,7 @@ module _ {g : _} {program : Program} {how : Manner} {made : ℕ} {kernel : Kerne
   taken = under.taken
 
   still : Undisturbed fails_first quiet
-  still = (λ fails. absurd (let (none, here) = under.fails fails in omega arith), under.still)
+  still = (λ fails. absurd (let (none, here) = under.fails fails in omega arith), under.unchanged)
 
   abbrev last_it : Driven
   last_it = driven_over seen now fails_first quiet shelf same

@@ -19,7 +19,7 @@ use Rattle.aio_wire.specs.Outside.{Outside}
 use Rattle.aio_extra.specs.Nothing.{nothing_added}
 use Rattle.aio_extra.specs.declared.nothing.NoExtra.{NoExtra}
 use Rattle.aio_core.specs.Asked.{Asks, AsksOnce}
-use Rattle.aio_core.specs.Turned.{StandsFor}
+use Rattle.aio_core.specs.Turned.{KernelStandsFor}
 use Rattle.aio_core.specs.declared.kernel.Kernel.{Kernel}
 use Rattle.aio_drive.specs.Outcome.{EndsEarly}
 use Rattle.aio_drive.specs.Recording.{Recording}
@@ -196,7 +196,7 @@ pub record DrivesRecorded {W : Type 0} (o : Outside W) (program : Program) (how 
 -- how a run ends that may make no further turn
 abbrev pub LastOf : {g : _} → Kernel NoExtra g → (turns : ℕ) → End → Type 0
 LastOf kernel turns end =
-    (past : List Event) (answers : List Entry) (s : State (Unit {0})) → StandsFor nothing_added past answers kernel s
+    (past : List Event) (answers : List Entry) (s : State (Unit {0})) → KernelStandsFor nothing_added past answers kernel s
     → end ≡ turns_over (is_stalled no_extra s) turns
 
 -- the last line of such a run was written, with its status, or writing it stopped

@@ -14,7 +14,7 @@ use Rattle.aio_wire.specs.Replied.{Stays}
 use Rattle.aio_wire.specs.declared.stop.Stop.TheVariants as stop
 use Rattle.aio_extra.specs.Nothing.{nothing_added}
 use Rattle.aio_extra.specs.declared.nothing.NoExtra.{NoExtra}
-use Rattle.aio_core.specs.Turned.{StandsFor, TurnedBy, ended, untaken}
+use Rattle.aio_core.specs.Turned.{KernelStandsFor, TurnedBy, ended, untaken}
 use Rattle.aio_core.specs.Turning.{WireTurn, wire_turn}
 use Rattle.aio_core.specs.declared.kernel.Kernel.{Kernel}
 use Rattle.aio_core.specs.declared.went.Went.{Went}
@@ -96,8 +96,8 @@ pub record TellsTurn {g : _} (trace : Bool) (fault : End) (wire : WireTurn) (she
   pub went : Went
   pub said : Went
   pub turned : TurnedBy nothing_added wire old mid went said
-  pub stands : (past : List Event) (answers : List Entry) (s : State (Unit {0})) → StandsFor nothing_added past answers mid s
-      → StandsFor nothing_added (past ++ untaken mid) answers new s
+  pub stands : (past : List Event) (answers : List Entry) (s : State (Unit {0})) → KernelStandsFor nothing_added past answers mid s
+      → KernelStandsFor nothing_added (past ++ untaken mid) answers new s
   pub left : untaken new ≡ []
   pub told : OnOk result (is_refused went ≡ false)
   pub noted : OnOk result (Records shelf.name (recorded (untaken mid)) shelf.old shelf.new)

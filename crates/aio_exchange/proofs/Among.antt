@@ -32,7 +32,7 @@ module _ {W : Type 0} (o : Outside W) where
     stays = x.stays;
     failing = x.failing;
     keeps = x.keeps;
-    still = x.still;
+    unchanged = x.unchanged;
   }
     where
       unasked_so : (had : List Exchange) (last : Last) → Unasked had last (ported old e) (ported new f)

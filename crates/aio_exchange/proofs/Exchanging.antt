@@ -16,7 +16,7 @@ use Rattle.aio_wire.specs.Outside.{Outside}
 use Rattle.aio_wire.specs.Port.{Ported, events_after}
 use Rattle.aio_wire.specs.Told.{refused_of}
 use Rattle.aio_wire.specs.declared.wire.Reply.TheVariants as reply
-use Rattle.aio_exchange.specs.Exchanged.{Besides, Exchange, Exchanged, FailsIfRose, IsFailing, Last, All, Met, Starved, Leaves, Notes, Takes}
+use Rattle.aio_exchange.specs.Exchanged.{Besides, Exchange, Exchanged, FailsIfRose, IsFailing, Last, All, Met, Starved, AsksLeave, Notes, Takes}
 use Rattle.aio_exchange.specs.Exchanged.{TellsBytes, TellsCalls, Unasked, UnlessFailed, asked_by, bytes_last, bytes_to, calls_of}
 use Rattle.aio_exchange.specs.Exchanged.{entries_of, handed_to, noted_by}
 
@@ -94,7 +94,7 @@ module _ {W : Type 0} (o : Outside W) where
     stays = (refl, omega arith);
     failing = λ h. (refl, tt);
     keeps = o.keeps_same at.wire;
-    still = o.quiet_same at.wire;
+    unchanged = o.quiet_same at.wire;
   }
 
   -- memory was refused after them
@@ -116,7 +116,7 @@ module _ {W : Type 0} (o : Outside W) where
     stays = first.stays;
     failing = λ h. ((first.failing h).0, tt);
     keeps = first.keeps;
-    still = first.still;
+    unchanged = first.unchanged;
   }
     where
       unasked_so : (had : List Exchange) → Unasked had Starved old new
@@ -155,8 +155,8 @@ module _ {W : Type 0} (o : Outside W) where
     takes_on : Takes ys (o.seen mid.wire).left (o.seen new.wire).left → Takes (xs ++ ys) (o.seen old.wire).left (o.seen new.wire).left
     takes_on l rest h = join rest (l rest h)
 
-    leaves_on : (last : Last) → Leaves ys last (o.seen mid.wire).left (o.seen new.wire).left
-        → Leaves (xs ++ ys) last (o.seen old.wire).left (o.seen new.wire).left
+    leaves_on : (last : Last) → AsksLeave ys last (o.seen mid.wire).left (o.seen new.wire).left
+        → AsksLeave (xs ++ ys) last (o.seen old.wire).left (o.seen new.wire).left
     leaves_on All l = takes_on l
     leaves_on (Met call (reply.Got answer)) l = λ rest h. join (Answered answer ∷ rest) (l rest h)
     leaves_on (Met call reply.Over) l =
@@ -232,12 +232,12 @@ module _ {W : Type 0} (o : Outside W) where
     failed_on Starved f = tt
 
     still_on : (last : Last) → UnlessFailed (o.quiet mid.wire new.wire) last → UnlessFailed (o.quiet old.wire new.wire) last
-    still_on All q = o.quiet_on old.wire mid.wire new.wire first.still q
-    still_on (Met call (reply.Got answer)) q = o.quiet_on old.wire mid.wire new.wire first.still q
-    still_on (Met call reply.Over) q = o.quiet_on old.wire mid.wire new.wire first.still q
-    still_on (Met call (reply.Bad fault)) q = o.quiet_on old.wire mid.wire new.wire first.still q
+    still_on All q = o.quiet_on old.wire mid.wire new.wire first.unchanged q
+    still_on (Met call (reply.Got answer)) q = o.quiet_on old.wire mid.wire new.wire first.unchanged q
+    still_on (Met call reply.Over) q = o.quiet_on old.wire mid.wire new.wire first.unchanged q
+    still_on (Met call (reply.Bad fault)) q = o.quiet_on old.wire mid.wire new.wire first.unchanged q
     still_on (Met call reply.Failed) q = tt
-    still_on Starved q = o.quiet_on old.wire mid.wire new.wire first.still q
+    still_on Starved q = o.quiet_on old.wire mid.wire new.wire first.unchanged q
 
     failing_on : (last : Last) → (o.fails mid.wire → (ys ≡ []) × IsFailing last) → o.fails old.wire → ((xs ++ ys) ≡ []) × IsFailing last
     failing_on last f h =
@@ -261,5 +261,5 @@ module _ {W : Type 0} (o : Outside W) where
       stays = (second.stays.0 ∙ first.stays.0, omega (arith, first.stays.1, second.stays.1));
       failing = failing_on last second.failing;
       keeps = o.keeps_on old.wire mid.wire new.wire first.keeps second.keeps;
-      still = still_on last second.still;
+      unchanged = still_on last second.unchanged;
     }

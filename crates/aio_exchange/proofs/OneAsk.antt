@@ -15,7 +15,7 @@ use Rattle.aio_wire.specs.declared.stop.Stop.{Stop}
 use Rattle.aio_wire.specs.declared.stop.Stop.TheVariants as stop
 use Rattle.aio_wire.specs.declared.wire.Reply.{Reply}
 use Rattle.aio_wire.specs.declared.wire.Reply.TheVariants as reply
-use Rattle.aio_exchange.specs.Exchanged.{AsksOne, EndsSo, Exchanged, FailsIfRose, IsFailing, IsFitting, IsNoAnswer, IsOneMore, All, Met, Starved, Leaves}
+use Rattle.aio_exchange.specs.Exchanged.{AsksOne, EndsSo, Exchanged, FailsIfRose, IsFailing, IsFitting, IsNoAnswer, IsOneMore, All, Met, Starved, AsksLeave}
 use Rattle.aio_exchange.specs.Exchanged.{UnlessFailed, asked_by, bytes_last, handed_to}
 use Rattle.aio_exchange.proofs.Exchanging.{agreed, asked_none, handed_none}
 
@@ -64,7 +64,7 @@ module _ {W : Type 0} (o : Outside W) (call : Call) (old new : Ported W)
     stays = stays;
     failing = λ h. absurd (never (fails h));
     keeps = keeps;
-    still = quiet;
+    unchanged = quiet;
   }
     where
       never : AlwaysFails call (Ok answer) → ⊥
@@ -74,7 +74,7 @@ module _ {W : Type 0} (o : Outside W) (call : Call) (old new : Ported W)
   -- it has none
   met_by : (said : Reply) → IsNoAnswer call said → new.events ≡ events_after old.events call said
       → Replied call (o.seen old.wire) (o.seen new.wire) said
-      → Leaves [] (Met call said) (o.seen old.wire).left (o.seen new.wire).left
+      → AsksLeave [] (Met call said) (o.seen old.wire).left (o.seen new.wire).left
       → EndsSo (Met call said) (o.seen new.wire)
       → ((o.seen old.wire).fitting ≡ true → IsFitting (Met call said))
       → FailsIfRose (Met call said) (o.seen old.wire).faults (o.seen new.wire).faults
@@ -95,7 +95,7 @@ module _ {W : Type 0} (o : Outside W) (call : Call) (old new : Ported W)
     stays = stays;
     failing = λ h. (refl, failing h);
     keeps = keeps;
-    still = still;
+    unchanged = still;
   }
 
   abbrev pub Stopped : Stop → Type 0
@@ -175,7 +175,7 @@ module _ {W : Type 0} (o : Outside W) (call : Call) (old new : Ported W)
         stays = stays;
         failing = λ t. (refl, tt);
         keeps = keeps;
-        still = subst (λ w. UnlessStopped (o.quiet old.wire new.wire) (Err w)) is h.1;
+        unchanged = subst (λ w. UnlessStopped (o.quiet old.wire new.wire) (Err w)) is h.1;
       },
     ),
   )

@@ -107,10 +107,10 @@ LeavesAfter had call (reply.Bad fault) old new =
 LeavesAfter had call reply.Failed old new = Takes had old new
 
 -- where memory was refused the answers stood first, and nothing is said of what is left
-abbrev pub Leaves : List Exchange → Last → Option (List Entry) → Option (List Entry) → Type 0
-Leaves had All old new = Takes had old new
-Leaves had (Met call said) old new = LeavesAfter had call said old new
-Leaves had Starved old new = (rest : List Entry) × Agrees old (entries_of had ++ rest)
+abbrev pub AsksLeave : List Exchange → Last → Option (List Entry) → Option (List Entry) → Type 0
+AsksLeave had All old new = Takes had old new
+AsksLeave had (Met call said) old new = LeavesAfter had call said old new
+AsksLeave had Starved old new = (rest : List Entry) × Agrees old (entries_of had ++ rest)
 
 abbrev pub TellsCalls : List Exchange → Last → Option (List Call) → Option (List Call) → Type 0
 TellsCalls had Starved old new = Unit {0}
@@ -169,7 +169,7 @@ pub record Exchanged {W : Type 0} (o : Outside W) (had : List Exchange) (last : 
   pub fit : AllFit had
   pub is_last : IsLast last
   pub notes : Notes had last old.events new.events
-  pub leaves : Leaves had last (o.seen old.wire).left (o.seen new.wire).left
+  pub leaves : AsksLeave had last (o.seen old.wire).left (o.seen new.wire).left
   pub asks : TellsCalls had last (o.seen old.wire).asked (o.seen new.wire).asked
   pub hands : TellsBytes had last (o.seen old.wire).handed (o.seen new.wire).handed
   pub besides : Besides had last (o.seen old.wire) (o.seen new.wire)
@@ -179,7 +179,7 @@ pub record Exchanged {W : Type 0} (o : Outside W) (had : List Exchange) (last : 
   pub stays : Stays (o.seen old.wire) (o.seen new.wire)
   pub failing : o.fails old.wire → (had ≡ []) × IsFailing last
   pub keeps : o.keeps old.wire new.wire
-  pub still : UnlessFailed (o.quiet old.wire new.wire) last
+  pub unchanged : UnlessFailed (o.quiet old.wire new.wire) last
 
 -- the stop that such an end is; `count` is how many answers the run had
 abbrev pub StopsAs : Last → (count : ℕ) → Stop → Type 0

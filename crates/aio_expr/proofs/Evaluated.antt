@@ -4,7 +4,7 @@ use Rattle.std.proofs.Common.{refl, ap, ap₂, sym, ◌∙◌, subst, arith}
 use Rattle.std.specs.Result.{result_unwrap_or}
 use Rattle.model_value.specs.Value.{Value, Truth, Exc}
 use Rattle.model_tree.specs.Syntax.{Expr, Or, And, exprs}
-use Rattle.model_says.specs.Operations.{ValueOrFault, truth}
+use Rattle.model_says.specs.Operations.{ValueOrException, truth}
 use Rattle.model_says.specs.Expressions.{value_of, values_of, of_one, either, both, in_order}
 use Rattle.model_says.specs.Variables.{Env}
 use Rattle.aio_expr.specs.declared.operation_fault.OperationFault.{OperationFault}
@@ -16,7 +16,8 @@ pub raised-along : {A B : Type 0} (answer : Result A Exc) (other : Result B Exc)
 raised-along answer other (Some f) along raised = along f raised
 raised-along answer other None along raised = tt
 
-pub gives-err : (answer : ValueOrFault) (result : Result Value OperationFault) (cause : OperationFault) → IsErrAnd result (λ e. e ≡ cause) → Fails answer cause
+pub gives-err : (answer : ValueOrException) (result : Result Value OperationFault) (cause : OperationFault) → IsErrAnd result (λ e. e ≡ cause)
+    → Fails answer cause
     → Gives answer result
 gives-err answer (Ok value) cause is fails = absurd is
 gives-err answer (Err e) cause is fails = subst (Fails answer) (sym is) fails
@@ -29,12 +30,12 @@ if-err (Err e) cause P is holds = subst P (sym is) holds
 ok-err : {A B : Type 0} (a : A) (f : Exc) → Ok a ≡ Err f → B
 ok-err a f e = absurd cc
 
-either-err : (left right : ValueOrFault) (f : Exc) → of_one truth left ≡ Err f → either left right ≡ Err f
+either-err : (left right : ValueOrException) (f : Exc) → of_one truth left ≡ Err f → either left right ≡ Err f
 either-err (Err g) right f e = e
 either-err (Ok (Truth t)) right f e = ok-err (Truth t) f e
 either-err (Ok _) right f e = e
 
-both-err : (left right : ValueOrFault) (f : Exc) → of_one truth left ≡ Err f → both left right ≡ Err f
+both-err : (left right : ValueOrException) (f : Exc) → of_one truth left ≡ Err f → both left right ≡ Err f
 both-err (Err g) right f e = e
 both-err (Ok (Truth t)) right f e = ok-err (Truth t) f e
 both-err (Ok _) right f e = e
@@ -55,7 +56,7 @@ and-fails e left right env cause is fails =
 
 -- ---- values in order
 -- where values in order are found, the first is one and the others are others
-parts : (first : ValueOrFault) (others : Result (List Value) Exc) (found : List Value) → in_order first others ≡ Ok found
+parts : (first : ValueOrException) (others : Result (List Value) Exc) (found : List Value) → in_order first others ≡ Ok found
     → (v : Value) × (vs : List Value) × (first ≡ Ok v) × (others ≡ Ok vs) × (v ∷ vs ≡ found)
 parts (Ok v) (Ok vs) found e = (v, vs, refl, refl, ap (λ r. result_unwrap_or r []) e)
 parts (Ok v) (Err f) found e = ok-err found f (sym e)

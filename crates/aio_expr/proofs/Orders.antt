@@ -5,11 +5,11 @@ use Rattle.std.proofs.lemmas.Bool.{false≢true}
 use Rattle.std.specs.Ordering.{ordering_reverse}
 use Rattle.std.specs.Cmp.{IsTotalOrder}
 use Rattle.model_value.specs.Value.{Value, Truth}
-use Rattle.model_says.specs.Operations.{ValueOrFault, order, ordered, negation}
+use Rattle.model_says.specs.Operations.{ValueOrException, order, ordered, negation}
 use Rattle.model_says.specs.Expressions.{of_one}
 use Rattle.aio_expr.specs.Ordered.{IsBelow, IsOrdered}
 
-abbrev truth_in : ValueOrFault → Bool
+abbrev truth_in : ValueOrException → Bool
 truth_in (Ok (Truth t)) = t
 truth_in _ = false
 

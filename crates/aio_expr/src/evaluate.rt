@@ -2,7 +2,7 @@
 ghost use Rattle.std.specs.Prelude.{◌≡◌, Ok, IfOk, IfErr, IfSome};
 ghost use Rattle.model_value.specs.Value.{Value, Truth, Int};
 ghost use Rattle.model_tree.specs.Syntax.{Or, And, Not, Compare, Calculate, Negate, Index, ListOf, Apply, MakeError, exprs};
-ghost use Rattle.model_says.specs.Operations.{ValueOrFault, truth};
+ghost use Rattle.model_says.specs.Operations.{ValueOrException, truth};
 ghost use Rattle.model_says.specs.Expressions.{value_of, values_of, constant_value, of_one, of_two};
 ghost use Rattle.model_says.specs.Variables.{held};
 ghost use Rattle.aio_syntax.specs.Constant.{constant_of};
@@ -217,7 +217,7 @@ fn evaluate_two(
     ensures left { IfOk result (λ pair. value_of left.now env.now ≡ Ok pair.0) }
     ensures right { IfOk result (λ pair. value_of right.now env.now ≡ Ok pair.1) }
     ensures fault { IfErr result
-        (λ cause. (operation : Value → Value → ValueOrFault)
+        (λ cause. (operation : Value → Value → ValueOrException)
         → Fails (of_two operation (value_of left.now env.now) (value_of right.now env.now)) cause) }
 {
     let left = evaluate(alloc, left, env)?;

@@ -7,11 +7,11 @@ use Rattle.model_stream.specs.Kept.{times_asked}
 use Rattle.model_machine.specs.Extra.{Extra, WakesFall}
 use Rattle.model_machine.specs.State.{State}
 use Rattle.law_runs.specs.Allowed.{MakesAllowedSteps}
-use Rattle.aio_task.specs.Keeps.{Ties}
+use Rattle.aio_task.specs.Keeps.{NameMap}
 
 -- The loop goes on beside what is added: tags are known as before, what it made stays what it was, and of its own futures
--- none is let go.
-pub record GoesBeside (owned : ℕ → Type 0) (t : Ties) (p : Parts) (u : Ties) (q : Parts) : Type 0 where
+-- none is released.
+pub record GoesBeside (owned : ℕ → Type 0) (t : NameMap) (p : Parts) (u : NameMap) (q : Parts) : Type 0 where
   pub known : (tag : ℕ) → tag < p.next_tag → u.known tag ≡ t.known tag
   pub tags : p.next_tag ≤ q.next_tag
   pub gone : (id : ℕ) → owned id → u.gone id ≡ t.gone id
@@ -28,12 +28,12 @@ pub record Added (X : Type 0) : Type 1 where
   -- the futures that are its own: it made them, and no script names them
   pub owns : Kept → ℕ → Type 0
   -- An object stands for what the machine keeps. It knows handles and timers by their names, where the machine has tags.
-  pub stands : Ties → Parts → X → Kept → Type 0
+  pub stands : NameMap → Parts → X → Kept → Type 0
   -- it goes on doing so whatever else the loop does
-  pub goes_on : (t u : Ties) (p q : Parts) (x : X) (kept : Kept) → stands t p x kept → GoesBeside (owns kept) t p u q
+  pub goes_on : (t u : NameMap) (p q : Parts) (x : X) (kept : Kept) → stands t p x kept → GoesBeside (owns kept) t p u q
       → stands u q x kept
   -- what is its own was made
-  pub made : (t : Ties) (p : Parts) (x : X) (kept : Kept) → stands t p x kept → (id : ℕ) → owns kept id → id < next_future p
+  pub made : (t : NameMap) (p : Parts) (x : X) (kept : Kept) → stands t p x kept → (id : ℕ) → owns kept id → id < next_future p
   -- its steps keep a loop sound
   pub allowed : MakesAllowedSteps meaning
   -- a request that is woken and is to be woken again is woken fewer times each time
@@ -53,4 +53,4 @@ named_in a s id = IsNamed s.futures (owned_in a s) id
 
 -- An object keeps nothing so far: it stands for this whatever was made.
 abbrev pub KeepsNothing : {X : Type 0} → (a : Added X) → X → a.Kept → Type 0
-KeepsNothing a x kept = (t : Ties) (p : Parts) → a.stands t p x kept
+KeepsNothing a x kept = (t : NameMap) (p : Parts) → a.stands t p x kept

@@ -7,14 +7,14 @@ use Rattle.model_machine.specs.Extra as extra
 use Rattle.model_machine.specs.Extra.{ExtraAnswer, ExtraCall, ExtraSaid, called}
 use Rattle.model_machine.specs.State.{State}
 use Rattle.model_machine.specs.Told.{told_in}
-use Rattle.aio_task.specs.Keeps.{Ties, Keeps, Extends}
+use Rattle.aio_task.specs.Keeps.{NameMap, Keeps, Extends}
 use Rattle.aio_task.specs.View.{View}
 use Rattle.aio_extra.specs.Added.{Added, IsNamed}
 use Rattle.aio_extra.specs.declared.asked.Asked.{Asked}
 use Rattle.aio_extra.specs.declared.asked.Asked.TheVariants.{Answer, Raise, Wait, Outside}
 
 -- The parts and the object stand for a state, in which no task runs or this one does. Nothing was taken from the queue.
-pub record IsServed {X : Type 0} (a : Added X) (running : Option ℕ) (t : Ties) (s : State a.Kept) (x : X) (v : View) : Type 0 where
+pub record IsServed {X : Type 0} (a : Added X) (running : Option ℕ) (t : NameMap) (s : State a.Kept) (x : X) (v : View) : Type 0 where
   pub keeps : Keeps t v s.loop.parts
   pub stands : a.stands t s.loop.parts x s.extra
   pub called : v.called ≡ None
@@ -23,25 +23,25 @@ pub record IsServed {X : Type 0} (a : Added X) (running : Option ℕ) (t : Ties)
 
 -- There is such a state. Which one it is doesn't matter to what a call may do.
 abbrev pub MayServe : {X : Type 0} → Added X → (running : Option ℕ) → X → View → Type 0
-MayServe a running x v = ∥ ((t : Ties) × ((s : State a.Kept) × IsServed a running t s x v)) ∥₁
+MayServe a running x v = ∥ ((t : NameMap) × ((s : State a.Kept) × IsServed a running t s x v)) ∥₁
 
--- A call came to what the machine's does: by ties that go on, the parts stand for the loop's after its steps, and the object
+-- A call came to what the machine's does: by a name map that goes on, the parts stand for the loop's after its steps, and the object
 -- for what the machine keeps then. What is its own then was so before, or was made since. The running task runs on, and as
 -- many handles stand before the bar. The profile stays.
-pub record CallsAs {X : Type 0} (a : Added X) (t : Ties) (s : State a.Kept) (v w : View) (x : X) (call : ExtraCall a.Kept) : Type 0 where
-  pub ties : Ties
-  pub keeps : Keeps ties w (called call s).loop.parts
-  pub extends : Extends s.loop.parts t (called call s).loop.parts ties
-  pub stands : a.stands ties (called call s).loop.parts x call.state
+pub record CallsAs {X : Type 0} (a : Added X) (t : NameMap) (s : State a.Kept) (v w : View) (x : X) (call : ExtraCall a.Kept) : Type 0 where
+  pub name_map : NameMap
+  pub keeps : Keeps name_map w (called call s).loop.parts
+  pub extends : Extends s.loop.parts t (called call s).loop.parts name_map
+  pub stands : a.stands name_map (called call s).loop.parts x call.state
   pub own : (id : ℕ) → a.owns call.state id → a.owns s.extra id ⊎ (next_future s.loop.parts ≤ id)
   pub below : length w.queue.below ≡ length v.queue.below
   pub profile : w.profile ≡ v.profile
   pub called : w.called ≡ v.called
   pub running : w.running ≡ v.running
 
--- The answer is the machine's, and so is what is asked of the outside. A future that is waited for wasn't let go, and is the own
+-- The answer is the machine's, and so is what is asked of the outside. A future that is waited for wasn't released, and is the own
 -- one of what is added, or a script's, or a task's.
-abbrev pub AnswersAs : {X : Type 0} → (a : Added X) → Ties → State a.Kept → Asked → ExtraAnswer → Type 0
+abbrev pub AnswersAs : {X : Type 0} → (a : Added X) → NameMap → State a.Kept → Asked → ExtraAnswer → Type 0
 AnswersAs a t s (Answer value) (extra.Answers said) = value ≡ said
 AnswersAs a t s (Raise fault) (extra.Raises said) = fault ≡ said
 AnswersAs a t s (Wait on key) (extra.Waits future kept) =
@@ -49,7 +49,7 @@ AnswersAs a t s (Wait on key) (extra.Waits future kept) =
 AnswersAs a t s (Outside code bytes key) (extra.Asks number piece kept) = (code ≡ number) × (bytes ≡ piece) × (key ≡ kept)
 AnswersAs a t s _ _ = ⊥
 
-pub record SaysAs {X : Type 0} (a : Added X) (t : Ties) (s : State a.Kept) (v w : View) (x : X) (asked : Asked)
+pub record SaysAs {X : Type 0} (a : Added X) (t : NameMap) (s : State a.Kept) (v w : View) (x : X) (asked : Asked)
     (said : ExtraSaid a.Kept) : Type 0 where
   pub calls : CallsAs a t s v w x said.call
-  pub answers : AnswersAs a calls.ties (called said.call s) asked said.answer
+  pub answers : AnswersAs a calls.name_map (called said.call s) asked said.answer

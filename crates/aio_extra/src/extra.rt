@@ -4,7 +4,7 @@ ghost use Rattle.model_value.specs.Value.{Value as AnyValue};
 ghost use Rattle.model_loop.specs.Parts as plain;
 ghost use Rattle.model_machine.specs.Arguments.{as_list};
 ghost use Rattle.model_machine.specs.State.{State};
-ghost use Rattle.aio_task.specs.Keeps.{Ties};
+ghost use Rattle.aio_task.specs.Keeps.{NameMap};
 ghost use Rattle.aio_extra.specs.Added.{Added};
 ghost use Rattle.aio_extra.specs.Called.{CallsAs, IsServed, MayServe, SaysAs};
 
@@ -32,7 +32,7 @@ pub trait Extra {
     ) -> Result<Asked, Memory>
         requires list { is_some (as_list arguments.now) ≡ true }
         requires serves { MayServe added (Some task) self.old parts.old }
-        ensures { IfOk result (λ asked. (t : Ties) (s : State added.Kept) (items : List AnyValue)
+        ensures { IfOk result (λ asked. (t : NameMap) (s : State added.Kept) (items : List AnyValue)
             → as_list arguments.now ≡ Some items → IsServed added (Some task) t s self.old parts.old
             → SaysAs added t s parts.old parts.new self.new asked
             (added.meaning.ask task code items s)) };
@@ -47,7 +47,7 @@ pub trait Extra {
     ) -> Result<Asked, Memory>
         requires runs { is_some parts.old.running ≡ true }
         requires serves { MayServe added parts.old.running self.old parts.old }
-        ensures { IfOk result (λ asked. (t : Ties) (s : State added.Kept)
+        ensures { IfOk result (λ asked. (t : NameMap) (s : State added.Kept)
             → IsServed added parts.old.running t s self.old parts.old
             → SaysAs added t s parts.old parts.new self.new asked
             (added.meaning.wake key input s)) };
@@ -55,7 +55,7 @@ pub trait Extra {
     /// A handle of its own runs, that of this key.
     fn act(&mut self, alloc: Global, key: u64, parts: &mut Parts) -> Result<(), Memory>
         requires serves { MayServe added None self.old parts.old }
-        ensures { OnOk result ((t : Ties) (s : State added.Kept)
+        ensures { OnOk result ((t : NameMap) (s : State added.Kept)
             → IsServed added None t s self.old parts.old
             → CallsAs added t s parts.old parts.new self.new (added.meaning.act key s)) };
 
@@ -68,13 +68,14 @@ pub trait Extra {
         parts: &mut Parts,
     ) -> Result<(), Memory>
         requires serves { MayServe added None self.old parts.old }
-        ensures { OnOk result ((t : Ties) (s : State added.Kept)
+        ensures { OnOk result ((t : NameMap) (s : State added.Kept)
             → IsServed added None t s self.old parts.old
             → CallsAs added t s parts.old parts.new self.new
             (added.meaning.item code bytes.now s)) };
 
     /// Whether it waits for news of the outside.
     fn watches(&self) -> bool
-        ensures { (t : Ties) (p : plain.Parts) (kept : added.Kept) → added.stands t p self.now kept
+        ensures { (t : NameMap) (p : plain.Parts) (kept : added.Kept)
+            → added.stands t p self.now kept
             → result ≡ added.meaning.watches kept };
 }

@@ -6,7 +6,7 @@ use Rattle.std.specs.Option.{IsSome, option_copied_mut}
 use Rattle.std.proofs.lemmas.Bool.{cases_lt, eq-eqb, ne_eqb, lt-ltb, le-ltb}
 use Rattle.model_loop.specs.Parts.{Future}
 use Rattle.model_loop.specs.Futures.{is_pending_at, asked_kind}
-use Rattle.algorithm_parts.specs.Forgotten.{released}
+use Rattle.algorithm_parts.specs.Released.{released}
 use Rattle.aio_future.specs.Table.{table, held_in, IsBelow}
 use Rattle.aio_future.proofs.TableLemmas.{set-table, push-table, at_held, at_released, table-same, get-table_past, held_below, length-table}
 
@@ -93,7 +93,7 @@ below_next es after n w below u j l =
     let ne : j ≢ n = omega arith in
     put_other es after n w u j ne ∙ below j (omega arith)
 
--- a future is let go
+-- a future is released
 pub gone : (es after : List (ℕ × Future)) (n k : ℕ) (fs : List Future) → IsBelow es n → table (held_in es) n ≡ fs → Puts es after k None
     → table (held_in after) n ≡ (if nat_lt k (length fs) then slice_set fs k released else fs)
 gone es after n k fs below view u = go (cases_lt k n)
@@ -130,7 +130,7 @@ set_same [] k v e = refl
 set_same (x ∷ xs) zero v e = let same : x ≡ v = cc in ap (λ z. z ∷ xs) (sym same)
 set_same (x ∷ xs) (suc k) v e = ap (λ ys. x ∷ ys) (set_same xs k v e)
 
--- a future that stands as a released one is let go
+-- a future that stands as a released one is released
 pub let_go_same : (fs : List Future) (k : ℕ) → slice_get fs k ≡ Some released
     → (if nat_lt k (length fs) then slice_set fs k released else fs) ≡ fs
 let_go_same fs k e = go (nat_lt k (length fs))

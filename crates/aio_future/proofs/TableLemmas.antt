@@ -4,7 +4,7 @@ use Rattle.std.proofs.Common.{arith, inl, inr, length-append}
 use Rattle.std.specs.Prelude.{unwrap_or}
 use Rattle.std.proofs.lemmas.Bool.{cases_eq, cases_lt}
 use Rattle.model_loop.specs.Parts.{Future}
-use Rattle.algorithm_parts.specs.Forgotten.{released}
+use Rattle.algorithm_parts.specs.Released.{released}
 use Rattle.aio_future.specs.Table.{table, held_in, IsBelow}
 
 pub length-table : (f : ℕ → Option Future) (n : ℕ) → length (table f n) ≡ n

@@ -10,7 +10,7 @@ use Rattle.model_value.specs.Action.{Action}
 use Rattle.model_loop.specs.Parts.{FutureKind, Plain, OfTask, Many, Future}
 use Rattle.model_loop.specs.Futures.{asked_kind, made_before}
 use Rattle.model_loop.specs.Totals.{callbacks_at}
-use Rattle.algorithm_parts.specs.Forgotten.{released}
+use Rattle.algorithm_parts.specs.Released.{released}
 use Rattle.algorithm_parts.specs.Shape.{members_of, members_at}
 use Rattle.aio_future.specs.Table.{table, held_in, IsBelow}
 use Rattle.aio_future.specs.Awaited.{is_step, WakesNone, HasNoMembersFrom, alone_after, IsUnawaited}
@@ -76,7 +76,7 @@ wrote_keeps es after n k alone over r m new kept value is puts same =
         let within : k < n = held_below es n k m.now kept.0 (sym there) in
         put_other es after k (Some new) put j (λ e. omega (arith, within, l, e)) ∙ kept.0 j l
 
--- a future is let go
+-- a future is released
 pub gone_keeps : (es after : List (ℕ × Future)) (n k alone : ℕ) (over : Future) → Kept es n alone over → Puts es after k None
     → Kept after n alone over
 gone_keeps es after n k alone over kept puts = (below, (kept.1.0, members))

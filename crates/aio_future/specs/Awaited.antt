@@ -3,7 +3,7 @@
 use Rattle.std.specs.Prelude.{◌≡◌, ℕ, ◌≤◌, ◌==◌, Bool, true, false, List, [], slice_get}
 use Rattle.std.specs.List.{list_any}
 use Rattle.model_value.specs.Action.{Action}
-use Rattle.model_value.specs.declared.action.Action.TheVariants.{Step, StepInCircle, Wakeup}
+use Rattle.model_value.specs.declared.action.Action.TheVariants.{Step, StepInCycle, Wakeup}
 use Rattle.model_loop.specs.Parts as plain
 use Rattle.model_loop.specs.Parts.{FutureKind, Future}
 use Rattle.model_loop.specs.Futures.{made_before}
@@ -14,7 +14,7 @@ use Rattle.aio_future.specs.Table.{held_in}
 -- whether an action is a step or a wakeup of a task
 abbrev pub is_step : Action → Bool
 is_step (Step task) = true
-is_step (StepInCircle task circle) = true
+is_step (StepInCycle task cycle) = true
 is_step (Wakeup task) = true
 is_step _ = false
 

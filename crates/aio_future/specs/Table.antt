@@ -2,7 +2,7 @@
 use Rattle.std.specs.Prelude.{◌≡◌, ℕ, zero, suc, ◌≤◌, List, [], ◌∷◌, ◌++◌, Option, None, unwrap_or, nat_eq}
 use Rattle.std.specs.Map.{lookup}
 use Rattle.model_loop.specs.Parts.{Future}
-use Rattle.algorithm_parts.specs.Forgotten.{released}
+use Rattle.algorithm_parts.specs.Released.{released}
 
 abbrev pub table : (ℕ → Option Future) → ℕ → List Future
 table held zero = []

@@ -78,7 +78,7 @@ fn wakes_with(wakes: bool, action: &Action) -> bool
 {
     match action {
         Action::Step(_) => true,
-        Action::StepInCircle { .. } => true,
+        Action::StepInCycle { .. } => true,
         Action::Wakeup(_) => true,
         Action::SleepDone { .. }
         | Action::GroupDone { .. }

@@ -5,7 +5,7 @@ ghost use Rattle.model_loop.specs.Parts as plain;
 ghost use Rattle.model_loop.specs.Futures.{outcome_at, is_pending_at, asked_kind};
 ghost use Rattle.law_cancel.proofs.Effects.{done_as};
 ghost use Rattle.algorithm_parts.specs.Shape.{stands_at, members_at};
-ghost use Rattle.algorithm_parts.specs.Forgotten.{released};
+ghost use Rattle.algorithm_parts.specs.Released.{released};
 ghost use Rattle.aio_ready.specs.Queue as queue;
 ghost use Rattle.aio_future.specs.Kinds.{kind_of, is_asked};
 ghost use Rattle.aio_future.specs.Settled.{settled, called, registered, soon_if_done, asked};
@@ -39,7 +39,7 @@ impl Model for Futures {
     ghost use Rattle.std.specs.Prelude.{◌≡◌, List};
     ghost use Rattle.std.specs.Coded.{coded_list};
     ghost use Rattle.model_loop.specs.Parts as plain;
-    ghost use Rattle.algorithm_parts.specs.Forgotten.{released};
+    ghost use Rattle.algorithm_parts.specs.Released.{released};
     ghost use Rattle.aio_future.specs.Code.{coded_future};
 
     ghost Value = { List plain.Future };
@@ -157,7 +157,7 @@ impl Futures {
         }
     }
 
-    /// A future is let go. From then on it stands as a done one without callbacks, and its memory
+    /// A future is released. From then on it stands as a done one without callbacks, and its memory
     /// is free.
     pub fn release(&mut self, id: FutureId)
         ensures { self.new ≡ (if nat_lt id (length self.old)

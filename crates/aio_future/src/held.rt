@@ -5,7 +5,7 @@ ghost use Rattle.std.specs.Option.{option_copied};
 ghost use Rattle.model_loop.specs.Futures.{asked_kind};
 ghost use Rattle.law_cancel.proofs.Effects.{done_as};
 ghost use Rattle.algorithm_parts.specs.Shape.{stands_of, members_of};
-ghost use Rattle.algorithm_parts.specs.Forgotten.{released};
+ghost use Rattle.algorithm_parts.specs.Released.{released};
 ghost use Rattle.aio_ready.specs.Queue.{soon_all};
 ghost use Rattle.aio_future.specs.Kinds.{kind_of, is_asked_kind};
 ghost use Rattle.aio_future.specs.Awaited.{is_step};

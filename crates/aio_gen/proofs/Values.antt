@@ -2,7 +2,7 @@
 use Rattle.std.proofs.Common.{◌≡◌, ℕ, zero, suc, ◌+◌, ◌<◌, List, [], ◌∷◌, ◌++◌, length, take, slice_index_or, Result, Ok, Err, refl, ap, ap₂, sym, ◌∙◌, arith}
 use Rattle.model_value.specs.Value.{Value, Nothing, Exc}
 use Rattle.model_tree.specs.Syntax.{Name, Expr, exprs}
-use Rattle.model_says.specs.Operations.{ValueOrFault}
+use Rattle.model_says.specs.Operations.{ValueOrException}
 use Rattle.model_says.specs.Expressions.{value_of, values_of, in_order}
 use Rattle.model_says.specs.Variables.{Env, bound}
 use Rattle.algorithm_locals.specs.Numbered.{local, holding}
@@ -12,7 +12,7 @@ ok-err : {A B : Type 0} (a : A) (f : Exc) → Ok a ≡ Err f → B
 ok-err a f e = absurd cc
 
 -- where values in order are found, the first is one and the others are others
-parts : (first : ValueOrFault) (others : Result (List Value) Exc) (found : List Value) → in_order first others ≡ Ok found →
+parts : (first : ValueOrException) (others : Result (List Value) Exc) (found : List Value) → in_order first others ≡ Ok found →
     (v : Value) × (vs : List Value) × (first ≡ Ok v) × (others ≡ Ok vs)
 parts (Ok v) (Ok vs) found e = (v, vs, refl, refl)
 parts (Ok v) (Err f) found e = ok-err found f (sym e)

@@ -37,8 +37,8 @@ StandsAt program code coroutine arguments tape (Some waiting) =
     × WaitsFor step_limit (numbered_program program) (codes_of code) coroutine arguments tape request
     (plain_waiting waiting)
 
-abbrev pub StandsFor : Program → Code → (coroutine : ℕ) → (arguments : List Value) → Tape → Gen → Type 0
-StandsFor program code coroutine arguments tape gen = StandsAt program code coroutine arguments tape gen.waiting.value
+abbrev pub GenStandsFor : Program → Code → (coroutine : ℕ) → (arguments : List Value) → Tape → Gen → Type 0
+GenStandsFor program code coroutine arguments tape gen = StandsAt program code coroutine arguments tape gen.waiting.value
 
 -- What is said after moves, and what waits then, is what the coroutine says after its tape, whatever comes after.
 abbrev pub SaysAfter : (limit : ℕ) → Program → (codes : ℕ → CoroutineCode) → (coroutine : ℕ) → (arguments : List Value) → Tape → GenOut

@@ -6,7 +6,7 @@ ghost use Rattle.model_tree.specs.Syntax.{Program};
 ghost use Rattle.model_says.specs.Says.{says};
 ghost use Rattle.model_says.specs.Tape.{Tape};
 ghost use Rattle.aio_flat.specs.Code.{IsCodeOf};
-ghost use Rattle.aio_gen.specs.Gens.{saying_of_out, StandsAt, StandsFor, IsOver};
+ghost use Rattle.aio_gen.specs.Gens.{saying_of_out, StandsAt, GenStandsFor, IsOver};
 ghost use Rattle.aio_gen.specs.declared.generator.GenOut.TheVariants.{Asks};
 
 use crate::calls::new_frame;
@@ -52,7 +52,7 @@ impl Gen {
         args: Vec<Value>,
     ) -> Result<Gen, Memory>
         ensures { IfOk result (λ gen. (program : Program) → IsCodeOf program code.now →
-            StandsFor program code.now coroutine args.items [] gen) }
+            GenStandsFor program code.now coroutine args.items [] gen) }
     {
         let frame = new_frame(alloc, code, None, coroutine, args.as_slice())?;
         let frames = Frames {
@@ -83,15 +83,15 @@ impl Gen {
         ensures said { IfOk result (λ out.
             (program : Program) (coroutine : ℕ) (arguments : List PlainValue) (tape : Tape)
             → IsCodeOf program code.now →
-            StandsFor program code.now coroutine arguments tape self.old →
+            GenStandsFor program code.now coroutine arguments tape self.old →
             says program coroutine arguments (tape ++ record { input = input; fresh = fresh } ∷ [])
             ≡ saying_of_out out) }
         ensures stands { IfOk result (λ out.
             (program : Program) (coroutine : ℕ) (arguments : List PlainValue) (tape : Tape)
             → IsCodeOf program code.now →
-            StandsFor program code.now coroutine arguments tape self.old →
+            GenStandsFor program code.now coroutine arguments tape self.old →
             (request : PlainRequest) → out ≡ Asks request →
-            StandsFor program code.now coroutine arguments
+            GenStandsFor program code.now coroutine arguments
             (tape ++ record { input = input; fresh = fresh } ∷ []) self.new) }
         ensures over { IfErr result (λ _. IsOver self.new) }
         ensures spent { IsOver self.old → IsErr result }

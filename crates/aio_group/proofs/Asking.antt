@@ -11,8 +11,8 @@ use Rattle.model_loop.specs.Parts.{Future, FutureKind, Parts}
 use Rattle.model_loop.specs.Tasks.{future_of, lives}
 use Rattle.aio_cancel.specs.Awaitables.{Appended}
 use Rattle.aio_task.specs.View.{View, parts}
-use Rattle.aio_task.specs.Keeps.{Ties, Keeps, Kept, Becomes}
-use Rattle.aio_group.specs.GoesOn.{GoesOn, Moves}
+use Rattle.aio_task.specs.Keeps.{NameMap, Keeps, Kept, Becomes}
+use Rattle.aio_group.specs.GoesOn.{PartsGoOn, Moves}
 use Rattle.aio_group.proofs.Going.{cancel_on, then_moves, same_moves}
 use Rattle.aio_group.proofs.Laws.{kept_request, kept_future_of}
 use Rattle.aio_group.proofs.Standing.{same_extends, then_extends}
@@ -27,9 +27,9 @@ becomes v w after e q b = record {
   schedule = ap (λ (x : View). x.schedule) b;
 }
 
-pub moves_by : (v w : View) (after : Parts) → parts w ≡ after → GoesOn (parts v) after
+pub moves_by : (v w : View) (after : Parts) → parts w ≡ after → PartsGoOn (parts v) after
     → w ≡ record v { queue = w.queue; futures = w.futures; tasks = w.tasks } → Moves v w
-moves_by v w after e on b = record { goes_on = subst (λ p. GoesOn (parts v) p) (sym e) on; beside = b }
+moves_by v w after e on b = record { goes_on = subst (λ p. PartsGoOn (parts v) p) (sym e) on; frame = b }
 
 module _ (id : ℕ) (p : Parts) where
   abbrev member : Canceller
@@ -65,24 +65,24 @@ request_each-more by [] task p = request_where-parts by (future_of p task) p
 request_each-more by (other ∷ before) task p =
     request_each-more by before task (request_where (lives p other) by (future_of p other) p).parts
 
-pub kept_each_more : (t : Ties) (v w x : View) (p : Parts) (by : Origin) (before : List ℕ) (task : ℕ)
+pub kept_each_more : (t : NameMap) (v w x : View) (p : Parts) (by : Origin) (before : List ℕ) (task : ℕ)
     → Kept t p w (request_each by before p).parts → parts x ≡ (cancel (future_of (parts w) task) (parts w)).parts
     → Appended w.queue x.queue → x ≡ record w { queue = x.queue; futures = x.futures; tasks = x.tasks }
     → Kept t p x (request_each by (before ++ task ∷ []) p).parts
 kept_each_more t v w x p by before task k e q b =
     let now = (request_each by before p).parts in
     let id = future_of now task in
-    let same : future_of (parts w) task ≡ id = kept_future_of k.ties w now task k.keeps in
+    let same : future_of (parts w) task ≡ id = kept_future_of k.name_map w now task k.keeps in
     let after : parts x ≡ (cancel id (parts w)).parts = e ∙ ap (λ (i : ℕ). (cancel i (parts w)).parts) same in
-    let more = kept_request k.ties w x now by id k.keeps (becomes w x (cancel id (parts w)).parts after q b) in
+    let more = kept_request k.name_map w x now by id k.keeps (becomes w x (cancel id (parts w)).parts after q b) in
     subst (λ r. Kept t p x r) (sym (request_each-more by before task p)) (record {
-      ties = more.ties;
+      name_map = more.name_map;
       keeps = more.keeps;
-      extends = then_extends t k.ties more.ties p now (cancel id now).parts k.extends more.extends;
+      extends = then_extends t k.name_map more.name_map p now (cancel id now).parts k.extends more.extends;
     })
 
-kept_none : (t : Ties) (v : View) (p : Parts) (by : Origin) → Keeps t v p → Kept t p v (request_each by [] p).parts
-kept_none t v p by k = record { ties = t; keeps = k; extends = same_extends t p p (omega arith) }
+kept_none : (t : NameMap) (v : View) (p : Parts) (by : Origin) → Keeps t v p → Kept t p v (request_each by [] p).parts
+kept_none t v p by k = record { name_map = t; keeps = k; extends = same_extends t p p (omega arith) }
 
 -- From v to w those of these tasks were asked that aren't left.
 pub record AskedSoFar (v w : View) (tasks left : List ℕ) : Type 0 where
@@ -90,7 +90,7 @@ pub record AskedSoFar (v w : View) (tasks left : List ℕ) : Type 0 where
   pub split : before ++ left ≡ tasks
   pub idle : w.called ≡ None
   pub moves : Moves v w
-  pub kept : (t : Ties) (p : Parts) (by : Origin) → Keeps t v p → Kept t p w (request_each by before p).parts
+  pub kept : (t : NameMap) (p : Parts) (by : Origin) → Keeps t v p → Kept t p w (request_each by before p).parts
 
 pub none_asked : (v : View) (tasks : List ℕ) → v.called ≡ None → AskedSoFar v v tasks tasks
 none_asked v tasks idle = record {
@@ -113,7 +113,7 @@ one_asked v w x task tasks left so e q b = record {
   kept = λ t p by k. kept_each_more t v w x p by so.before task (so.kept t p by k) e q b;
 }
 
-pub all_asked : (v w : View) (tasks left : List ℕ) → AskedSoFar v w tasks left → left ≡ [] → (t : Ties) (p : Parts) (by : Origin)
+pub all_asked : (v w : View) (tasks left : List ℕ) → AskedSoFar v w tasks left → left ≡ [] → (t : NameMap) (p : Parts) (by : Origin)
     → Keeps t v p → Kept t p w (request_each by tasks p).parts
 all_asked v w tasks left so e t p by k =
     let whole : so.before ≡ tasks = sym (append-nil so.before) ∙ ap (λ rest. so.before ++ rest) (sym e) ∙ so.split in

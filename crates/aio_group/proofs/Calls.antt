@@ -9,7 +9,7 @@ use Rattle.model_loop.specs.Groups.{Exited, Refusal, NotEntered, IsFinished, IsS
 use Rattle.model_loop.specs.Loop.{Loop}
 use Rattle.model_loop.specs.Tasks.{next_task}
 use Rattle.aio_task.specs.View.{View}
-use Rattle.aio_task.specs.Keeps.{Ties}
+use Rattle.aio_task.specs.Keeps.{NameMap}
 use Rattle.aio_group.specs.declared.created.Created.{Created}
 use Rattle.aio_group.specs.declared.created.Created.TheVariants as created
 use Rattle.aio_group.specs.declared.exit.GroupExit.{GroupExit}
@@ -17,7 +17,7 @@ use Rattle.aio_group.specs.Answers.{created_of, exit_of}
 use Rattle.aio_group.specs.Exits.{Exits}
 use Rattle.aio_group.specs.GoesOn.{Moves}
 use Rattle.aio_group.specs.Held.{Held, new_held, held_at, shown}
-use Rattle.aio_group.specs.Stands.{Belongs, AllBelong, Stands, Came, Steps}
+use Rattle.aio_group.specs.Stands.{Belongs, AllBelong, GroupsStand, Came, GroupSteps}
 use Rattle.aio_group.proofs.Belonging.{all_belong_on, all_belong_set}
 use Rattle.aio_group.proofs.Listing.{get_past, index_past, set-same}
 use Rattle.aio_group.proofs.Numbering.{none_there, refused_stands}
@@ -47,8 +47,8 @@ module _ {items seen : List Held} {id : ℕ} {held : Held} (f : Found items seen
   pub found_belongs : (v : View) → AllBelong v seen → Belongs v held
   found_belongs v all = all id held (ap (λ gs. slice_get gs id) (sym f.same) ∙ f.at)
 
-  pub found_stands : (t : Ties) (v : View) (l : Loop) → Stands t seen v l → Stands t items v l
-  found_stands t v l s = subst (λ gs. Stands t gs v l) (sym f.same) s
+  pub found_stands : (t : NameMap) (v : View) (l : Loop) → GroupsStand t seen v l → GroupsStand t items v l
+  found_stands t v l s = subst (λ gs. GroupsStand t gs v l) (sym f.same) s
 
   -- nothing became of it
   pub kept_same : slice_set items id held ≡ seen
@@ -60,13 +60,13 @@ module _ {items seen : List Held} {id : ℕ} {held : Held} (f : Found items seen
     changed_belong all moves is =
         all_belong_set w items id held new f.at (all_belong_on v w moves items (subst (λ gs. AllBelong v gs) (sym f.same) all)) is
 
-    pub changed_came : (step : ℕ → Loop → Loop) → Steps held v new w step → (t : Ties) (l : Loop) → Stands t seen v l
+    pub changed_came : (step : ℕ → Loop → Loop) → GroupSteps held v new w step → (t : NameMap) (l : Loop) → GroupsStand t seen v l
         → Came t l (slice_set items id new) w (step id l)
     changed_came step steps t l s = steps t items id l f.at (found_stands t v l s)
 
     pub exit_came : {E : Type 0} (result : Result GroupExit E) (step : ℕ → Loop → Exited)
         → IfOk result (λ exit. Exits held v new w step exit)
-        → IfOk result (λ exit. (t : Ties) (l : Loop) → Stands t seen v l
+        → IfOk result (λ exit. (t : NameMap) (l : Loop) → GroupsStand t seen v l
         → Came t l (slice_set items id new) w (step id l).loop × (exit_of exit ≡ (step id l).answer))
     exit_came result step = IfOk-weaker result _ _ (λ exit steps t l s. steps t items id l f.at (found_stands t v l s))
 
@@ -94,7 +94,7 @@ pub none_going : (groups : List Held) (id : ℕ) → slice_get groups id ≡ Non
 none_going groups id e h = false≢true (sym (ap (λ (x : Held). x.exiting && not x.ended) (none_is_new groups id e)) ∙ h)
 
 -- ---- a task is made, or none is
-pub not_entered_came : (t : Ties) (groups : List Held) (v : View) (l : Loop) (id : ℕ) → slice_get groups id ≡ None → Stands t groups v l
+pub not_entered_came : (t : NameMap) (groups : List Held) (v : View) (l : Loop) (id : ℕ) → slice_get groups id ≡ None → GroupsStand t groups v l
     → Came t l groups v (create id l) × (created.NotEntered ≡ created_of (refusal (group_of l id)) (next_task l.parts))
 not_entered_came t groups v l id e s =
     let fresh : group_of l id ≡ new_group 0 = index_past l.groups id (new_group 0) (none_there t groups v l id e s) in
@@ -107,8 +107,8 @@ not_refused (Some NotEntered) f = let e : created.NotEntered ≡ created.Task 0 
 not_refused (Some IsFinished) f = let e : created.Finished ≡ created.Task 0 = f 0 in absurd (cc)
 not_refused (Some IsShuttingDown) f = let e : created.ShuttingDown ≡ created.Task 0 = f 0 in absurd (cc)
 
-pub refused_came : (t : Ties) (groups : List Held) (v : View) (l : Loop) (id : ℕ) (held : Held) (refused : Created)
-    → slice_get groups id ≡ Some held → ((task : ℕ) → created_of (refusal (shown held)) task ≡ refused) → Stands t groups v l
+pub refused_came : (t : NameMap) (groups : List Held) (v : View) (l : Loop) (id : ℕ) (held : Held) (refused : Created)
+    → slice_get groups id ≡ Some held → ((task : ℕ) → created_of (refusal (shown held)) task ≡ refused) → GroupsStand t groups v l
     → Came t l groups v (create id l) × (refused ≡ created_of (refusal (group_of l id)) (next_task l.parts))
 refused_came t groups v l id held refused e f s = at (refusal (shown held)) refl f
   where

@@ -14,14 +14,14 @@ use Rattle.model_loop.specs.Owning.{owner_at}
 use Rattle.model_loop.specs.Parts.{Plain, Future, Task, Parts}
 use Rattle.law_cancel.proofs.Lookups.{get-set_same, get-push_last}
 use Rattle.aio_task.specs.View.{View, parts}
-use Rattle.aio_task.specs.Keeps.{Ties, Keeps, Extends}
+use Rattle.aio_task.specs.Keeps.{NameMap, Keeps, Extends}
 use Rattle.aio_group.specs.declared.exit.ExitStep.{ExitStep}
 use Rattle.aio_group.specs.declared.exit.ExitStep.TheVariants as next
 use Rattle.aio_group.specs.Answers.{answer_of, ended_with, exit_of, fault_of, gone_on, raised_or_passed}
 use Rattle.aio_group.specs.Exits.{WaitsMade, IsNext, Exits}
-use Rattle.aio_group.specs.GoesOn.{GoesOn, Moves}
+use Rattle.aio_group.specs.GoesOn.{PartsGoOn, Moves}
 use Rattle.aio_group.specs.Held.{Held, listed}
-use Rattle.aio_group.specs.Stands.{IsOwn, Belongs, IsLive, KeepsFaults, KeepsGroup, Stands, Came, Steps}
+use Rattle.aio_group.specs.Stands.{IsOwn, Belongs, IsLive, KeepsFaults, KeepsGroup, GroupsStand, Came, GroupSteps}
 use Rattle.aio_group.proofs.Belonging.{own_on, belongs_on, belongs_as}
 use Rattle.aio_group.proofs.Flags.{children_same}
 use Rattle.aio_group.proofs.Going.{new_plain_on, then_on}
@@ -42,7 +42,7 @@ failures_are f (task ∷ tasks) (error ∷ errors) e =
     let others : map f tasks ≡ map Some errors = cc in
     ap (λ o. cons_option o (filter_map f tasks)) first ∙ ap (λ es. error ∷ es) (failures_are f tasks errors others)
 
-failures_seen : (t : Ties) (v : View) (p : Parts) (tasks : List ℕ) → Keeps t v p → Each (IsLive t p) tasks
+failures_seen : (t : NameMap) (v : View) (p : Parts) (tasks : List ℕ) → Keeps t v p → Each (IsLive t p) tasks
     → failures (parts v) tasks ≡ failures p tasks
 failures_seen t v p [] k live = refl
 failures_seen t v p (task ∷ tasks) k live =
@@ -66,8 +66,8 @@ some_failed f (task ∷ failed) error errors (Some cancelled) fault e = refl
 
 -- ---- an exit ends
 -- A group whose exit ends without children.
-module _ (t : Ties) (groups : List Held) (v : View) (id : ℕ) (m : Loop) (held : Held) (fault : Option Exc)
-    (e : slice_get groups id ≡ Some held) (s : Stands t groups v m) (going : held.ended ≡ false) (began : held.exiting ≡ true)
+module _ (t : NameMap) (groups : List Held) (v : View) (id : ℕ) (m : Loop) (held : Held) (fault : Option Exc)
+    (e : slice_get groups id ≡ Some held) (s : GroupsStand t groups v m) (going : held.ended ≡ false) (began : held.exiting ≡ true)
     (waits : held.exit_future ≡ None) (children : is_empty held.children ≡ true)
     (is_fault : fault ≡ fault_of ((group_of m id).errors ++ body_failure (group_of m id).body)) where
   abbrev group : Group
@@ -93,7 +93,7 @@ module _ (t : Ties) (groups : List Held) (v : View) (id : ℕ) (m : Loop) (held 
   }
 
   abbrev pub Ends : Exited → Type 0
-  Ends x = Stands t (slice_set groups id last) v x.loop
+  Ends x = GroupsStand t (slice_set groups id last) v x.loop
       × ((x.loop.parts ≡ m.parts) × (exit_of (ended_with held.kept held.failed fault) ≡ x.answer))
 
   all_raised : (errors : List Exc) → group.errors ≡ errors → (kept : Option Exc)
@@ -128,7 +128,7 @@ module _ (t : Ties) (groups : List Held) (v : View) (id : ℕ) (m : Loop) (held 
   ends_by (Some cancelled) [] k d =
       let some : held.kept ≡ Some cancelled = faults.kept ∙ k in
       let none : held.failed ≡ [] = none_failed (failure_of m.parts) held.failed (faults.errors ∙ ap (map Some) d) in (
-        subst (λ es. Stands t (slice_set groups id last) v (set_group id (record group { ended = true; errors = es }) m)) refl
+        subst (λ es. GroupsStand t (slice_set groups id last) v (set_group id (record group { ended = true; errors = es }) m)) refl
             (set_stands t groups v m id held last (record group { ended = true }) e s (ended group.errors)),
         (refl, ap (λ o. exit_of (ended_with o held.failed fault)) some ∙ ap (λ ts. exit_of (ended_with (Some cancelled) ts fault)) none),
       )
@@ -148,7 +148,7 @@ waits_as id m [] d = absurd (cc)
 waits_as id m (child ∷ children) d = refl
 
 -- the machine's tasks wait as those in code do
-waits_seen : (t : Ties) (v : View) (p : Parts) → Keeps t v p → WaitsMade (parts v) → WaitsMade p
+waits_seen : (t : NameMap) (v : View) (p : Parts) → Keeps t v p → WaitsMade (parts v) → WaitsMade p
 waits_seen t v p k made task on e =
     let m = made task on (ap (λ (ts : List Task). option_map_or (λ (it : Task). it.waiter) (slice_get ts task) None) k.tasks ∙ e) in
     let n = futures_made t v p k in
@@ -166,7 +166,7 @@ pub record LeftByExit (a b : Held) (failure : Option Exc) : Type 0 where
 
 module _ (a b : Held) (body : Option Exc) (v w x : View) (step : ℕ → Loop → Loop) (whole : ℕ → Loop → Exited)
     (is_whole : (id : ℕ) (l : Loop) → whole id l ≡ wait_or_end id (step id l)) (left : LeftByExit a b body) (going : a.ended ≡ false) where
-  waiting : (t : Ties) (p : Parts) (group : Group) (future number : ℕ) → future ≡ number → KeepsGroup t p b group
+  waiting : (t : NameMap) (p : Parts) (group : Group) (future number : ℕ) → future ≡ number → KeepsGroup t p b group
       → KeepsGroup t p (record b { exit_future = Some future }) (record group { exit_future = Some number })
   waiting t p group future number at is = record {
     same = ap (λ (g : Group). record g { exit_future = Some future }) is.same
@@ -183,13 +183,13 @@ module _ (a b : Held) (body : Option Exc) (v w x : View) (step : ℕ → Loop �
       → w ≡ record v { futures = v.futures ++ record { kind = Plain; outcome = None; callbacks = [] } ∷ [] } → WaitsMade (parts v)
       → ((id : ℕ) (l : Loop) → WaitsMade l.parts → Each (IsMade l.parts) (group_of l id).children
       → slice_get l.groups id ≡ Some (group_of l id) → Passes (step id) l)
-      → Steps a w b x step
+      → GroupSteps a w b x step
       → Exits a v (gone_on (next.Waits future) b) x whole (answer_of (next.Waits future) b)
   exit_goes_on_waiting future some number plain made passes steps t groups id l e s =
       let p = l.parts in
       let h = there t groups v l id a e s in
       let l1 = in_parts new_plain l in
-      let s1 : Stands t groups w l1 = record {
+      let s1 : GroupsStand t groups w l1 = record {
         keeps = subst (λ y. Keeps t y (new_plain p)) (sym plain) (kept_new_plain t v p s.keeps);
         each = groups_on t t p (new_plain p) (new_plain_on p) refl groups l.groups s.each;
       } in
@@ -202,22 +202,22 @@ module _ (a b : Held) (body : Option Exc) (v w x : View) (step : ℕ → Loop �
       let c1 : Came t l1 (slice_set groups id b) x m1 =
       subst (λ z. Came t l1 (slice_set groups id b) x z) pass.same (steps t groups id l1 e s1) in
       let e1 = get-set_same groups id a b e in
-      let h1 = there c1.ties (slice_set groups id b) x m1 id b e1 c1.stands in
+      let h1 = there c1.name_map (slice_set groups id b) x m1 id b e1 c1.stands in
       let kept = pass.leaves.made in
       let of_view = futures_made t v p s.keeps in
       let at : future ≡ next_future m.parts = number ∙ of_view ∙ sym kept in
       let new = record (group_of m1 id) { exit_future = Some (next_future m.parts) } in
       let c : Held = record b { exit_future = Some future } in
-      let waits : KeepsGroup c1.ties m1.parts c new = waiting c1.ties m1.parts (group_of m1 id) future (next_future m.parts) at h1.is in
-      let stands = set_stands c1.ties (slice_set groups id b) x m1 id b c new e1 c1.stands waits in
+      let waits : KeepsGroup c1.name_map m1.parts c new = waiting c1.name_map m1.parts (group_of m1 id) future (next_future m.parts) at h1.is in
+      let stands = set_stands c1.name_map (slice_set groups id b) x m1 id b c new e1 c1.stands waits in
       let some_left : is_empty (group_of m id).children ≡ false =
       ap is_empty (sym (children_same h1.is)) ∙ ap is_empty left.children ∙ some in
       let is : whole id l ≡ wait_for_children id m = is_whole id l ∙ waits_as id m (group_of m id).children some_left in
       subst (λ (y : Exited). Came t l (slice_set groups id c) x y.loop × (exit_of (answer_of (next.Waits future) b) ≡ y.answer)) (sym is) (
         record {
-          ties = c1.ties;
-          stands = subst (λ gs. Stands c1.ties gs x (set_group id new m1)) (set-set groups id b c) stands;
-          extends = then_extends t t c1.ties p (new_plain p) m1.parts (same_extends t p (new_plain p) (omega arith)) c1.extends;
+          name_map = c1.name_map;
+          stands = subst (λ gs. GroupsStand c1.name_map gs x (set_group id new m1)) (set-set groups id b c) stands;
+          extends = then_extends t t c1.name_map p (new_plain p) m1.parts (same_extends t p (new_plain p) (omega arith)) c1.extends;
           goes_on = then_on p (new_plain p) m1.parts (new_plain_on p) c1.goes_on;
         },
         ap Waits at,
@@ -225,17 +225,17 @@ module _ (a b : Held) (body : Option Exc) (v w x : View) (step : ℕ → Loop �
 
   -- none is
   pub exit_goes_on_ending : (fault : Option Exc) → is_empty a.children ≡ true
-      → fault ≡ fault_of (failures (parts v) a.failed ++ listed body) → Steps a v b x step
+      → fault ≡ fault_of (failures (parts v) a.failed ++ listed body) → GroupSteps a v b x step
       → Exits a v (gone_on (next.Ends fault) b) x whole (answer_of (next.Ends fault) b)
   exit_goes_on_ending fault none is_fault steps t groups id l e s =
       let m = step id l in
       let c1 = steps t groups id l e s in
       let e1 = get-set_same groups id a b e in
       let h = there t groups v l id a e s in
-      let h1 = there c1.ties (slice_set groups id b) x m id b e1 c1.stands in
+      let h1 = there c1.name_map (slice_set groups id b) x m id b e1 c1.stands in
       let before = (h.is.faults going).errors in
       let after = h1.is.faults left.ended in
-      let carried = errors_on t c1.ties l.parts m.parts c1.goes_on c1.extends.gone a.failed (group_of l id).errors h.is.failed before in
+      let carried = errors_on t c1.name_map l.parts m.parts c1.goes_on c1.extends.gone a.failed (group_of l id).errors h.is.failed before in
       let same : (group_of l id).errors ≡ (group_of m id).errors =
       some_each (group_of l id).errors (group_of m id).errors
       (sym carried ∙ ap (map (failure_of m.parts)) (sym left.failed) ∙ after.errors) in
@@ -245,17 +245,17 @@ module _ (a b : Held) (body : Option Exc) (v w x : View) (step : ℕ → Loop �
       let body_is : listed body ≡ body_failure (group_of m id).body = ap listed (sym left.body) ∙ after.body in
       let fault_is : fault ≡ fault_of ((group_of m id).errors ++ body_failure (group_of m id).body) =
       is_fault ∙ ap (λ es. fault_of (es ++ listed body)) errors ∙ ap (λ es. fault_of ((group_of m id).errors ++ es)) body_is in
-      let ends = exit_ends c1.ties (slice_set groups id b) x id m b fault e1 c1.stands left.ended left.exiting left.exit_future
+      let ends = exit_ends c1.name_map (slice_set groups id b) x id m b fault e1 c1.stands left.ended left.exiting left.exit_future
       (ap is_empty left.children ∙ none) fault_is in
       let d : Held = record b { ended = true; body = None; kept = None } in
       let now = (wait_or_end id m).loop in
       subst (λ (y : Exited). Came t l (slice_set groups id d) x y.loop × (exit_of (answer_of (next.Ends fault) b) ≡ y.answer))
       (sym (is_whole id l)) (
         record {
-          ties = c1.ties;
-          stands = subst (λ gs. Stands c1.ties gs x now) (set-set groups id b d) ends.0;
-          extends = subst (λ q. Extends l.parts t q c1.ties) (sym ends.1.0) c1.extends;
-          goes_on = subst (λ q. GoesOn l.parts q) (sym ends.1.0) c1.goes_on;
+          name_map = c1.name_map;
+          stands = subst (λ gs. GroupsStand c1.name_map gs x now) (set-set groups id b d) ends.0;
+          extends = subst (λ q. Extends l.parts t q c1.name_map) (sym ends.1.0) c1.extends;
+          goes_on = subst (λ q. PartsGoOn l.parts q) (sym ends.1.0) c1.goes_on;
         },
         ends.1.1,
       )
@@ -279,18 +279,18 @@ module _ (a b : Held) (body : Option Exc) (v w x : View) (step : ℕ → Loop �
     (is_whole : (id : ℕ) (l : Loop) → whole id l ≡ wait_or_end id (step id l))
     (passes : (id : ℕ) (l : Loop) → WaitsMade l.parts → Each (IsMade l.parts) (group_of l id).children
     → slice_get l.groups id ≡ Some (group_of l id) → Passes (step id) l)
-    (steps : Steps a w b x step) where
+    (steps : GroupSteps a w b x step) where
   exits_by : (n : ExitStep) → IsNext a body v n w → LeftByExit a b body → a.ended ≡ false
       → Exits a v (gone_on n b) x whole (answer_of n b)
   exits_by (next.Waits future) is left going =
       exit_goes_on_waiting a b body v w x step whole is_whole left going future is.0 is.1.0 is.1.1.0 is.1.1.1 passes steps
   exits_by (next.Ends fault) is left going =
       exit_goes_on_ending a b body v w x step whole is_whole left going fault is.0 is.1.0
-      (subst (λ y. Steps a y b x step) is.1.1 steps)
+      (subst (λ y. GroupSteps a y b x step) is.1.1 steps)
 
   -- what is left of the group is told by how the machine's stands
   pub exits_on : (n : ExitStep) → IsNext a body v n w
-      → ((t : Ties) (p : Parts) (group : Group) → KeepsGroup t p a group → LeftByExit a b body × (a.ended ≡ false))
+      → ((t : NameMap) (p : Parts) (group : Group) → KeepsGroup t p a group → LeftByExit a b body × (a.ended ≡ false))
       → Exits a v (gone_on n b) x whole (answer_of n b)
   exits_on n is left t groups id l e s =
       let h = left t l.parts (group_of l id) (there t groups v l id a e s).is in

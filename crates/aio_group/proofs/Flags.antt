@@ -7,12 +7,12 @@ use Rattle.model_loop.specs.Groups.{body_failure, only_cancelled}
 use Rattle.model_loop.specs.Loop.{Group}
 use Rattle.model_loop.specs.Parts.{Parts}
 use Rattle.model_loop.specs.Tasks.{is_cancelled}
-use Rattle.aio_task.specs.Keeps.{Ties}
+use Rattle.aio_task.specs.Keeps.{NameMap}
 use Rattle.aio_group.specs.Held.{Held, failing, listed}
 use Rattle.aio_group.specs.Stands.{KeepsGroup}
 
 -- what is held of a group is the machine's
-module _ {t : Ties} {p : Parts} {held : Held} {group : Group} (is : KeepsGroup t p held group) where
+module _ {t : NameMap} {p : Parts} {held : Held} {group : Group} (is : KeepsGroup t p held group) where
   pub children_same : held.children ≡ group.children
   children_same = ap (λ (g : Group). g.children) is.same
 

@@ -24,9 +24,9 @@ use Rattle.law_steps.proofs.Settling.{IsSettled, settle_cases}
 use Rattle.law_steps.proofs.Spreading.{as_row, with_spread}
 use Rattle.law_groups.proofs.Holding.{KeepsOwners, settled_names, looks_names, cancels_names}
 use Rattle.aio_task.specs.View.{View, parts}
-use Rattle.aio_group.specs.GoesOn.{GoesOn, Moves}
+use Rattle.aio_group.specs.GoesOn.{PartsGoOn, Moves}
 
-pub same_on : (p : Parts) → GoesOn p p
+pub same_on : (p : Parts) → PartsGoOn p p
 same_on p = record {
   tasks = omega arith;
   futures = omega arith;
@@ -35,7 +35,7 @@ same_on p = record {
   failures = λ _ _ e. e;
 }
 
-pub then_on : (p q r : Parts) → GoesOn p q → GoesOn q r → GoesOn p r
+pub then_on : (p q r : Parts) → PartsGoOn p q → PartsGoOn q r → PartsGoOn p r
 then_on p q r a b =
     let at = a.tasks in
     let bt = b.tasks in
@@ -56,7 +56,7 @@ done_at (Some future) outcome e = rw e refl
 
 -- where the same is made and what is done stays
 pub named_on : (p q : Parts) → KeepsOwners p q → length q.tasks ≡ length p.tasks
-    → ((id : ℕ) → is_pending p id ≡ false → future_outcome q id ≡ future_outcome p id) → GoesOn p q
+    → ((id : ℕ) → is_pending p id ≡ false → future_outcome q id ≡ future_outcome p id) → PartsGoOn p q
 named_on p q names tasks stay =
     let made = names.made in
     record {
@@ -67,34 +67,34 @@ named_on p q names tasks stay =
       failures = λ id fault e. stay id (done_at (slice_get p.futures id) (Failed fault) e) ∙ e;
     }
 
-pub cancel_on : (id : ℕ) (p : Parts) → GoesOn p (cancel id p).parts
+pub cancel_on : (id : ℕ) (p : Parts) → PartsGoOn p (cancel id p).parts
 cancel_on id p =
     let spread = with_spread id [] p in
     named_on p (cancel id p).parts (cancels_names spread) (goes-tasks (as_row spread))
     (λ j d. ap outcome_at (goes-done (as_row spread) j d))
 
-pub request_where_on : (b : Bool) (by : Origin) (id : ℕ) (p : Parts) → GoesOn p (request_where b by id p).parts
+pub request_where_on : (b : Bool) (by : Origin) (id : ℕ) (p : Parts) → PartsGoOn p (request_where b by id p).parts
 request_where_on true by id p = cancel_on id p
 request_where_on false by id p = same_on p
 
-pub request_each_on : (by : Origin) (tasks : List ℕ) (p : Parts) → GoesOn p (request_each by tasks p).parts
+pub request_each_on : (by : Origin) (tasks : List ℕ) (p : Parts) → PartsGoOn p (request_each by tasks p).parts
 request_each_on by [] p = same_on p
 request_each_on by (task ∷ tasks) p =
     let first = (request_where (lives p task) by (future_of p task) p).parts in
     then_on p first (request_each by tasks first).parts
     (request_where_on (lives p task) by (future_of p task) p) (request_each_on by tasks first)
 
-pub settle_on : (id : ℕ) (outcome : Outcome) (p : Parts) → GoesOn p (settle id outcome p)
-settle_on id outcome p = settle_cases (GoesOn p) id outcome p (same_on p) settled
+pub settle_on : (id : ℕ) (outcome : Outcome) (p : Parts) → PartsGoOn p (settle id outcome p)
+settle_on id outcome p = settle_cases (PartsGoOn p) id outcome p (same_on p) settled
   where
-    settled : (q : Parts) → IsSettled id p q → GoesOn p q
+    settled : (q : Parts) → IsSettled id p q → PartsGoOn p q
     settled q s = named_on p q (settled_names id p q s) (ap length s.tasks) (λ j d. stay j d (cases_eq id j))
       where
         stay : (j : ℕ) → is_pending p j ≡ false → (id ≡ j) ⊎ (id ≡ j → ⊥) → future_outcome q j ≡ future_outcome p j
         stay j d (inl same) = absurd (false≢true (sym d ∙ subst (λ i. is_pending p i ≡ true) same s.was))
         stay j d (inr n) = ap outcome_at (s.others j n)
 
-pub uncancel_on : (task : ℕ) (p : Parts) → GoesOn p (uncancel task p)
+pub uncancel_on : (task : ℕ) (p : Parts) → PartsGoOn p (uncancel task p)
 uncancel_on task p =
     let looks = change_looks_same task (λ (t : Task). record t { cancels = t.cancels - 1 }) p (λ t. refl) (λ t. refl) in
     named_on p (uncancel task p) (looks_names p (uncancel task p) looks) looks.tasks (λ id d. looks.outcomes id)
@@ -127,7 +127,7 @@ own_there [] task next other m = absurd (omega arith)
 own_there (t ∷ tasks) zero next other m = refl
 own_there (t ∷ tasks) (suc task) next other m = own_there tasks task next other (omega arith)
 
-pub new_plain_on : (p : Parts) → GoesOn p (new_plain p)
+pub new_plain_on : (p : Parts) → PartsGoOn p (new_plain p)
 new_plain_on p =
     let l = longer plain.Plain p in
     record {
@@ -138,7 +138,7 @@ new_plain_on p =
       failures = λ id fault e. outcome_on plain.Plain p id (Failed fault) e;
     }
 
-pub spawn_on : (p : Parts) → GoesOn p (spawn p)
+pub spawn_on : (p : Parts) → PartsGoOn p (spawn p)
 spawn_on p =
     let kind = OfTask (next_task p) in
     let task_of : Task = record { future = next_future p; waiter = None; cancels = 0; must_cancel = false } in
@@ -155,11 +155,11 @@ spawn_on p =
       failures = λ id fault e. outcome_on kind p id (Failed fault) e;
     }
 
-pub register_on : (id : ℕ) (action : Action) (p : Parts) → GoesOn p (register id action p)
+pub register_on : (id : ℕ) (action : Action) (p : Parts) → PartsGoOn p (register id action p)
 register_on id action p = at (slice_get p.futures id) refl
   where
     until : (future : Future) → slice_get p.futures id ≡ Some future → (o : Option Outcome)
-        → GoesOn p (registered_on o id future action p)
+        → PartsGoOn p (registered_on o id future action p)
     until future e (Some done) = record {
       tasks = omega arith;
       futures = omega arith;
@@ -178,20 +178,20 @@ register_on id action p = at (slice_get p.futures id) refl
           failures = λ j fault h. get-set_kept outcome_at p.futures id j future new e refl ∙ h;
         }
 
-    at : (o : Option Future) → slice_get p.futures id ≡ o → GoesOn p (registered o id action p)
+    at : (o : Option Future) → slice_get p.futures id ≡ o → PartsGoOn p (registered o id action p)
     at None e = same_on p
     at (Some future) e = until future e future.outcome
 
-pub with_child_on : (id : ℕ) (p : Parts) → GoesOn p (with_child id p)
+pub with_child_on : (id : ℕ) (p : Parts) → PartsGoOn p (with_child id p)
 with_child_on id p =
     then_on p (spawn p) (with_child id p) (spawn_on p) (register_on (next_future p) (GroupDone id (next_task p)) (spawn p))
 
 -- ---- views
 pub same_moves : (v : View) → Moves v v
-same_moves v = record { goes_on = same_on (parts v); beside = refl }
+same_moves v = record { goes_on = same_on (parts v); frame = refl }
 
 pub then_moves : (v w x : View) → Moves v w → Moves w x → Moves v x
 then_moves v w x a b = record {
   goes_on = then_on (parts v) (parts w) (parts x) a.goes_on b.goes_on;
-  beside = b.beside ∙ ap (λ (y : View). record y { queue = x.queue; futures = x.futures; tasks = x.tasks }) a.beside;
+  frame = b.frame ∙ ap (λ (y : View). record y { queue = x.queue; futures = x.futures; tasks = x.tasks }) a.frame;
 }

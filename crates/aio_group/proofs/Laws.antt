@@ -12,12 +12,12 @@ use Rattle.aio_ready.specs.Queue.{soon_all}
 use Rattle.aio_future.specs.Settled as settled
 use Rattle.aio_future.specs.Settled.{called, registered, soon_if_done}
 use Rattle.aio_task.specs.View.{View, parts}
-use Rattle.aio_task.specs.Keeps.{Ties, Keeps, Kept, Becomes}
+use Rattle.aio_task.specs.Keeps.{NameMap, Keeps, Kept, Becomes}
 use Rattle.refine_parts.proofs.Appending.{extends_still}
 use Rattle.refine_parts.proofs.Calls as calls
 use Rattle.refine_parts.proofs.Telling.{next_kept, outcome_kept, future_of_kept}
 
-pub kept_request : (t : Ties) (v w : View) (p : Parts) (by : Origin) (id : ℕ) → Keeps t v p
+pub kept_request : (t : NameMap) (v w : View) (p : Parts) (by : Origin) (id : ℕ) → Keeps t v p
     → Becomes v w (cancel id (parts v)).parts → Kept t p w (request by id p).booked.parts
 kept_request t v w p by id k becomes = calls.kept_request t v w p k by id becomes
 
@@ -30,15 +30,15 @@ uncancel-tag task p = at (slice_get p.tasks task)
     at None = refl
     at (Some t) = refl
 
-pub kept_uncancel : (t : Ties) (v w : View) (p : Parts) (task : ℕ) → Keeps t v p
+pub kept_uncancel : (t : NameMap) (v w : View) (p : Parts) (task : ℕ) → Keeps t v p
     → Becomes v w (uncancel task (parts v)) → Kept t p w (uncancel task p)
 kept_uncancel t v w p task k becomes = record {
-  ties = t;
+  name_map = t;
   keeps = calls.keeps_uncancel t v w p k task becomes;
   extends = extends_still t p (uncancel task p) (uncancel-tag task p);
 }
 
-pub kept_settle : (t : Ties) (v : View) (p : Parts) (id : ℕ) (outcome : Outcome) → Keeps t v p
+pub kept_settle : (t : NameMap) (v : View) (p : Parts) (id : ℕ) (outcome : Outcome) → Keeps t v p
     → Kept t p
     (record v {
       futures = settled.settled id outcome v.futures;
@@ -47,7 +47,7 @@ pub kept_settle : (t : Ties) (v : View) (p : Parts) (id : ℕ) (outcome : Outcom
     (settle id outcome p)
 kept_settle t v p id outcome k = calls.kept_settle t v p k id outcome
 
-pub kept_register : (t : Ties) (v : View) (p : Parts) (id : ℕ) (action : Action) → Keeps t v p
+pub kept_register : (t : NameMap) (v : View) (p : Parts) (id : ℕ) (action : Action) → Keeps t v p
     → Kept t p
     (record v {
       futures = registered id action v.futures;
@@ -56,22 +56,22 @@ pub kept_register : (t : Ties) (v : View) (p : Parts) (id : ℕ) (action : Actio
     (register id action p)
 kept_register t v p id action k = calls.kept_register t v p k id action
 
-pub kept_spawn : (t : Ties) (v w : View) (p : Parts) → Keeps t v p → Becomes v w (spawn (parts v)) → Kept t p w (spawn p)
+pub kept_spawn : (t : NameMap) (v w : View) (p : Parts) → Keeps t v p → Becomes v w (spawn (parts v)) → Kept t p w (spawn p)
 kept_spawn t v w p k becomes = calls.kept_spawn t v w p k becomes
 
-pub kept_new_plain : (t : Ties) (v : View) (p : Parts) → Keeps t v p
+pub kept_new_plain : (t : NameMap) (v : View) (p : Parts) → Keeps t v p
     → Keeps t (record v { futures = v.futures ++ record { kind = Plain; outcome = None; callbacks = [] } ∷ [] }) (new_plain p)
 kept_new_plain t v p k = calls.keeps_plain t v p k
 
-pub futures_made : (t : Ties) (v : View) (p : Parts) → Keeps t v p → length v.futures ≡ next_future p
+pub futures_made : (t : NameMap) (v : View) (p : Parts) → Keeps t v p → length v.futures ≡ next_future p
 futures_made t v p k = next_kept t v p k
 
-pub tasks_made : (t : Ties) (v : View) (p : Parts) → Keeps t v p → length v.tasks ≡ next_task p
+pub tasks_made : (t : NameMap) (v : View) (p : Parts) → Keeps t v p → length v.tasks ≡ next_task p
 tasks_made t v p k = ap length k.tasks
 
-pub kept_outcome : (t : Ties) (v : View) (p : Parts) (id : ℕ) → Keeps t v p → t.gone id ≡ false
+pub kept_outcome : (t : NameMap) (v : View) (p : Parts) (id : ℕ) → Keeps t v p → t.gone id ≡ false
     → outcome_at (slice_get v.futures id) ≡ future_outcome p id
 kept_outcome t v p id k there = outcome_kept t v p k id there
 
-pub kept_future_of : (t : Ties) (v : View) (p : Parts) (task : ℕ) → Keeps t v p → future_of (parts v) task ≡ future_of p task
+pub kept_future_of : (t : NameMap) (v : View) (p : Parts) (task : ℕ) → Keeps t v p → future_of (parts v) task ≡ future_of p task
 kept_future_of t v p task k = future_of_kept t v p k task

@@ -13,10 +13,10 @@ use Rattle.model_loop.specs.Loop.{Loop, book}
 use Rattle.model_loop.specs.Parts.{Task, Parts}
 use Rattle.model_loop.specs.Tasks.{cancelling, uncancel}
 use Rattle.aio_task.specs.View.{View, parts}
-use Rattle.aio_task.specs.Keeps.{Ties, Keeps, Kept}
+use Rattle.aio_task.specs.Keeps.{NameMap, Keeps, Kept}
 use Rattle.aio_group.specs.Exits.{heard}
 use Rattle.aio_group.specs.Held.{Held, failing}
-use Rattle.aio_group.specs.Stands.{Steps}
+use Rattle.aio_group.specs.Stands.{GroupSteps}
 use Rattle.aio_group.proofs.Flags.{parent_same, aborting_same, requested_same, keeps_this, wakes_up, begins}
 use Rattle.aio_group.proofs.Going.{uncancel_on}
 use Rattle.aio_group.proofs.Laws.{kept_uncancel}
@@ -28,26 +28,26 @@ IsQuiet held (Send value) = Unit {0}
 IsQuiet held (Throw fault) = held.aborting ≡ true
 
 -- a step on a condition
-pub raised_steps : (a b : Held) (v w : View) (raised : Option Exc) → (is_some raised && not a.aborting) ≡ true → Steps a v b w abort
-    → Steps a v b w (abort_if_raised raised)
+pub raised_steps : (a b : Held) (v w : View) (raised : Option Exc) → (is_some raised && not a.aborting) ≡ true → GroupSteps a v b w abort
+    → GroupSteps a v b w (abort_if_raised raised)
 raised_steps a b v w raised e step = as_step a b v w abort (abort_if_raised raised) step (λ t id l h k.
     let c : (is_some raised && not (group_of l id).aborting) ≡ true = rw (← aborting_same h.is) e in
     (rw c refl, rw c refl))
 
 pub raised_stays : (a : Held) (v : View) (raised : Option Exc) → (is_some raised && not a.aborting) ≡ false
-    → Steps a v a v (abort_if_raised raised)
+    → GroupSteps a v a v (abort_if_raised raised)
 raised_stays a v raised e = as_step a a v v (λ id l. l) (abort_if_raised raised) (no_step a v) (λ t id l h k.
     let c : (is_some raised && not (group_of l id).aborting) ≡ false = rw (← aborting_same h.is) e in
     (rw c refl, rw c refl))
 
 pub begin_steps : (a : Held) (v : View) (raised : Option Exc)
-    → Steps a v (record a { exiting = true; body = failing raised; kept = only_cancelled raised }) v (begin_exit raised)
+    → GroupSteps a v (record a { exiting = true; body = failing raised; kept = only_cancelled raised }) v (begin_exit raised)
 begin_steps a v raised =
     set_steps a (record a { exiting = true; body = failing raised; kept = only_cancelled raised }) v (begin_exit raised)
     (λ p group. record group { exiting = true; body = raised; kept = only_cancelled raised }) (λ id l. refl) (λ id l. refl)
     (λ t p group k is. begins is raised)
 
-pub take_back_stays : (a : Held) (v : View) → a.requested ≡ false → Steps a v a v take_back
+pub take_back_stays : (a : Held) (v : View) → a.requested ≡ false → GroupSteps a v a v take_back
 take_back_stays a v e = as_step a a v v (λ id l. l) take_back (no_step a v) (λ t id l h k.
     let c : (group_of l id).requested ≡ false = sym (requested_same h.is) ∙ e in
     (rw c refl, rw c refl))
@@ -77,21 +77,21 @@ taken_back : (id : ℕ) (l : Loop) → (group_of l id).requested ≡ true
 taken_back id l e = ap (λ b. take_back_where b id l) e
 
 module _ (a : Held) (v w : View) (requested : a.requested ≡ true) (e : parts w ≡ uncancel a.parent (parts v))
-    (beside : w ≡ record v { tasks = w.tasks }) where
-  took_steps : Steps a v a w took
+    (frame : w ≡ record v { tasks = w.tasks }) where
+  took_steps : GroupSteps a v a w took
   took_steps = parts_steps a v w took (λ t id l h k. (
     subst (λ (i : ℕ). Kept t l.parts w (uncancel i l.parts)) (parent_same h.is)
         (kept_uncancel t v w l.parts a.parent k (record {
           parts = e;
-          queue = ([], ap (λ (x : View). x.queue) beside);
-          time = ap (λ (x : View). x.time) beside;
-          schedule = ap (λ (x : View). x.schedule) beside;
+          queue = ([], ap (λ (x : View). x.queue) frame);
+          time = ap (λ (x : View). x.time) frame;
+          schedule = ap (λ (x : View). x.schedule) frame;
         })),
     (uncancel_on (group_of l id).parent l.parts, refl),
   ))
 
   -- the count in code is the machine's
-  left : (t : Ties) (id : ℕ) (l : Loop) → There t a id l → Keeps t v l.parts
+  left : (t : NameMap) (id : ℕ) (l : Loop) → There t a id l → Keeps t v l.parts
       → cancelling (parts w) a.parent ≡ cancelling (took id l).parts (group_of l id).parent
   left t id l h k =
       let tasks : (uncancel a.parent (parts v)).tasks ≡ (uncancel a.parent l.parts).tasks =
@@ -100,7 +100,7 @@ module _ (a : Held) (v w : View) (requested : a.requested ≡ true) (e : parts w
       ∙ ap (λ (ts : List Task). option_map_or (λ (t : Task). t.cancels) (slice_get ts a.parent) 0) tasks
       ∙ ap (λ (i : ℕ). cancelling (uncancel i l.parts) i) (parent_same h.is)
 
-  pub take_back_steps : (0 < cancelling (parts w) a.parent) → Steps a v a w take_back
+  pub take_back_steps : (0 < cancelling (parts w) a.parent) → GroupSteps a v a w take_back
   take_back_steps some = as_step a a v w took take_back took_steps (λ t id l h k.
       let c : (group_of l id).requested ≡ true = sym (requested_same h.is) ∙ requested in
       let n = left t id l h k in
@@ -109,7 +109,7 @@ module _ (a : Held) (v w : View) (requested : a.requested ≡ true) (e : parts w
       let e = taken_back id l c ∙ ap (λ b. dropped_if b id l) d in
       (ap (λ (m : Loop). m.parts) (sym e), ap (λ (m : Loop). m.groups) (sym e)))
 
-  pub take_back_drops : cancelling (parts w) a.parent ≡ 0 → Steps a v (record a { kept = None }) w take_back
+  pub take_back_drops : cancelling (parts w) a.parent ≡ 0 → GroupSteps a v (record a { kept = None }) w take_back
   take_back_drops none =
       let b : Held = record a { kept = None } in
       as_step a b v w (λ id l. drops id (took id l)) take_back
@@ -129,18 +129,18 @@ module _ (a : Held) (v w : View) (requested : a.requested ≡ true) (e : parts w
 abbrev wakes : ℕ → Loop → Loop
 wakes id l = set_group id (record (group_of l id) { exit_future = None }) l
 
-wake_up_steps : (a : Held) (v : View) → Steps a v (record a { exit_future = None }) v wakes
+wake_up_steps : (a : Held) (v : View) → GroupSteps a v (record a { exit_future = None }) v wakes
 wake_up_steps a v =
     set_steps a (record a { exit_future = None }) v wakes (λ p group. record group { exit_future = None }) (λ id l. refl) (λ id l. refl)
     (λ t p group k is. wakes_up is)
 
-pub heard_stays : (a : Held) (v : View) (input : Input) → IsQuiet a input → Steps a v (record a { exit_future = None }) v (heard input)
+pub heard_stays : (a : Held) (v : View) (input : Input) → IsQuiet a input → GroupSteps a v (record a { exit_future = None }) v (heard input)
 heard_stays a v input quiet =
     let b : Held = record a { exit_future = None } in
     then_steps a b b v v v wakes (hear input) (wake_up_steps a v)
     (as_step b b v v (λ id l. l) (hear input) (no_step b v) (λ t id l h k. go input quiet l id h))
   where
-    go : {t : Ties} (input : Input) → IsQuiet a input → (l : Loop) (id : ℕ) → There t (record a { exit_future = None }) id l
+    go : {t : NameMap} (input : Input) → IsQuiet a input → (l : Loop) (id : ℕ) → There t (record a { exit_future = None }) id l
         → (l.parts ≡ (hear input id l).parts) × (l.groups ≡ (hear input id l).groups)
     go (Send value) q l id h = (refl, refl)
     go (Throw fault) q l id h =
@@ -148,8 +148,8 @@ heard_stays a v input quiet =
         (rw c refl, rw c refl)
 
 pub heard_steps : (a : Held) (v w : View) (fault : Exc) → a.aborting ≡ false
-    → Steps (record a { exit_future = None; kept = Some fault }) v (record a { exit_future = None; kept = Some fault; aborting = true }) w abort
-    → Steps a v (record a { exit_future = None; kept = Some fault; aborting = true }) w (heard (Throw fault))
+    → GroupSteps (record a { exit_future = None; kept = Some fault }) v (record a { exit_future = None; kept = Some fault; aborting = true }) w abort
+    → GroupSteps a v (record a { exit_future = None; kept = Some fault; aborting = true }) w (heard (Throw fault))
 heard_steps a v w fault e step =
     let b : Held = record a { exit_future = None } in
     let c : Held = record a { exit_future = None; kept = Some fault } in

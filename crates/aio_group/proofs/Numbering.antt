@@ -10,11 +10,11 @@ use Rattle.model_loop.specs.Parts as plain
 use Rattle.model_loop.specs.Parts.{Parts}
 use Rattle.model_loop.specs.Tasks.{future_of, next_task, spawn}
 use Rattle.aio_task.specs.View.{View}
-use Rattle.aio_task.specs.Keeps.{Ties, Keeps, Kept}
+use Rattle.aio_task.specs.Keeps.{NameMap, Keeps, Kept}
 use Rattle.aio_group.specs.declared.created.Created.TheVariants as created
 use Rattle.aio_group.specs.Answers.{created_of}
 use Rattle.aio_group.specs.Held.{Held, new_held, shown}
-use Rattle.aio_group.specs.Stands.{IsLive, KeepsGroup, KeepsAt, StandForGroups, Stands, Came}
+use Rattle.aio_group.specs.Stands.{IsLive, KeepsGroup, KeepsAt, StandForGroups, GroupsStand, Came}
 use Rattle.aio_group.proofs.Flags.{enters}
 use Rattle.aio_group.proofs.Going.{with_child_on, register_on}
 use Rattle.aio_group.proofs.Laws.{tasks_made}
@@ -23,7 +23,7 @@ use Rattle.aio_group.proofs.Spawning.{own_future_of}
 use Rattle.aio_group.proofs.Standing.{there, parts_came, set_stands, stays}
 
 -- ---- a group more
-new_keeps : (t : Ties) (p : Parts) (parent : ℕ) → KeepsGroup t p (new_held parent) (new_group parent)
+new_keeps : (t : NameMap) (p : Parts) (parent : ℕ) → KeepsGroup t p (new_held parent) (new_group parent)
 new_keeps t p parent = record {
   same = refl;
   children = tt;
@@ -33,7 +33,7 @@ new_keeps t p parent = record {
   late = λ e. absurd (false≢true e);
 }
 
-each_push : (t : Ties) (p : Parts) (held : Held) (group : Group) → KeepsGroup t p held group → (groups : List Held) (plain : List Group)
+each_push : (t : NameMap) (p : Parts) (held : Held) (group : Group) → KeepsGroup t p held group → (groups : List Held) (plain : List Group)
     → ((id : ℕ) → KeepsAt t p (slice_get groups id) (slice_get plain id))
     → (id : ℕ) → KeepsAt t p (slice_get (groups ++ held ∷ []) id) (slice_get (plain ++ group ∷ []) id)
 each_push t p held group is [] [] each zero = is
@@ -43,15 +43,15 @@ each_push t p held group is (x ∷ groups) [] each id = absurd (each zero)
 each_push t p held group is (x ∷ groups) (y ∷ plain) each zero = each zero
 each_push t p held group is (x ∷ groups) (y ∷ plain) each (suc id) = each_push t p held group is groups plain (λ i. each (suc i)) id
 
-pub make_stands : (t : Ties) (groups : List Held) (v : View) (l : Loop) (parent : ℕ) → Stands t groups v l
-    → Stands t (groups ++ new_held parent ∷ []) v (make_group parent l)
+pub make_stands : (t : NameMap) (groups : List Held) (v : View) (l : Loop) (parent : ℕ) → GroupsStand t groups v l
+    → GroupsStand t (groups ++ new_held parent ∷ []) v (make_group parent l)
 make_stands t groups v l parent s = record {
   keeps = s.keeps;
   each = each_push t l.parts (new_held parent) (new_group parent) (new_keeps t l.parts parent) groups l.groups s.each;
 }
 
 -- a group of a number that none has isn't the machine's either
-pub none_there : (t : Ties) (groups : List Held) (v : View) (l : Loop) (id : ℕ) → slice_get groups id ≡ None → Stands t groups v l
+pub none_there : (t : NameMap) (groups : List Held) (v : View) (l : Loop) (id : ℕ) → slice_get groups id ≡ None → GroupsStand t groups v l
     → slice_get l.groups id ≡ None
 none_there t groups v l id e s = go (slice_get l.groups id) refl (subst (λ o. KeepsAt t l.parts o (slice_get l.groups id)) e (s.each id))
   where
@@ -59,14 +59,14 @@ none_there t groups v l id e s = go (slice_get l.groups id) refl (subst (λ o. K
     go None d is = d
     go (Some group) d is = absurd is
 
-pub enter_stands : (t : Ties) (groups : List Held) (v : View) (l : Loop) (id : ℕ) (held : Held) → slice_get groups id ≡ Some held
-    → Stands t groups v l → Stands t (slice_set groups id (record held { entered = true })) v (enter_group id l)
+pub enter_stands : (t : NameMap) (groups : List Held) (v : View) (l : Loop) (id : ℕ) (held : Held) → slice_get groups id ≡ Some held
+    → GroupsStand t groups v l → GroupsStand t (slice_set groups id (record held { entered = true })) v (enter_group id l)
 enter_stands t groups v l id held e s =
     set_stands t groups v l id held (record held { entered = true }) (record (group_of l id) { entered = true }) e s
     (enters (there t groups v l id held e s).is)
 
-pub enter_none : (t : Ties) (groups : List Held) (v : View) (l : Loop) (id : ℕ) → slice_get groups id ≡ None
-    → Stands t groups v l → Stands t groups v (enter_group id l)
+pub enter_none : (t : NameMap) (groups : List Held) (v : View) (l : Loop) (id : ℕ) → slice_get groups id ≡ None
+    → GroupsStand t groups v l → GroupsStand t groups v (enter_group id l)
 enter_none t groups v l id e s =
     let same : slice_set l.groups id (record (group_of l id) { entered = true }) ≡ l.groups =
     set_past l.groups id (record (group_of l id) { entered = true }) (none_there t groups v l id e s) in
@@ -74,11 +74,11 @@ enter_none t groups v l id e s =
 
 -- ---- a task more
 -- the causes are told by what is held
-refusal_same : {t : Ties} {p : Parts} {held : Held} {group : Group} → KeepsGroup t p held group → refusal (shown held) ≡ refusal group
+refusal_same : {t : NameMap} {p : Parts} {held : Held} {group : Group} → KeepsGroup t p held group → refusal (shown held) ≡ refusal group
 refusal_same is = ap refusal is.same
 
-pub refused_stands : (t : Ties) (groups : List Held) (v : View) (l : Loop) (id : ℕ) (held : Held) (cause : Refusal)
-    → slice_get groups id ≡ Some held → Stands t groups v l → refusal (shown held) ≡ Some cause
+pub refused_stands : (t : NameMap) (groups : List Held) (v : View) (l : Loop) (id : ℕ) (held : Held) (cause : Refusal)
+    → slice_get groups id ≡ Some held → GroupsStand t groups v l → refusal (shown held) ≡ Some cause
     → Came t l groups v (create id l) × (created_of (Some cause) (next_task l.parts) ≡ created_of (refusal (group_of l id)) (next_task l.parts))
 refused_stands t groups v l id held cause e s r =
     let is : refusal (group_of l id) ≡ Some cause = sym (refusal_same (there t groups v l id held e s).is) ∙ r in
@@ -86,7 +86,7 @@ refused_stands t groups v l id held cause e s r =
     (subst (λ m. Came t l groups v m) (sym same) (stays t groups v l s), ap (λ o. created_of o (next_task l.parts)) (sym is))
 
 -- the new child lives
-child_lives : (t u : Ties) (v : View) (p : Parts) (id : ℕ) → Keeps t v p → u.gone ≡ t.gone → IsLive u (with_child id p) (next_task p)
+child_lives : (t u : NameMap) (v : View) (p : Parts) (id : ℕ) → Keeps t v p → u.gone ≡ t.gone → IsLive u (with_child id p) (next_task p)
 child_lives t u v p id k gone =
     let action = GroupDone id (next_task p) in
     let on = register_on (next_future p) action (spawn p) in
@@ -106,8 +106,8 @@ child_lives t u v p id k gone =
     not_gone (inl g) = let m = k.made (next_future p) g in absurd (omega (arith, m))
     not_gone (inr g) = g
 
-pub created_stands : (t : Ties) (groups : List Held) (v w : View) (l : Loop) (id task : ℕ) (held new : Held)
-    → slice_get groups id ≡ Some held → Stands t groups v l → refusal (shown held) ≡ None → task ≡ length v.tasks
+pub created_stands : (t : NameMap) (groups : List Held) (v w : View) (l : Loop) (id task : ℕ) (held new : Held)
+    → slice_get groups id ≡ Some held → GroupsStand t groups v l → refusal (shown held) ≡ None → task ≡ length v.tasks
     → new ≡ record held { children = held.children ++ task ∷ [] } → Kept t l.parts w (with_child id l.parts)
     → Came t l (slice_set groups id new) w (create id l)
     × (created.Task task ≡ created_of (refusal (group_of l id)) (next_task l.parts))
@@ -115,16 +115,16 @@ created_stands t groups v w l id task held new e s r number same kept =
     let p = l.parts in
     let m = in_parts (with_child id) l in
     let first = parts_came t groups v w l m s kept (with_child_on id p) refl in
-    let h = there first.ties groups w m id held e first.stands in
+    let h = there first.name_map groups w m id held e first.stands in
     let n : task ≡ next_task p = number ∙ tasks_made t v p s.keeps in
     let group = record (group_of l id) {
       children = (group_of l id).children ++ next_task p ∷ [];
       made = (group_of l id).made ++ next_task p ∷ [];
     } in
-    let grown : KeepsGroup first.ties (with_child id p) (record held { children = held.children ++ next_task p ∷ [] }) group = record {
+    let grown : KeepsGroup first.name_map (with_child id p) (record held { children = held.children ++ next_task p ∷ [] }) group = record {
       same = ap (λ (g : Group). record g { children = g.children ++ next_task p ∷ [] }) h.is.same;
-      children = all_push (IsLive first.ties (with_child id p)) held.children (next_task p) h.is.children
-          (child_lives t first.ties v p id s.keeps first.extends.gone);
+      children = all_push (IsLive first.name_map (with_child id p)) held.children (next_task p) h.is.children
+          (child_lives t first.name_map v p id s.keeps first.extends.gone);
       failed = h.is.failed;
       faults = λ going. let f = h.is.faults going in record { errors = f.errors; body = f.body; kept = f.kept };
       early = h.is.early;
@@ -132,12 +132,12 @@ created_stands t groups v w l id task held new e s r number same kept =
     } in
     let new_is : new ≡ record held { children = held.children ++ next_task p ∷ [] } =
     same ∙ ap (λ (i : ℕ). record held { children = held.children ++ i ∷ [] }) n in
-    let stands = set_stands first.ties groups w m id held new group e first.stands
-    (subst (λ x. KeepsGroup first.ties (with_child id p) x group) (sym new_is) grown) in
+    let stands = set_stands first.name_map groups w m id held new group e first.stands
+    (subst (λ x. KeepsGroup first.name_map (with_child id p) x group) (sym new_is) grown) in
     let none : refusal (group_of l id) ≡ None = sym (refusal_same (there t groups v l id held e s).is) ∙ r in
     let made : create id l ≡ set_group id group m = ap (λ o. create_unless o id l) none in (
       subst (λ x. Came t l (slice_set groups id new) w x) (sym made) (record {
-        ties = first.ties;
+        name_map = first.name_map;
         stands = stands;
         extends = first.extends;
         goes_on = first.goes_on;

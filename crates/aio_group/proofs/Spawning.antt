@@ -14,7 +14,7 @@ use Rattle.aio_future.specs.Settled.{called, registered, soon_if_done}
 use Rattle.aio_cancel.proofs.PartsLemmas.{settle-parts}
 use Rattle.aio_task.proofs.PartsLemmas.{register-parts}
 use Rattle.aio_task.specs.View.{View, body, parts}
-use Rattle.aio_task.specs.Keeps.{Ties, Keeps, Kept}
+use Rattle.aio_task.specs.Keeps.{NameMap, Keeps, Kept}
 use Rattle.aio_group.specs.GoesOn.{Moves}
 use Rattle.aio_group.specs.Held.{Held}
 use Rattle.aio_group.specs.Stands.{Belongs}
@@ -34,26 +34,26 @@ own_future_of p task e =
 
 module _ (v w x : View) (id task future : ℕ) (number : task ≡ length v.tasks) (after : parts w ≡ spawn (parts v))
     (q : w.queue ≡ queue.soon (Step (length v.tasks)) v.queue)
-    (beside : w ≡ record v { queue = w.queue; futures = w.futures; tasks = w.tasks })
+    (frame : w ≡ record v { queue = w.queue; futures = w.futures; tasks = w.tasks })
     (own : future ≡ future_of (parts w) task)
     (told : x ≡ record w {
       futures = registered future (GroupDone id task) w.futures;
       queue = soon_if_done future (GroupDone id task) w.futures w.queue;
     }) where
-  pub child_kept : (t : Ties) (p : Parts) → Keeps t v p → Kept t p x (with_child id p)
+  pub child_kept : (t : NameMap) (p : Parts) → Keeps t v p → Kept t p x (with_child id p)
   child_kept t p k =
-      let first = kept_spawn t v w p k (becomes v w (spawn (parts v)) after (Step (length v.tasks) ∷ [], q) beside) in
-      let second = kept_register first.ties w (spawn p) future (GroupDone id task) first.keeps in
+      let first = kept_spawn t v w p k (becomes v w (spawn (parts v)) after (Step (length v.tasks) ∷ [], q) frame) in
+      let second = kept_register first.name_map w (spawn p) future (GroupDone id task) first.keeps in
       let task_is : task ≡ next_task p = number ∙ tasks_made t v p k in
       let future_is : future ≡ next_future p =
-      own ∙ kept_future_of first.ties w (spawn p) task first.keeps ∙ own_future_of p task task_is in
+      own ∙ kept_future_of first.name_map w (spawn p) task first.keeps ∙ own_future_of p task task_is in
       let whole : register future (GroupDone id task) (spawn p) ≡ with_child id p =
       ap (λ f. register f (GroupDone id task) (spawn p)) future_is
       ∙ ap (λ n. register (next_future p) (GroupDone id n) (spawn p)) task_is in
       subst (λ r. Kept t p x r) whole (record {
-        ties = second.ties;
-        keeps = subst (λ y. Keeps second.ties y (register future (GroupDone id task) (spawn p))) (sym told) second.keeps;
-        extends = then_extends t first.ties second.ties p (spawn p) (register future (GroupDone id task) (spawn p)) first.extends second.extends;
+        name_map = second.name_map;
+        keeps = subst (λ y. Keeps second.name_map y (register future (GroupDone id task) (spawn p))) (sym told) second.keeps;
+        extends = then_extends t first.name_map second.name_map p (spawn p) (register future (GroupDone id task) (spawn p)) first.extends second.extends;
       })
 
   registered_is : parts x ≡ register future (GroupDone id task) (parts w)
@@ -61,7 +61,7 @@ module _ (v w x : View) (id task future : ℕ) (number : task ≡ length v.tasks
 
   pub child_moves : Moves v x
   child_moves =
-      then_moves v w x (moves_by v w (spawn (parts v)) after (spawn_on (parts v)) beside)
+      then_moves v w x (moves_by v w (spawn (parts v)) after (spawn_on (parts v)) frame)
       (moves_by w x (register future (GroupDone id task) (parts w)) registered_is (register_on future (GroupDone id task) (parts w))
       (told ∙ ap (λ (y : View). record w { queue = y.queue; futures = y.futures; tasks = y.tasks }) (sym told)))
 

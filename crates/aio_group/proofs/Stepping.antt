@@ -19,10 +19,10 @@ use Rattle.aio_future.specs.Settled as settled
 use Rattle.aio_future.specs.Settled.{called}
 use Rattle.aio_cancel.specs.Awaitables.{Appended}
 use Rattle.aio_task.specs.View.{View, parts}
-use Rattle.aio_task.specs.Keeps.{Ties, Keeps, Kept}
-use Rattle.aio_group.specs.GoesOn.{GoesOn}
+use Rattle.aio_task.specs.Keeps.{NameMap, Keeps, Kept}
+use Rattle.aio_group.specs.GoesOn.{PartsGoOn}
 use Rattle.aio_group.specs.Held.{Held}
-use Rattle.aio_group.specs.Stands.{Belongs, IsLive, KeepsGroup, Steps}
+use Rattle.aio_group.specs.Stands.{Belongs, IsLive, KeepsGroup, GroupSteps}
 use Rattle.aio_group.proofs.Asking.{becomes}
 use Rattle.aio_group.proofs.Flags.{children_same, parent_same, aborting_same, requested_same, exit_same, aborts, requests}
 use Rattle.aio_group.proofs.Going.{cancel_on, request_each_on, settle_on}
@@ -32,8 +32,8 @@ use Rattle.aio_group.proofs.Standing.{There, group_same, no_step, then_steps, as
 
 -- ---- cancels
 pub abort_steps : (a : Held) (v w : View)
-    → ((t : Ties) (p : Parts) (by : Origin) → Keeps t v p → Kept t p w (request_each by a.children p).parts)
-    → Steps a v (record a { aborting = true }) w abort
+    → ((t : NameMap) (p : Parts) (by : Origin) → Keeps t v p → Kept t p w (request_each by a.children p).parts)
+    → GroupSteps a v (record a { aborting = true }) w abort
 abort_steps a v w kept =
     let b : Held = record a { aborting = true } in
     as_step a b v w (λ id l. ask id (mark id l)) abort
@@ -55,8 +55,8 @@ abort_steps a v w kept =
 
 pub request_parent_steps : (a : Held) (v w : View) → parts w ≡ (cancel (future_of (parts v) a.parent) (parts v)).parts
     → Appended v.queue w.queue → w ≡ record v { queue = w.queue; futures = w.futures; tasks = w.tasks }
-    → Steps a v (record a { requested = true }) w request_parent
-request_parent_steps a v w e q beside =
+    → GroupSteps a v (record a { requested = true }) w request_parent
+request_parent_steps a v w e q frame =
     let b : Held = record a { requested = true } in
     as_step a b v w (λ id l. ask id (mark id l)) request_parent
     (then_steps a b b v v w mark ask
@@ -72,17 +72,17 @@ request_parent_steps a v w e q beside =
     ask : ℕ → Loop → Loop
     ask id l = book (ask_cancel (ByGroup id) (future_of l.parts (group_of l id).parent)) l
 
-    asked : (t : Ties) (id : ℕ) (l : Loop) → There t (record a { requested = true }) id l → Keeps t v l.parts
+    asked : (t : NameMap) (id : ℕ) (l : Loop) → There t (record a { requested = true }) id l → Keeps t v l.parts
         → Kept t l.parts w (cancel (future_of l.parts (group_of l id).parent) l.parts).parts
     asked t id l h k =
         let on = future_of l.parts (group_of l id).parent in
         let same : future_of (parts v) a.parent ≡ on =
         kept_future_of t v l.parts a.parent k ∙ ap (future_of l.parts) (parent_same h.is) in
         kept_request t v w l.parts (ByGroup id) on k
-        (becomes v w (cancel on (parts v)).parts (e ∙ ap (λ (i : ℕ). (cancel i (parts v)).parts) same) q beside)
+        (becomes v w (cancel on (parts v)).parts (e ∙ ap (λ (i : ℕ). (cancel i (parts v)).parts) same) q frame)
 
 -- ---- the exit is woken
-pub wake_stays : (a : Held) (v : View) → (is_empty a.children ≡ false) ⊎ (a.exit_future ≡ None) → Steps a v a v wake_exit
+pub wake_stays : (a : Held) (v : View) → (is_empty a.children ≡ false) ⊎ (a.exit_future ≡ None) → GroupSteps a v a v wake_exit
 wake_stays a v why =
     as_step a a v v (λ id l. l) wake_exit (no_step a v) (λ t id l h k. (go why l.parts (group_of l id) h.is, refl))
   where
@@ -94,7 +94,7 @@ wake_stays a v why =
     some [] future p e = absurd (cc)
     some (child ∷ children) future p e = refl
 
-    go : {t : Ties} (why : (is_empty a.children ≡ false) ⊎ (a.exit_future ≡ None)) (p : Parts) (group : Group)
+    go : {t : NameMap} (why : (is_empty a.children ≡ false) ⊎ (a.exit_future ≡ None)) (p : Parts) (group : Group)
         → KeepsGroup t p a group → p ≡ wake_if_last group.children group.exit_future p
     go (inl e) p group is = some group.children group.exit_future p (ap is_empty (sym (children_same is)) ∙ e)
     go (inr e) p group is =
@@ -106,13 +106,13 @@ pub wake_steps : (a : Held) (v w : View) (future : ℕ) → is_empty a.children 
       futures = settled.settled future (Returned Nothing) v.futures;
       queue = soon_all (called future v.futures) v.queue;
     }
-    → Steps a v a w wake_exit
+    → GroupSteps a v a w wake_exit
 wake_steps a v w future empty there e = parts_steps a v w wake_exit (λ t id l h k.
     let same = woken l.parts (group_of l id) h.is in (
       subst (λ q. Kept t l.parts w q) (sym same)
           (subst (λ x. Kept t l.parts x (settle future (Returned Nothing) l.parts)) (sym e)
           (kept_settle t v l.parts future (Returned Nothing) k)),
-      (subst (λ q. GoesOn l.parts q) (sym same) (settle_on future (Returned Nothing) l.parts), refl),
+      (subst (λ q. PartsGoOn l.parts q) (sym same) (settle_on future (Returned Nothing) l.parts), refl),
     ))
   where
     woken_by : (children : List ℕ) (p : Parts) → is_empty children ≡ true
@@ -120,7 +120,7 @@ wake_steps a v w future empty there e = parts_steps a v w wake_exit (λ t id l h
     woken_by [] p d = refl
     woken_by (child ∷ children) p d = absurd (cc)
 
-    woken : {t : Ties} (p : Parts) (group : Group) → KeepsGroup t p a group
+    woken : {t : NameMap} (p : Parts) (group : Group) → KeepsGroup t p a group
         → wake_if_last group.children group.exit_future p ≡ settle future (Returned Nothing) p
     woken p group is =
         let f : group.exit_future ≡ Some future = sym (exit_same is) ∙ there in
@@ -130,14 +130,14 @@ wake_steps a v w future empty there e = parts_steps a v w wake_exit (λ t id l h
 abbrev pub blamed : ℕ → Loop → Loop
 blamed id l = abort_and_request_unless ((group_of l id).aborting || (group_of l id).requested) id l
 
-pub blame_stays : (a : Held) (v : View) → (a.aborting || a.requested) ≡ true → Steps a v a v blamed
+pub blame_stays : (a : Held) (v : View) → (a.aborting || a.requested) ≡ true → GroupSteps a v a v blamed
 blame_stays a v e = as_step a a v v (λ id l. l) blamed (no_step a v) (λ t id l h k.
     let flags : ((group_of l id).aborting || (group_of l id).requested) ≡ true =
     rw (← aborting_same h.is, ← requested_same h.is) e in
     (rw flags refl, rw flags refl))
 
-pub blame_steps : (a b c : Held) (v w x : View) → (a.aborting || a.requested) ≡ false → Steps a v b w abort
-    → Steps b w c x request_parent → Steps a v c x blamed
+pub blame_steps : (a b c : Held) (v w x : View) → (a.aborting || a.requested) ≡ false → GroupSteps a v b w abort
+    → GroupSteps b w c x request_parent → GroupSteps a v c x blamed
 blame_steps a b c v w x e first second =
     as_step a c v x (λ id l. request_parent id (abort id l)) blamed (then_steps a b c v w x abort request_parent first second)
     (λ t id l h k.
@@ -157,7 +157,7 @@ abbrev pub hears : ℕ → ℕ → Loop → Loop
 hears child id l = set_group id (told child (failure_of l.parts child) (group_of l id)) l
 
 -- of a child the view tells how it ended
-pub failure_same : (t : Ties) (v : View) (p : Parts) (task : ℕ) → Keeps t v p → IsLive t p task
+pub failure_same : (t : NameMap) (v : View) (p : Parts) (task : ℕ) → Keeps t v p → IsLive t p task
     → failure_of (parts v) task ≡ failure_of p task
 failure_same t v p task k live =
     ap (λ (id : ℕ). failure_in (future_outcome (parts v) id)) (kept_future_of t v p task k)
@@ -178,7 +178,7 @@ module _ (a : Held) (v : View) (child : ℕ) (is_child : has_seen a.children chi
     failed = a.failed ++ (if failed then child ∷ [] else []);
   }
 
-  hears_keeps : (t : Ties) (p : Parts) (group : Group) → KeepsGroup t p a group → (failure : Option Exc) → failure_of p child ≡ failure
+  hears_keeps : (t : NameMap) (p : Parts) (group : Group) → KeepsGroup t p a group → (failure : Option Exc) → failure_of p child ≡ failure
       → KeepsGroup t p (heard_child (is_some failure)) (told child failure group)
   hears_keeps t p group is None e = record {
     same = ap (λ (g : Group). record g { children = without child g.children }) is.same;
@@ -206,7 +206,7 @@ module _ (a : Held) (v : View) (child : ℕ) (is_child : has_seen a.children chi
     late = is.late;
   }
 
-  pub hear_steps : Steps a v (heard_child (is_some (failure_of (parts v) child))) v (hears child)
+  pub hear_steps : GroupSteps a v (heard_child (is_some (failure_of (parts v) child))) v (hears child)
   hear_steps =
       set_steps a (heard_child (is_some (failure_of (parts v) child))) v (hears child)
       (λ p group. told child (failure_of p child) group) (λ id l. refl) (λ id l. refl)
@@ -231,12 +231,12 @@ module _ (a : Held) (v : View) (child : ℕ) (is_child : has_seen a.children chi
       rw (first, second, set-set l.groups id one two) refl)
 
   pub done_steps : (failed : Bool) → failed ≡ is_some (failure_of (parts v) child) → (w : View)
-      → Steps (heard_child failed) v (heard_child failed) w wake_exit → failed ≡ false
-      → Steps a v (heard_child failed) w (λ id. child_done id child)
+      → GroupSteps (heard_child failed) v (heard_child failed) w wake_exit → failed ≡ false
+      → GroupSteps a v (heard_child failed) w (λ id. child_done id child)
   done_steps failed is w wake quiet =
       as_step a (heard_child failed) v w (λ id l. wake_exit id (hears child id l)) (λ id. child_done id child)
       (then_steps a (heard_child failed) (heard_child failed) v v w (hears child) wake_exit
-      (subst (λ b. Steps a v (heard_child b) v (hears child)) (sym is) hear_steps) wake)
+      (subst (λ b. GroupSteps a v (heard_child b) v (hears child)) (sym is) hear_steps) wake)
       (λ t id l h k.
       let live = live_child (IsLive t l.parts) child a.children is_child h.is.children in
       let none : failure_of l.parts child ≡ None =
@@ -249,12 +249,12 @@ module _ (a : Held) (v : View) (child : ℕ) (is_child : has_seen a.children chi
       is_none_of (Some fault) e = absurd (cc)
 
   pub fails_steps : (failed : Bool) → failed ≡ is_some (failure_of (parts v) child) → (w x : View) (c : Held)
-      → Steps (heard_child failed) v (heard_child failed) w wake_exit → Steps (heard_child failed) w c x blamed → failed ≡ true
-      → Steps a v c x (λ id. child_done id child)
+      → GroupSteps (heard_child failed) v (heard_child failed) w wake_exit → GroupSteps (heard_child failed) w c x blamed → failed ≡ true
+      → GroupSteps a v c x (λ id. child_done id child)
   fails_steps failed is w x c wake blame loud =
       as_step a c v x (λ id l. blamed id (wake_exit id (hears child id l))) (λ id. child_done id child)
       (then_steps a (heard_child failed) c v v x (hears child) (λ id l. blamed id (wake_exit id l))
-      (subst (λ b. Steps a v (heard_child b) v (hears child)) (sym is) hear_steps)
+      (subst (λ b. GroupSteps a v (heard_child b) v (hears child)) (sym is) hear_steps)
       (then_steps (heard_child failed) (heard_child failed) c v w x wake_exit blamed wake blame))
       (λ t id l h k.
       let live = live_child (IsLive t l.parts) child a.children is_child h.is.children in

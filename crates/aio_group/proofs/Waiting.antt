@@ -11,7 +11,7 @@ use Rattle.model_value.specs.declared.input.Input.TheVariants.{Send, Throw}
 use Rattle.model_value.specs.declared.outcome.Outcome.TheVariants.{Cancelled}
 use Rattle.model_value.specs.Input.{Input}
 use Rattle.model_value.specs.Value.{Outcome, Exc}
-use Rattle.model_loop.specs.Cancel.{CancelRequest, Canceller, answers, has_seen, cancel_each, asked_where, marked_unless, cancel_waiter, cancel_unseen}
+use Rattle.model_loop.specs.Cancel.{CancelRequest, Canceller, answers, has_seen, cancel_each, asked_where, must_cancel_unless, cancel_waiter, cancel_unseen}
 use Rattle.model_loop.specs.Cancel.{cancel_task, cancel_kind, cancel_until, cancel_at, cancel_by, cancel_below, cancel_within, cancel}
 use Rattle.model_loop.specs.Futures.{is_pending_at, is_pending, made_before, mark_asked, new_plain, next_future, settle, settled, settled_as, with_future}
 use Rattle.model_loop.specs.Groups.{group_of, set_group, only_cancelled, abort, abort_where, take_back, take_back_where, begin_exit, abort_if_raised}
@@ -24,9 +24,9 @@ use Rattle.model_loop.specs.Tasks.{cancelling, change_task, future_of, lives, ne
 use Rattle.law_cancel.proofs.Counting.{change_task-kept}
 use Rattle.law_cancel.proofs.Effects.{done_as, asked_as, settle-futures, settle-tasks, mark_asked-futures, mark_asked-tasks, change_task-futures}
 use Rattle.law_cancel.proofs.Lookups.{get-push_other, get-set_same}
-use Rattle.law_cancel.proofs.Trace.{Goes, begins, settles, asks, raises, marks, IsRow, each_row, below_row, within_row, with_row}
+use Rattle.law_cancel.proofs.Trace.{Goes, begins, settles, asks, raises, sets_must_cancel, IsRow, each_row, below_row, within_row, with_row}
 use Rattle.aio_group.specs.Exits.{WaitsMade, begun, heard}
-use Rattle.aio_group.specs.GoesOn.{GoesOn}
+use Rattle.aio_group.specs.GoesOn.{PartsGoOn}
 use Rattle.aio_group.proofs.Going.{own_there, request_where_on, uncancel_on}
 use Rattle.aio_group.proofs.Listing.{all_to}
 use Rattle.aio_group.proofs.Standing.{group_same}
@@ -87,23 +87,23 @@ change-new id change p = at (slice_get p.tasks id)
 
 -- ---- what a request leaves as it is
 -- what tasks wait for, and how many futures there are
-pub record Leaves (p q : Parts) : Type 0 where
+pub record WaitLeaves (p q : Parts) : Type 0 where
   pub waiters : (task : ℕ) → waiter_of q task ≡ waiter_of p task
   pub made : next_future q ≡ next_future p
 
-leaves_on : (p q r : Parts) → Leaves q r → Leaves p q → Leaves p r
+leaves_on : (p q r : Parts) → WaitLeaves q r → WaitLeaves p q → WaitLeaves p r
 leaves_on p q r b a = record { waiters = λ t. b.waiters t ∙ a.waiters t; made = b.made ∙ a.made }
 
 abbrev waiter_at : Option Task → Option ℕ
 waiter_at o = option_map_or (λ (t : Task). t.waiter) o None
 
-changed_leaves : (id : ℕ) (change : Task → Task) (p : Parts) → ((t : Task) → (change t).waiter ≡ t.waiter) → Leaves p (change_task id change p)
+changed_leaves : (id : ℕ) (change : Task → Task) (p : Parts) → ((t : Task) → (change t).waiter ≡ t.waiter) → WaitLeaves p (change_task id change p)
 changed_leaves id change p same = record {
   waiters = λ task. change_task-kept waiter_at id change p same task;
   made = ap length (change_task-futures id change p);
 }
 
-goes_leaves : {s : List ℕ} {p : Parts} {t : List ℕ} {q : Parts} → Goes s p t q → Leaves p q
+goes_leaves : {s : List ℕ} {p : Parts} {t : List ℕ} {q : Parts} → Goes s p t q → WaitLeaves p q
 goes_leaves begins = record { waiters = λ t. refl; made = refl }
 goes_leaves {p = p} (settles {q = q} g id future e o k) = leaves_on p q _ (record {
   waiters = λ task. ap (λ (ts : List Task). waiter_at (slice_get ts task)) (settle-tasks id Cancelled q);
@@ -114,9 +114,9 @@ goes_leaves {p = p} (asks {q = q} g id future members asked e o k) = leaves_on p
   made = ap length (mark_asked-futures id q future e) ∙ length-set q.futures id (asked_as future);
 }) (goes_leaves g)
 goes_leaves {p = p} (raises {q = q} g id task n e) = leaves_on p q _ (changed_leaves id _ q (λ t. refl)) (goes_leaves g)
-goes_leaves {p = p} (marks {q = q} g id) = leaves_on p q _ (changed_leaves id _ q (λ t. refl)) (goes_leaves g)
+goes_leaves {p = p} (sets_must_cancel {q = q} g id) = leaves_on p q _ (changed_leaves id _ q (λ t. refl)) (goes_leaves g)
 
-pub waits_left : (p q : Parts) → Leaves p q → WaitsMade p → WaitsMade q
+pub waits_left : (p q : Parts) → WaitLeaves p q → WaitsMade p → WaitsMade q
 waits_left p q l made task on e =
     let m = made task on (sym (l.waiters task) ∙ e) in
     let n = l.made in
@@ -154,14 +154,14 @@ module _ (F V : Canceller) (frow : IsRow F) (fc : Commutes F) (vc : Commutes V) 
   asked true r n = ap (λ q. record r { parts = q }) (ask-new id r.parts n)
   asked false r n = refl
 
-  marked : (b : Bool) (t : ℕ) (r : CancelRequest) → marked_unless b t (grown r) ≡ grown (marked_unless b t r)
-  marked true t r = refl
-  marked false t r = ap (λ q. record r { parts = q; answer = true }) (change-new t _ r.parts)
+  must_cancel : (b : Bool) (t : ℕ) (r : CancelRequest) → must_cancel_unless b t (grown r) ≡ grown (must_cancel_unless b t r)
+  must_cancel true t r = refl
+  must_cancel false t r = ap (λ q. record r { parts = q; answer = true }) (change-new t _ r.parts)
 
   waits : (t : ℕ) (w : Option ℕ) (u : List ℕ) (q : Parts) → WaitsMade q → ((on : ℕ) → w ≡ Some on → on < next_future q)
       → cancel_waiter V t w u (new_plain q) ≡ grown (cancel_waiter V t w u q)
   waits t None u q d b = ap (answers true u) (change-new t _ q)
-  waits t (Some w) u q d b = ap (λ (r : CancelRequest). marked_unless r.answer t r) (vc w u q d (b w refl)) ∙ marked (V w u q).answer t (V w u q)
+  waits t (Some w) u q d b = ap (λ (r : CancelRequest). must_cancel_unless r.answer t r) (vc w u q d (b w refl)) ∙ must_cancel (V w u q).answer t (V w u q)
 
   unseen : (t : ℕ) (o : Option Task) → slice_get p.tasks t ≡ o → cancel_unseen V t o s (new_plain p) ≡ grown (cancel_unseen V t o s p)
   unseen t None e = refl
@@ -236,11 +236,11 @@ request_where-new true by id p made m = ap booked (cancel-new id p made m)
     }
 request_where-new false by id p made m = refl
 
-request_where-leaves : (b : Bool) (by : Origin) (id : ℕ) (p : Parts) → Leaves p (request_where b by id p).parts
+request_where-leaves : (b : Bool) (by : Origin) (id : ℕ) (p : Parts) → WaitLeaves p (request_where b by id p).parts
 request_where-leaves true by id p = goes_leaves (with_row id [] p)
 request_where-leaves false by id p = record { waiters = λ t. refl; made = refl }
 
-made_on : (p q : Parts) → GoesOn p q → (task : ℕ) → IsMade p task → IsMade q task
+made_on : (p q : Parts) → PartsGoOn p q → (task : ℕ) → IsMade p task → IsMade q task
 made_on p q on task made =
     let m = made.made in
     let f = made.future in
@@ -252,7 +252,7 @@ made_on p q on task made =
 own_stays : (b : Bool) (by : Origin) (id : ℕ) (p : Parts) (task : ℕ) → IsMade p task → IsMade (request_where b by id p).parts task
 own_stays b by id p = made_on p (request_where b by id p).parts (request_where_on b by id p)
 
-pub request_each-leaves : (by : Origin) (tasks : List ℕ) (p : Parts) → Leaves p (request_each by tasks p).parts
+pub request_each-leaves : (by : Origin) (tasks : List ℕ) (p : Parts) → WaitLeaves p (request_each by tasks p).parts
 request_each-leaves by [] p = record { waiters = λ t. refl; made = refl }
 request_each-leaves by (task ∷ tasks) p =
     let first = (request_where (lives p task) by (future_of p task) p).parts in
@@ -284,12 +284,12 @@ request_each-new by (task ∷ tasks) p made all =
 -- A step of a group that makes no future might as well come after one that is made.
 pub record Passes (step : Loop → Loop) (l : Loop) : Type 0 where
   pub same : step (in_parts new_plain l) ≡ in_parts new_plain (step l)
-  pub leaves : Leaves l.parts (step l).parts
+  pub leaves : WaitLeaves l.parts (step l).parts
 
 abbrev AreMade : ℕ → Loop → Type 0
 AreMade id l = Each (IsMade l.parts) (group_of l id).children
 
-same_leaves : (p : Parts) → Leaves p p
+same_leaves : (p : Parts) → WaitLeaves p p
 same_leaves p = record { waiters = λ t. refl; made = refl }
 
 then_passes : (f g : Loop → Loop) (l : Loop) → Passes f l → Passes g (f l) → Passes (λ m. g (f m)) l
@@ -338,7 +338,7 @@ module _ (id : ℕ) (l : Loop) where
   dropped_children true at = ap (λ (g : Group). g.children) (group_same id (record group { kept = None }) taken at)
   dropped_children false at = refl
 
-  taken_leaves : Leaves l.parts taken.parts
+  taken_leaves : WaitLeaves l.parts taken.parts
   taken_leaves = changed_leaves group.parent (λ (t : Task). record t { cancels = t.cancels - 1 }) l.parts (λ t. refl)
 
   take_back_passes : (b : Bool) → Passes (take_back_where b id) l
@@ -347,7 +347,7 @@ module _ (id : ℕ) (l : Loop) where
       let b = cancelling taken.parts group.parent == 0 in
       record {
         same = ap dropped taken_passes ∙ dropped_passes b;
-        leaves = subst (λ q. Leaves l.parts q) (sym (dropped_parts b)) taken_leaves;
+        leaves = subst (λ q. WaitLeaves l.parts q) (sym (dropped_parts b)) taken_leaves;
       }
 
   -- the tasks of the group are there afterwards

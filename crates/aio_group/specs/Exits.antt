@@ -9,13 +9,13 @@ use Rattle.model_loop.specs.Parts.{Plain, Parts}
 use Rattle.model_loop.specs.Futures.{next_future}
 use Rattle.model_loop.specs.Tasks.{waiter_of}
 use Rattle.aio_task.specs.View.{View, parts}
-use Rattle.aio_task.specs.Keeps.{Ties}
+use Rattle.aio_task.specs.Keeps.{NameMap}
 use Rattle.aio_group.specs.declared.exit.GroupExit.{GroupExit}
 use Rattle.aio_group.specs.declared.exit.ExitStep.{ExitStep}
 use Rattle.aio_group.specs.declared.exit.ExitStep.TheVariants as next
 use Rattle.aio_group.specs.Answers.{fault_of, exit_of}
 use Rattle.aio_group.specs.Held.{Held, listed}
-use Rattle.aio_group.specs.Stands.{Stands, Came}
+use Rattle.aio_group.specs.Stands.{GroupsStand, Came}
 
 -- what a block's end does before the exit waits or ends
 abbrev pub begun : Option Exc → ℕ → Loop → Loop
@@ -44,6 +44,6 @@ IsNext held body v (next.Ends fault) w =
 -- A group and the parts became these, as the machine's did by a step of its exit, which answered this.
 abbrev pub Exits : Held → View → Held → View → (ℕ → Loop → Exited) → GroupExit → Type 0
 Exits before v after w step exit =
-    (t : Ties) (groups : List Held) (id : ℕ) (l : Loop) → slice_get groups id ≡ Some before
-    → Stands t groups v l
+    (t : NameMap) (groups : List Held) (id : ℕ) (l : Loop) → slice_get groups id ≡ Some before
+    → GroupsStand t groups v l
     → Came t l (slice_set groups id after) w (step id l).loop × (exit_of exit ≡ (step id l).answer)

@@ -8,7 +8,7 @@ use Rattle.model_loop.specs.Owning.{owner_of}
 use Rattle.model_loop.specs.Tasks.{future_of, next_task}
 use Rattle.aio_task.specs.View.{View, parts}
 
-pub record GoesOn (p q : Parts) : Type 0 where
+pub record PartsGoOn (p q : Parts) : Type 0 where
   pub tasks : next_task p ≤ next_task q
   pub futures : next_future p ≤ next_future q
   -- a task keeps its own future, and a future its owner
@@ -19,5 +19,5 @@ pub record GoesOn (p q : Parts) : Type 0 where
 
 -- A view goes on so, and its time, its timers and its running task stay.
 pub record Moves (v w : View) : Type 0 where
-  pub goes_on : GoesOn (parts v) (parts w)
-  pub beside : w ≡ record v { queue = w.queue; futures = w.futures; tasks = w.tasks }
+  pub goes_on : PartsGoOn (parts v) (parts w)
+  pub frame : w ≡ record v { queue = w.queue; futures = w.futures; tasks = w.tasks }

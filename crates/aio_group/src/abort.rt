@@ -3,9 +3,9 @@ ghost use Rattle.std.specs.Prelude.{◌≡◌, true, None};
 ghost use Rattle.model_loop.specs.Parts.{Parts as PlainParts};
 ghost use Rattle.model_loop.specs.Groups as plain;
 ghost use Rattle.model_loop.specs.Ledger.{Origin, request_each};
-ghost use Rattle.aio_task.specs.Keeps.{Ties, Keeps, Kept};
+ghost use Rattle.aio_task.specs.Keeps.{NameMap, Keeps, Kept};
 ghost use Rattle.aio_group.specs.GoesOn.{Moves};
-ghost use Rattle.aio_group.specs.Stands.{Steps};
+ghost use Rattle.aio_group.specs.Stands.{GroupSteps};
 
 use crate::group::Group;
 use aio_task::Parts;
@@ -15,7 +15,7 @@ use std::collections::BTreeSet;
 fn cancel_each(tasks: &BTreeSet<u32>, parts: &mut Parts)
     requires idle { parts.old.called ≡ None }
     ensures moves { Moves parts.old parts.new }
-    ensures kept { (t : Ties) (p : PlainParts) (by : Origin) → Keeps t parts.old p
+    ensures kept { (t : NameMap) (p : PlainParts) (by : Origin) → Keeps t parts.old p
         → Kept t p parts.new (request_each by tasks.now.keys p).parts }
 {
     for task in tasks.iter() {
@@ -29,7 +29,7 @@ pub fn abort(group: &mut Group, parts: &mut Parts)
     requires idle { parts.old.called ≡ None }
     ensures same { group.new ≡ record group.old { aborting = true } }
     ensures moves { Moves parts.old parts.new }
-    ensures steps { Steps group.old parts.old group.new parts.new plain.abort }
+    ensures steps { GroupSteps group.old parts.old group.new parts.new plain.abort }
 {
     group.set_aborting();
     cancel_each(group.children(), parts);
@@ -40,7 +40,7 @@ pub fn request_parent(group: &mut Group, parts: &mut Parts)
     requires idle { parts.old.called ≡ None }
     ensures same { group.new ≡ record group.old { requested = true } }
     ensures moves { Moves parts.old parts.new }
-    ensures steps { Steps group.old parts.old group.new parts.new plain.request_parent }
+    ensures steps { GroupSteps group.old parts.old group.new parts.new plain.request_parent }
 {
     group.set_requested();
     let future = parts.future_of(group.parent());

@@ -3,9 +3,9 @@ ghost use Rattle.std.specs.Prelude.{◌≡◌, ◌<◌, ◌++◌, ◌||◌, ◌�
 ghost use Rattle.model_loop.specs.Cancel.{has_seen};
 ghost use Rattle.model_loop.specs.Parts.{Parts as PlainParts};
 ghost use Rattle.model_loop.specs.Groups as plain;
-ghost use Rattle.aio_task.specs.Keeps.{Ties, Keeps, Kept};
+ghost use Rattle.aio_task.specs.Keeps.{NameMap, Keeps, Kept};
 ghost use Rattle.aio_group.specs.GoesOn.{Moves};
-ghost use Rattle.aio_group.specs.Stands.{Belongs, Steps};
+ghost use Rattle.aio_group.specs.Stands.{Belongs, GroupSteps};
 
 use crate::abort::{abort, request_parent};
 use crate::failures::failure_of;
@@ -18,7 +18,7 @@ use std::alloc::Global;
 fn spawn_for(alloc: Global, id: u32, ticket: Ticket, parts: &mut Parts) -> Result<u32, Memory>
     requires idle { parts.old.called ≡ None }
     ensures number { IfOk result (λ task. task ≡ length parts.old.tasks) }
-    ensures kept { OnOk result ((t : Ties) (p : PlainParts) → Keeps t parts.old p
+    ensures kept { OnOk result ((t : NameMap) (p : PlainParts) → Keeps t parts.old p
         → Kept t p parts.new (plain.with_child id p)) }
     ensures moves { Moves parts.old parts.new }
     ensures made { OnOk result (length parts.old.tasks < length parts.new.tasks) }
@@ -38,7 +38,7 @@ pub fn create(alloc: Global, id: u32, group: &mut Group, parts: &mut Parts) -> R
     ensures same { OnOk result (group.new ≡ record group.old {
       children = group.old.children ++ length parts.old.tasks ∷ [];
     }) }
-    ensures kept { OnOk result ((t : Ties) (p : PlainParts) → Keeps t parts.old p
+    ensures kept { OnOk result ((t : NameMap) (p : PlainParts) → Keeps t parts.old p
         → Kept t p parts.new (plain.with_child id p)) }
     ensures moves { Moves parts.old parts.new }
     ensures belongs { Belongs parts.new group.new }
@@ -63,7 +63,7 @@ fn wake_exit(group: &Group, parts: &mut Parts)
     requires idle { parts.old.called ≡ None }
     requires belongs { Belongs parts.old group.now }
     ensures moves { Moves parts.old parts.new }
-    ensures steps { Steps group.now parts.old group.now parts.new plain.wake_exit }
+    ensures steps { GroupSteps group.now parts.old group.now parts.new plain.wake_exit }
 {
     if !group.is_empty() {
         return;
@@ -85,7 +85,7 @@ fn blame(group: &mut Group, parts: &mut Parts)
       requested = group.new.requested;
     } }
     ensures moves { Moves parts.old parts.new }
-    ensures steps { Steps group.old parts.old group.new parts.new
+    ensures steps { GroupSteps group.old parts.old group.new parts.new
         (λ id l. plain.abort_and_request_unless
         ((plain.group_of l id).aborting || (plain.group_of l id).requested) id l) }
 {
@@ -103,7 +103,7 @@ pub fn child_done(child: u32, group: &mut Group, parts: &mut Parts)
     requires child { has_seen group.old.children child ≡ true }
     ensures moves { Moves parts.old parts.new }
     ensures belongs { Belongs parts.new group.new }
-    ensures steps { Steps group.old parts.old group.new parts.new
+    ensures steps { GroupSteps group.old parts.old group.new parts.new
         (λ id. plain.child_done id child) }
 {
     let failed = failure_of(child, parts).is_some();

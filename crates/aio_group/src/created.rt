@@ -1,6 +1,6 @@
 //! What becomes of a task that is to be made in a group.
 ghost use Rattle.std.specs.Prelude.{◌≡◌, IfOk, option_map};
-ghost use Rattle.model_loop.specs.Groups.{refusal_fault};
+ghost use Rattle.model_loop.specs.Groups.{refusal_exception};
 ghost use Rattle.aio_group.specs.Answers.{refusal_in};
 
 use aio_base::{Exc, Kind, Memory, exception};
@@ -20,7 +20,8 @@ pub enum Created {
 impl Created {
     /// What a refused call raises.
     pub fn fault(&self, alloc: Global) -> Result<Option<Exc>, Memory>
-        ensures { IfOk result (λ fault. fault ≡ option_map refusal_fault (refusal_in self.now)) }
+        ensures { IfOk result (λ fault. fault
+            ≡ option_map refusal_exception (refusal_in self.now)) }
     {
         let text = match self {
             Created::Task(_) => return Ok(None),

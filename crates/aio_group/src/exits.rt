@@ -8,7 +8,7 @@ ghost use Rattle.aio_group.specs.Held.{failing};
 ghost use Rattle.aio_group.specs.Answers.{fault_of};
 ghost use Rattle.aio_group.specs.GoesOn.{Moves};
 ghost use Rattle.aio_group.specs.Exits.{begun, heard, IsNext, Exits};
-ghost use Rattle.aio_group.specs.Stands.{Belongs, Steps};
+ghost use Rattle.aio_group.specs.Stands.{Belongs, GroupSteps};
 ghost use Rattle.aio_group.specs.declared.exit.ExitStep.TheVariants as next;
 
 use crate::abort::abort;
@@ -59,7 +59,7 @@ fn take_back(group: &mut Group, parts: &mut Parts)
     requires idle { parts.old.called ≡ None }
     ensures same { group.new ≡ record group.old { kept = group.new.kept } }
     ensures moves { Moves parts.old parts.new }
-    ensures steps { Steps group.old parts.old group.new parts.new plain.take_back }
+    ensures steps { GroupSteps group.old parts.old group.new parts.new plain.take_back }
 {
     if !group.has_requested() {
         return;
@@ -76,7 +76,7 @@ fn abort_if(failed: bool, group: &mut Group, parts: &mut Parts)
     ensures same { group.new ≡ record group.old { aborting = group.new.aborting } }
     ensures moves { Moves parts.old parts.new }
     ensures steps { (raised : Option PlainExc) → failed ≡ is_some raised
-        → Steps group.old parts.old group.new parts.new (plain.abort_if_raised raised) }
+        → GroupSteps group.old parts.old group.new parts.new (plain.abort_if_raised raised) }
 {
     if !failed {
         return;
@@ -97,7 +97,7 @@ fn begin(group: &mut Group, raised: Option<Exc>, parts: &mut Parts)
       kept = group.new.kept;
     } }
     ensures moves { Moves parts.old parts.new }
-    ensures steps { Steps group.old parts.old group.new parts.new (begun raised) }
+    ensures steps { GroupSteps group.old parts.old group.new parts.new (begun raised) }
 {
     let failed = raised.is_some();
     group.set_exiting(raised);
@@ -114,7 +114,7 @@ fn hear_cancel(group: &mut Group, fault: Exc, parts: &mut Parts)
       exit_future = None;
     } }
     ensures moves { Moves parts.old parts.new }
-    ensures steps { Steps group.old parts.old group.new parts.new (heard (input.Throw fault)) }
+    ensures steps { GroupSteps group.old parts.old group.new parts.new (heard (input.Throw fault)) }
 {
     group.wake();
     if group.aborts() {
@@ -133,7 +133,7 @@ fn hear(group: &mut Group, input: Input, parts: &mut Parts)
       exit_future = None;
     } }
     ensures moves { Moves parts.old parts.new }
-    ensures steps { Steps group.old parts.old group.new parts.new (heard input) }
+    ensures steps { GroupSteps group.old parts.old group.new parts.new (heard input) }
 {
     match input {
         Input::Send(_value) => group.wake(),

@@ -4,12 +4,12 @@ ghost use Rattle.model_loop.specs.Cancel.{has_seen};
 ghost use Rattle.model_loop.specs.Loop.{Loop};
 ghost use Rattle.model_loop.specs.Groups as plain;
 ghost use Rattle.model_loop.specs.Tasks.{next_task};
-ghost use Rattle.aio_task.specs.Keeps.{Ties};
+ghost use Rattle.aio_task.specs.Keeps.{NameMap};
 ghost use Rattle.aio_task.specs.View.{View};
 ghost use Rattle.aio_group.specs.Answers.{created_of, exit_of};
 ghost use Rattle.aio_group.specs.GoesOn.{Moves};
 ghost use Rattle.aio_group.specs.Held.{new_held, held_at};
-ghost use Rattle.aio_group.specs.Stands.{AllBelong, Stands, Came};
+ghost use Rattle.aio_group.specs.Stands.{AllBelong, GroupsStand, Came};
 
 use crate::created::Created;
 use crate::exit::GroupExit;
@@ -63,8 +63,9 @@ impl Groups {
         ensures number { IfOk result (λ id. id ≡ length self.old) }
         ensures after { OnOk result (self.new ≡ self.old ++ new_held parent ∷ []) }
         ensures belongs { OnOk result ((v : View) → AllBelong v self.old → AllBelong v self.new) }
-        ensures stands { OnOk result ((t : Ties) (v : View) (l : Loop) → Stands t self.old v l
-            → Stands t self.new v (plain.make_group parent l)) }
+        ensures stands { OnOk result ((t : NameMap) (v : View) (l : Loop)
+            → GroupsStand t self.old v l
+            → GroupsStand t self.new v (plain.make_group parent l)) }
         ensures err { OnErr result (self.new ≡ self.old) }
     {
         let Ok(id) = u32::try_from(self.held.len()) else {
@@ -78,8 +79,8 @@ impl Groups {
     pub fn enter(&mut self, id: u32)
         requires fresh { (held_at self.old id).entered ≡ false }
         ensures belongs { (v : View) → AllBelong v self.old → AllBelong v self.new }
-        ensures stands { (t : Ties) (v : View) (l : Loop) → Stands t self.old v l
-            → Stands t self.new v (plain.enter_group id l) }
+        ensures stands { (t : NameMap) (v : View) (l : Loop) → GroupsStand t self.old v l
+            → GroupsStand t self.new v (plain.enter_group id l) }
     {
         let Some(group) = self.held.get_mut(id as usize) else {
             return;
@@ -95,7 +96,7 @@ impl Groups {
         ensures belongs { AllBelong parts.new self.new }
         ensures moves { Moves parts.old parts.new }
         ensures stands { IfOk result
-            (λ created. (t : Ties) (l : Loop) → Stands t self.old parts.old l
+            (λ created. (t : NameMap) (l : Loop) → GroupsStand t self.old parts.old l
             → Came t l self.new parts.new (plain.create id l)
             × (created ≡ created_of (plain.refusal (plain.group_of l id)) (next_task l.parts))) }
         ensures err { OnErr result ((self.new ≡ self.old) × (parts.new ≡ parts.old)) }
@@ -117,7 +118,7 @@ impl Groups {
         requires child { has_seen (held_at self.old id).children child ≡ true }
         ensures belongs { AllBelong parts.new self.new }
         ensures moves { Moves parts.old parts.new }
-        ensures stands { (t : Ties) (l : Loop) → Stands t self.old parts.old l
+        ensures stands { (t : NameMap) (l : Loop) → GroupsStand t self.old parts.old l
             → Came t l self.new parts.new (plain.child_done id child l) }
     {
         let Some(group) = self.held.get_mut(id as usize) else {
@@ -141,7 +142,8 @@ impl Groups {
         requires fresh { (held_at self.old id).exiting ≡ false }
         ensures belongs { AllBelong parts.new self.new }
         ensures moves { Moves parts.old parts.new }
-        ensures stands { IfOk result (λ exit. (t : Ties) (l : Loop) → Stands t self.old parts.old l
+        ensures stands { IfOk result (λ exit. (t : NameMap) (l : Loop)
+            → GroupsStand t self.old parts.old l
             → Came t l self.new parts.new (plain.exit_begin raised id l).loop
             × (exit_of exit ≡ (plain.exit_begin raised id l).answer)) }
         ensures err { OnErr result ((self.new ≡ self.old) × (parts.new ≡ parts.old)) }
@@ -166,7 +168,8 @@ impl Groups {
         requires going { ((held_at self.old id).exiting && not (held_at self.old id).ended) ≡ true }
         ensures belongs { AllBelong parts.new self.new }
         ensures moves { Moves parts.old parts.new }
-        ensures stands { IfOk result (λ exit. (t : Ties) (l : Loop) → Stands t self.old parts.old l
+        ensures stands { IfOk result (λ exit. (t : NameMap) (l : Loop)
+            → GroupsStand t self.old parts.old l
             → Came t l self.new parts.new (plain.exit_woken input id l).loop
             × (exit_of exit ≡ (plain.exit_woken input id l).answer)) }
         ensures err { OnErr result ((self.new ≡ self.old) × (parts.new ≡ parts.old)) }

@@ -39,13 +39,13 @@ pub trait Launcher<Inbox, Poster> {
         ensures launched { IfOk result (LaunchAnswers words.now kit.child (seen self.old)
             (seen self.new)) }
         ensures none { OnErr result (StartsNone (seen self.old) (seen self.new)) }
-        ensures later { (seen self.old).faults ≤ (seen self.new).faults };
+        ensures monotone { (seen self.old).faults ≤ (seen self.new).faults };
 
     /// Ends a child, if it runs.
     fn kill(&mut self, child: u32)
         ensures killed { (seen self.new).kills ≡ with_kill child (seen self.old).kills }
         ensures launches { (seen self.new).launches ≡ (seen self.old).launches }
-        ensures later { (seen self.old).faults ≤ (seen self.new).faults };
+        ensures monotone { (seen self.old).faults ≤ (seen self.new).faults };
 
     /// Whether the pumps of a child have ended, so that `take_in`, which comes next, waits for none of
     /// them. A launcher whose pumps end with their launch needs no answer of its own.
@@ -56,5 +56,5 @@ pub trait Launcher<Inbox, Poster> {
     /// What the pumps of a child did. It may wait for them.
     fn take_in(&mut self, run: Self::Run) -> PumpReports<Poster>
         ensures none { StartsNone (seen self.old) (seen self.new) }
-        ensures later { (seen self.old).faults ≤ (seen self.new).faults };
+        ensures monotone { (seen self.old).faults ≤ (seen self.new).faults };
 }

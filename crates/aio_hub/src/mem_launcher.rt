@@ -139,7 +139,7 @@ impl<N: InboxName, R: Wait> Launcher<Inbox<N>, Poster<N>> for MemLauncher<R> {
     ) -> Result<Launched<PumpReports<Poster<N>>>, Memory>
         ensures launched { IfOk result (AnswersLaunch words.now kit self.old self.new) }
         ensures none { OnErr result (self.new ≡ self.old) }
-        ensures later { self.old.plan.faults ≤ self.new.plan.faults }
+        ensures monotone { self.old.plan.faults ≤ self.new.plan.faults }
     {
         let Ok(own) = copy_of_words(alloc, words) else {
             return Err(Memory);
@@ -154,7 +154,7 @@ impl<N: InboxName, R: Wait> Launcher<Inbox<N>, Poster<N>> for MemLauncher<R> {
 
     fn kill(&mut self, child: u32)
         ensures killed { self.new ≡ after_kill child self.old }
-        ensures later { self.old.plan.faults ≤ self.new.plan.faults }
+        ensures monotone { self.old.plan.faults ≤ self.new.plan.faults }
     {
         self.killed = self.killed.saturating_add(1);
         self.killed_child = child;
@@ -163,7 +163,7 @@ impl<N: InboxName, R: Wait> Launcher<Inbox<N>, Poster<N>> for MemLauncher<R> {
     fn take_in(&mut self, run: PumpReports<Poster<N>>) -> PumpReports<Poster<N>>
         ensures reports { result ≡ run }
         ensures none { self.new ≡ self.old }
-        ensures later { self.old.plan.faults ≤ self.new.plan.faults }
+        ensures monotone { self.old.plan.faults ≤ self.new.plan.faults }
     {
         run
     }

@@ -79,7 +79,7 @@ impl MemPoller {
     // What it answers to a call; nothing where that fails.
     fn answer(&mut self, alloc: Global, call: Call) -> Result<Option<Answer>, Memory>
         ensures answers { IfOk result (λ answer. Answers call self.old answer self.new) }
-        ensures later { self.old.plan.faults ≤ self.new.plan.faults }
+        ensures monotone { self.old.plan.faults ≤ self.new.plan.faults }
     {
         if self.plan.fails() {
             self.asked.push(call)?;
@@ -125,7 +125,7 @@ impl Poller for MemPoller {
     ) -> Result<Polled, Memory>
         ensures polled { IfOk result (λ polled. AnswersPoll wait watch.now self.old polled
             self.new) }
-        ensures later { self.old.plan.faults ≤ self.new.plan.faults }
+        ensures monotone { self.old.plan.faults ≤ self.new.plan.faults }
     {
         let call = Call::Select {
             wait,
@@ -140,7 +140,7 @@ impl Poller for MemPoller {
 
     fn net(&mut self, alloc: Global, call: &Call) -> Result<Reply, Memory>
         ensures net { IfOk result (λ reply. AnswersNet call.now self.old reply self.new) }
-        ensures later { self.old.plan.faults ≤ self.new.plan.faults }
+        ensures monotone { self.old.plan.faults ≤ self.new.plan.faults }
     {
         let own = copy_of_call(alloc, call)?;
         match self.answer(alloc, own)? {

@@ -37,7 +37,7 @@ impl CallPlan {
     pub(crate) fn fails(&mut self) -> bool
         ensures fails { result ≡ fails_next self.old }
         ensures after { self.new ≡ after_call self.old }
-        ensures later { self.old.faults ≤ self.new.faults }
+        ensures monotone { self.old.faults ≤ self.new.faults }
     {
         self.made = self.made.saturating_add(1);
         let fails = is_listed(self.failing.as_slice(), self.made);

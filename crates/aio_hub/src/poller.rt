@@ -32,11 +32,11 @@ pub trait Poller {
         watch: &WatchList,
     ) -> Result<Polled, Memory>
         ensures polled { IfOk result (Polls wait watch.now (seen self.old) (seen self.new)) }
-        ensures later { (seen self.old).faults ≤ (seen self.new).faults };
+        ensures monotone { (seen self.old).faults ≤ (seen self.new).faults };
 
     /// Makes a call on a socket. It never waits.
     fn net(&mut self, alloc: Global, call: &Call) -> Result<Reply, Memory>
         requires { is_socket call.now ≡ true }
         ensures net { IfOk result (Nets call.now (seen self.old) (seen self.new)) }
-        ensures later { (seen self.old).faults ≤ (seen self.new).faults };
+        ensures monotone { (seen self.old).faults ≤ (seen self.new).faults };
 }

@@ -21,7 +21,7 @@ use Rattle.aio_postbox.specs.Counts.{is_home}
 use Rattle.aio_postbox.specs.Fours.{seats_of, seats_in}
 use Rattle.aio_lanes.specs.declared.child_lanes.ChildLanes.{ChildLanes}
 use Rattle.aio_roster.specs.Rosters.{running_of}
-use Rattle.aio_roster.specs.Changes.{MayBeLent, AreApart, LeavesFree, Leaves, GivesBack}
+use Rattle.aio_roster.specs.Changes.{MayBeLent, AreApart, LeavesFree, RosterLeaves, GivesBack}
 use Rattle.aio_roster.proofs.Seated.{some_is}
 use Rattle.aio_intake.specs.Homes.{are_all_home, back_of, backs_of, Apart}
 use Rattle.aio_intake.specs.Taken.{hub_at, AreInHand, TakesOne}
@@ -160,7 +160,7 @@ module _ {N Run : Type 0} (taker : TakerView) (k : ℕ) (children next : List Ch
     (lanes lanes_now : List (Option (ChildLanes Run))) (child : Child) (four : Four N) (home : Option (Four N)) (stay : Stay)
     (named : slice_get (running_of children) k ≡ Some child.number) (at : slice_get children child.number ≡ Some child)
     (home_is_it : home ≡ cond (are_all_home taker four child.seats) (Some four) None) (stay_is : stay ≡ cond (is_some home) Gone Holding)
-    (fours_are : fours_now ≡ fours ++ option_to_list home) (left : Leaves k stay children next) where
+    (fours_are : fours_now ≡ fours ++ option_to_list home) (left : RosterLeaves k stay children next) where
   some_if : (b : Bool) → is_some (cond b (Some four) None) ≡ b
   some_if true = refl
   some_if false = refl

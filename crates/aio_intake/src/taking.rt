@@ -49,7 +49,7 @@ fn report<N: InboxName, L: Launcher<Inbox<N>, Poster<N>>>(
     requires { is_some (lanes_at lanes.old number) ≡ true }
     ensures gives_up { lanes.new ≡ slice_set lanes.old number None }
     ensures none { StartsNone (L.seen launcher.old) (L.seen launcher.new) }
-    ensures later { (L.seen launcher.old).faults ≤ (L.seen launcher.new).faults }
+    ensures monotone { (L.seen launcher.old).faults ≤ (L.seen launcher.new).faults }
 {
     match lanes.remove(number) {
         Some(lanes) => four_of(launcher.take_in(run_of(lanes))),
@@ -94,7 +94,7 @@ fn take_in_kth<N: InboxName, R, L: Launcher<Inbox<N>, Poster<N>>>(
     ensures keeps { KeepsPosts postbox.old postbox.new }
     ensures noted { roster.new.noted ≡ roster.old.noted }
     ensures none { StartsNone (L.seen launcher.old) (L.seen launcher.new) }
-    ensures later { (L.seen launcher.old).faults ≤ (L.seen launcher.new).faults }
+    ensures monotone { (L.seen launcher.old).faults ≤ (L.seen launcher.new).faults }
 {
     let child = roster.running_child(k);
     if !is_over(&child) {
@@ -138,7 +138,7 @@ pub fn take_in<N: InboxName, R, L: Launcher<Inbox<N>, Poster<N>>>(
     ensures posts { KeepsPosts postbox.old postbox.new }
     ensures noted { roster.new.noted ≡ roster.old.noted }
     ensures none { StartsNone (L.seen launcher.old) (L.seen launcher.new) }
-    ensures later { (L.seen launcher.old).faults ≤ (L.seen launcher.new).faults }
+    ensures monotone { (L.seen launcher.old).faults ≤ (L.seen launcher.new).faults }
 {
     let count = roster.count_running();
     let mut k = 0;

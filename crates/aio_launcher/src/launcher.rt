@@ -176,7 +176,7 @@ impl<R: Wait, N: InboxName> Launcher<Inbox<N>, Poster<N>> for RealLauncher<R, N>
             (untold_launches self.old.faults) (untold_launches self.new.faults)) }
         ensures none { OnErr result (StartsNone (untold_launches self.old.faults)
             (untold_launches self.new.faults)) }
-        ensures later { self.old.faults ≤ self.new.faults }
+        ensures monotone { self.old.faults ≤ self.new.faults }
     {
         let child = kit.child;
         if self.processes.reserve(1).is_err() {

@@ -27,7 +27,7 @@ use Rattle.aio_change.proofs.Owning.{own_changed, own_made}
 use Rattle.aio_connection.specs.Owned.{OwnsConnection}
 use Rattle.aio_stream.specs.Kept.{Kept, listening, may_connect as may_connect_kept, with_connection}
 use Rattle.aio_stream.specs.Owned.{OwnsStreams}
-use Rattle.aio_stream.specs.Standing.{Comes, StandsAfter, StandsFor, Told}
+use Rattle.aio_stream.specs.Standing.{Comes, StandsAfter, StreamStandsFor, Told}
 use Rattle.aio_stream.proofs.Placing.{kept_connections}
 use Rattle.aio_listener.proofs.Listeners.{listens, unless_listens}
 
@@ -45,7 +45,7 @@ stands_on new before between after (Ok done) same it = (it.0, it.1 ∙ same)
 stands_on new before between after (Err why) same it = tt
 
 -- ---- one more connection
-pub stands_with_connection : (k : Kept) (c : Connection) (s : Streams) → StandsFor k s → StandsFor (with_connection c k) (add_connection c s)
+pub stands_with_connection : (k : Kept) (c : Connection) (s : Streams) → StreamStandsFor k s → StreamStandsFor (with_connection c k) (add_connection c s)
 stands_with_connection k c s h = record {
   servers = h.servers;
   connections = ap (λ xs. xs ++ c ∷ []) h.connections;
@@ -80,7 +80,7 @@ module _ (handler : ℕ) (k after : Kept) (closed id : ℕ) (old first second ne
               (then_soon ∙ ap (λ (i : ℕ). seen_changed (CallSoon (StartRead i)) second) same)
               (tells_ends seen_changed (add_connection c s) new))),
           (
-            subst (λ (it : Kept). StandsFor it (add_connection c s))
+            subst (λ (it : Kept). StreamStandsFor it (add_connection c s))
                 (sym (is ∙ ap (λ (f : ℕ). with_connection (accepted f handler) k) number)) (stands_with_connection k c s h),
             refl,
           ),
@@ -117,7 +117,7 @@ module _ {W : Type 0} (o : Outside W) (server handler : ℕ) (k : Kept) where
   none_left : (next : ℕ) (at : Reach View W) → Comes {R = Unit {0}} o (accept_most zero server handler next) k k at at (Ok tt)
   none_left next at s h = (s, (follows_ends o seen_changed s at, (h, refl)))
 
-  room_same : (s : Streams) → StandsFor k s → (b : Bool) → may_connect_kept k ≡ b → may_connect s ≡ b
+  room_same : (s : Streams) → StreamStandsFor k s → (b : Bool) → may_connect_kept k ≡ b → may_connect s ≡ b
   room_same s h b e =
       ap (λ n. nat_lt n s.most) (ap length h.connections) ∙ ap (λ most. nat_lt (length k.connections) most) h.most ∙ e
 
@@ -145,7 +145,7 @@ module _ {W : Type 0} (o : Outside W) (server handler : ℕ) (k : Kept) where
   accepts_over (suc more) next at stops = no_room (suc more) next at (stops (omega arith))
 
   module _ (more next : ℕ) (room : may_connect_kept k ≡ true) (old mid : Reach View W) (parts : mid.parts ≡ old.parts) where
-    in_round : (s : Streams) → StandsFor k s → (new : Reach View W) (result : Result Streams Stop)
+    in_round : (s : Streams) → StreamStandsFor k s → (new : Reach View W) (result : Result Streams Stop)
         → Follows o seen_changed (Asks (call.Accept server) (round more next s)) old new result
         → Follows o seen_changed (accept_most (suc more) server handler next s) old new result
     in_round s h new result f =
@@ -164,7 +164,7 @@ module _ {W : Type 0} (o : Outside W) (server handler : ℕ) (k : Kept) where
     )
 
     module _ (came : Answer) (one : AsksOne o (call.Accept server) old.port mid.port (Ok came)) where
-      answered : (s : Streams) → StandsFor k s → (new : Reach View W) (result : Result Streams Stop)
+      answered : (s : Streams) → StreamStandsFor k s → (new : Reach View W) (result : Result Streams Stop)
           → Follows o seen_changed (round more next s came) mid new result
           → Follows o seen_changed (accept_most (suc more) server handler next s) old new result
       answered s h new result f =
@@ -216,7 +216,7 @@ module _ {W : Type 0} (o : Outside W) (id next : ℕ) (k : Kept) where
     | Some server ↦ if server.is_open then accept_most most_accepts id server.handler next s else Ends s
   ]
 
-  listener_there : (it : Option Server) → slice_get k.servers id ≡ it → (s : Streams) → StandsFor k s → it ≡ slice_get s.servers id
+  listener_there : (it : Option Server) → slice_get k.servers id ≡ it → (s : Streams) → StreamStandsFor k s → it ≡ slice_get s.servers id
   listener_there it at s h = sym (ap (λ xs. slice_get xs id) h.servers ∙ at)
 
   no_listener : (at : Reach View W) → slice_get k.servers id ≡ None → Comes {R = Unit {0}} o (readable_server next id) k k at at (Ok tt)
@@ -229,7 +229,7 @@ module _ {W : Type 0} (o : Outside W) (id next : ℕ) (k : Kept) where
   )
 
   module _ (server : Server) (is : slice_get k.servers id ≡ Some server) where
-    by_listener : (s : Streams) → StandsFor k s → (old new : Reach View W) (result : Result Streams Stop)
+    by_listener : (s : Streams) → StreamStandsFor k s → (old new : Reach View W) (result : Result Streams Stop)
         → Follows o seen_changed (accepts_by s (Some server)) old new result → Follows o seen_changed (readable_server next id s) old new result
     by_listener s h old new result f =
         subst (λ it. Follows o seen_changed (accepts_by s it) old new result) (listener_there (Some server) is s h) f

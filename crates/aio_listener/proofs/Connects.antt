@@ -22,7 +22,7 @@ use Rattle.aio_change.proofs.AfterAsking.{asks_met, asks_on, asks_starved}
 use Rattle.aio_change.proofs.Owning.{own_changed, own_made}
 use Rattle.aio_stream.specs.Kept.{Kept, with_connection}
 use Rattle.aio_stream.specs.Owned.{OwnsStreams}
-use Rattle.aio_stream.specs.Standing.{Answers, StandsFor, ToldWith}
+use Rattle.aio_stream.specs.Standing.{Answers, StreamStandsFor, ToldWith}
 use Rattle.aio_listener.proofs.Accepts.{one_more_made, own_with, stands_with_connection}
 use Rattle.aio_stream.proofs.Placing.{kept_connections}
 
@@ -47,7 +47,7 @@ module _ (k after : Kept) (closed on id : ℕ) (old first new : View) (closed_is
               (tells_changed seen_changed MakeFuture (Ends ended) first new new said then_made
               (tells_end seen_changed ended said new (ap (λ (p : ℕ × ℕ). (add_connection c s, Some p)) (result_is ∙ same)))),
           (
-            subst (λ (it : Kept). StandsFor it (add_connection c s))
+            subst (λ (it : Kept). StreamStandsFor it (add_connection c s))
                 (sym (is ∙ ap (λ (f : ℕ). with_connection (connecting f on) k) closed_is ∙ ap (λ (f : ℕ). with_connection (connecting next f) k) on_next))
                 (stands_with_connection k c s h),
             refl,

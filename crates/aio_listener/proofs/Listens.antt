@@ -17,11 +17,11 @@ use Rattle.aio_task.specs.View.{View}
 use Rattle.aio_change.specs.Seen.{seen_changed}
 use Rattle.aio_change.proofs.AfterAsking.{asks_met, asks_on, asks_starved}
 use Rattle.aio_stream.specs.Kept.{Kept, listening, with_closed, with_server}
-use Rattle.aio_stream.specs.Standing.{Answers, Comes, StandsFor}
+use Rattle.aio_stream.specs.Standing.{Answers, Comes, StreamStandsFor}
 use Rattle.aio_listener.proofs.Listeners.{Listens, listens, unless_listens}
 
 -- ---- one is opened
-stands_with_server : (k : Kept) (server : Server) (s : Streams) → StandsFor k s → StandsFor (with_server server k) (add_server server s)
+stands_with_server : (k : Kept) (server : Server) (s : Streams) → StreamStandsFor k s → StreamStandsFor (with_server server k) (add_server server s)
 stands_with_server k server s h = record {
   servers = ap (λ xs. xs ++ server ∷ []) h.servers;
   connections = h.connections;
@@ -73,7 +73,7 @@ module _ {W : Type 0} (o : Outside W) (number handler : ℕ) (k : Kept) (old new
             (follows_end o seen_changed {A = Streams × Option ℕ} (add_server opened_here s, Some (length s.servers))
             (add_server opened_here s, Some id) new
             (ap (λ (n : ℕ). (add_server opened_here s, Some n)) (number_is ∙ ap length (sym h.servers))))),
-        (subst (λ (it : Kept). StandsFor it (add_server opened_here s)) (sym is) (stands_with_server k opened_here s h), refl),
+        (subst (λ (it : Kept). StreamStandsFor it (add_server opened_here s)) (sym is) (stands_with_server k opened_here s h), refl),
       ),
     )
 
@@ -91,7 +91,7 @@ module _ {W : Type 0} (o : Outside W) (id : ℕ) (k : Kept) where
     | Some server ↦ if server.is_open then closes server s else Ends s
   ]
 
-  server_there : (it : Option Server) → slice_get k.servers id ≡ it → (s : Streams) → StandsFor k s → it ≡ slice_get s.servers id
+  server_there : (it : Option Server) → slice_get k.servers id ≡ it → (s : Streams) → StreamStandsFor k s → it ≡ slice_get s.servers id
   server_there it at s h = sym (ap (λ xs. slice_get xs id) h.servers ∙ at)
 
   closes_none : (at : Reach View W) → slice_get k.servers id ≡ None → Comes {R = Unit {0}} o (close_server id) k k at at (Ok tt)
@@ -99,7 +99,7 @@ module _ {W : Type 0} (o : Outside W) (id : ℕ) (k : Kept) where
       (s, (subst (λ it. Follows o seen_changed (closes_by s it) at at (Ok s)) (server_there None none s h) (follows_ends o seen_changed s at), (h, refl)))
 
   module _ (server : Server) (is : slice_get k.servers id ≡ Some server) where
-    by_server : (s : Streams) → StandsFor k s → (old new : Reach View W) (result : Result Streams Stop)
+    by_server : (s : Streams) → StreamStandsFor k s → (old new : Reach View W) (result : Result Streams Stop)
         → Follows o seen_changed (closes_by s (Some server)) old new result → Follows o seen_changed (close_server id s) old new result
     by_server s h old new result f = subst (λ it. Follows o seen_changed (closes_by s it) old new result) (server_there (Some server) is s h) f
 
@@ -114,7 +114,7 @@ module _ {W : Type 0} (o : Outside W) (id : ℕ) (k : Kept) where
     )
 
     module _ (old new : Reach View W) (parts : new.parts ≡ old.parts) (open_is : server.is_open ≡ true) where
-      closes_so : (s : Streams) → StandsFor k s → (result : Result Streams Stop) → Follows o seen_changed (closes server s) old new result
+      closes_so : (s : Streams) → StreamStandsFor k s → (result : Result Streams Stop) → Follows o seen_changed (closes server s) old new result
           → Follows o seen_changed (close_server id s) old new result
       closes_so s h result f =
           by_server s h old new result (follows_where o seen_changed server.is_open (closes server s) (Ends s) old new result open_is f)
@@ -140,7 +140,7 @@ module _ {W : Type 0} (o : Outside W) (id : ℕ) (k : Kept) where
               (asks_on o (call.CloseServer id) (call.CloseServer id) (λ came. Ends (with_closed_one server s)) refl came old new new
               (Ok (with_closed_one server s)) one parts (follows_ends o seen_changed (with_closed_one server s) new)),
           (
-            subst (λ (it : Kept). StandsFor it (with_closed_one server s)) (sym same) (record {
+            subst (λ (it : Kept). StreamStandsFor it (with_closed_one server s)) (sym same) (record {
               servers = ap (λ xs. slice_set xs id (closed_server server)) h.servers;
               connections = h.connections;
               opened = h.opened;

@@ -59,7 +59,7 @@ pub fn act<W: Wire>(
             broken: _,
         }
         | Action::Step(_)
-        | Action::StepInCircle { task: _, circle: _ }
+        | Action::StepInCycle { task: _, cycle: _ }
         | Action::Wakeup(_)
         | Action::SleepDone { task: _, future: _ }
         | Action::GroupDone { group: _, task: _ }

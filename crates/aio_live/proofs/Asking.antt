@@ -12,7 +12,7 @@ use Rattle.model_hub.specs.Hub.{Hub, of_child}
 use Rattle.model_hub.specs.Others.{Offer, Others, Said, Memory}
 use Rattle.model_hub.specs.Calls.{answer_to, commands_to}
 use Rattle.model_hub.specs.Told.{PollerSeen, LauncherSeen, told_with}
-use Rattle.model_hub.specs.Asked.{Asks, is_running, lane_of, TakesPosts, polls_of, answers_of, Keeps, kills_after, launches_after, Refuses}
+use Rattle.model_hub.specs.Asked.{Asks, is_running, lane_of, TakesPosts, polls_of, answers_of, HubKeeps, kills_after, launches_after, Refuses}
 use Rattle.aio_roster.proofs.Running.{kth_of, stands}
 use Rattle.aio_commands.specs.Commands.{Commands}
 use Rattle.aio_live.specs.States.{StateSeen, Rests, heads_of}
@@ -79,7 +79,7 @@ module _ {Run : Type 0} (asks : Call) (others : Others) (old new : StateSeen Run
       (is : answer_to asks others old.hub ≡ (new.hub, said)) (posts : TakesPosts asks others old.hub old.nones new.nones)
       (polls : poller_now.asked ≡ told_with (polls_of asks others.lanes old.hub) poller.asked)
       (answers : poller_now.answers ≡ told_with (answers_of asks others) poller.answers)
-      (keeps : Keeps asks others poller.faults poller_now.faults) (kills : launcher_now.kills ≡ kills_after asks launcher.kills)
+      (keeps : HubKeeps asks others poller.faults poller_now.faults) (kills : launcher_now.kills ≡ kills_after asks launcher.kills)
       (launches : launcher_now.launches ≡ launches_after asks said (length old.hub.children) launcher.launches)
       (refused : Refuses asks said old.hub launcher.faults launcher_now.faults) where
     pub asks_by : Asks asks (hub_seen poller launcher old) (hub_seen poller_now launcher_now new) said

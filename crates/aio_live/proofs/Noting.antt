@@ -18,8 +18,8 @@ use Rattle.aio_roster.proofs.Running.{running_cons}
 use Rattle.aio_live.specs.States.{IsState}
 use Rattle.aio_live.proofs.Keeping.{kept_state}
 
-abbrev pub Keeps : (Child → Child) → Type 0
-Keeps f = (child : Child) → Same child (f child)
+abbrev pub NotingKeeps : (Child → Child) → Type 0
+NotingKeeps f = (child : Child) → Same child (f child)
 
 -- what a list of changed children has, the list has changed
 from_map : (f : Child → Child) (cs : List Child) (n : ℕ) (new : Child) → slice_get (map f cs) n ≡ Some new
@@ -28,7 +28,7 @@ from_map f [] n new h = absurd (none_some new h)
 from_map f (c ∷ cs) zero new h = (c, refl, some_is (f c) new h)
 from_map f (c ∷ cs) (suc n) new h = from_map f cs n new h
 
-module _ (f : Child → Child) (keeps : Keeps f) where
+module _ (f : Child → Child) (keeps : NotingKeeps f) where
   running_map : (cs : List Child) → running_of (map f cs) ≡ running_of cs
   running_map [] = refl
   running_map (c ∷ cs) =
@@ -76,7 +76,7 @@ module _ (f : Child → Child) (keeps : Keeps f) where
       ∙ ap (λ (l : List Item). told_of cs came ++ l) (told_all_map cs posts)
 
 -- ---- posts
-keeps_note : (came : Post) → Keeps (note came)
+keeps_note : (came : Post) → NotingKeeps (note came)
 keeps_note came child = same_by (pump_of came.seat child) came.kind child
 
 pub running_noted : (posts : List Post) (cs : List Child) → running_of (note_all posts cs) ≡ running_of cs

@@ -25,7 +25,7 @@ use Rattle.aio_polling.specs.declared.ending.Selected.TheVariants as selected
 use Rattle.aio_polling.specs.Selects.{hub_of, hub_after, selected_at, SelectsPolled}
 use Rattle.aio_live.specs.States.{StateSeen, Plainly}
 use Rattle.aio_live.specs.Selecting.{SelectsItems, TakesOver, TakesAfter, AnswerFits, told_in, NothingIsLost}
-use Rattle.aio_live.proofs.Noting.{Keeps, told_all_map}
+use Rattle.aio_live.proofs.Noting.{NotingKeeps, told_all_map}
 
 -- ---- it fits
 fits_at : (watched : List Watch) (halt : Halt) (now : ℕ) (items : List Item) → turn_fits watched now items ≡ true
@@ -81,7 +81,7 @@ module _ (from : Pump) (child : ℕ) (teller : is_teller from ≡ true) (watched
       ∙ ap (λ (l : List Post). of (old.kept ++ told_all old.children l)) (sym takes.0)
   line_is PollStarved posts said new nones nones_now faults faults_now ends takes keeps = absurd ends
 
-keeps_serve : (lanes : Lanes) (watched : List Watch) → Keeps (serve_child lanes watched)
+keeps_serve : (lanes : Lanes) (watched : List Watch) → NotingKeeps (serve_child lanes watched)
 keeps_serve lanes watched child =
     let same = serve_same lanes watched child in record { number = same.number; seats = same.seats; stay = same.stay }
 

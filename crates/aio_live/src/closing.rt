@@ -29,7 +29,7 @@ impl<N: InboxName, Run: Drop> State<N, Run> {
         ensures kills { (L.seen launcher.new).kills
             ≡ with_kills (kills_in (running_in self.hub.children)) (L.seen launcher.old).kills }
         ensures launches { (L.seen launcher.new).launches ≡ (L.seen launcher.old).launches }
-        ensures later { (L.seen launcher.old).faults ≤ (L.seen launcher.new).faults }
+        ensures monotone { (L.seen launcher.old).faults ≤ (L.seen launcher.new).faults }
         ensures ends { IfOk result (λ told. AreEnds (running_in self.hub.children) told.items) }
     {
         let State {

@@ -144,7 +144,7 @@ impl<N: InboxName, Run: Drop> State<N, Run> {
         ensures told { IfOk result (λ answer. LaunchTold words.now self.old.hub answer
             (L.seen launcher.old) (L.seen launcher.new)) }
         ensures posts { self.new.hub.taken ≡ self.old.hub.taken }
-        ensures later { (L.seen launcher.old).faults ≤ (L.seen launcher.new).faults }
+        ensures monotone { (L.seen launcher.old).faults ≤ (L.seen launcher.new).faults }
         ensures err { OnErr result (self.new.hub.starved ≡ true) }
     {
         let Ok((inbox, ends)) = open(alloc, &mut self.pumped, &mut self.lanes, number) else {
@@ -184,7 +184,7 @@ impl<N: InboxName, Run: Drop> State<N, Run> {
         ensures told { IfOk result (λ answer. LaunchTold words.now self.old.hub answer
             (L.seen launcher.old) (L.seen launcher.new)) }
         ensures posts { self.new.hub.taken ≡ self.old.hub.taken }
-        ensures later { (L.seen launcher.old).faults ≤ (L.seen launcher.new).faults }
+        ensures monotone { (L.seen launcher.old).faults ≤ (L.seen launcher.new).faults }
         ensures err { OnErr result (self.new.hub.starved ≡ true) }
     {
         let number = self.pumped.roster.count();
@@ -210,7 +210,7 @@ impl<N: InboxName, Run: Drop> State<N, Run> {
         ensures asks { IfOk result (λ answer. AsksLauncher (call.Launch words.now) (Got answer)
             (L.seen launcher.old) (L.seen launcher.new) self.old self.new) }
         ensures posts { self.new.hub.taken ≡ self.old.hub.taken }
-        ensures later { (L.seen launcher.old).faults ≤ (L.seen launcher.new).faults }
+        ensures monotone { (L.seen launcher.old).faults ≤ (L.seen launcher.new).faults }
         ensures err { OnErr result (self.new.hub.starved ≡ true) }
     {
         self.serve(rt, &[]);

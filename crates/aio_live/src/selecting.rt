@@ -38,7 +38,7 @@ fn select_items<N: InboxName, Run, R: Wait, P: Poller>(
         poller.new) said state.old state.new) }
     ensures starved { OnErr result (state.new.hub.starved ≡ true) }
     ensures posts { TakesMore state.old.hub.taken state.new.hub.taken }
-    ensures later { (P.seen poller.old).faults ≤ (P.seen poller.new).faults }
+    ensures monotone { (P.seen poller.old).faults ≤ (P.seen poller.new).faults }
 {
     let kept = std::mem::replace(&mut state.kept, Vec::new(alloc));
     match aio_polling::select(rt, alloc, poller, &mut state.pumped, kept, wait, watch) {
@@ -64,7 +64,7 @@ fn take_in_over<N: InboxName, R, L: Launcher<Inbox<N>, Poster<N>>>(
     ensures starved { OnErr result (state.new.hub.starved ≡ true) }
     ensures posts { state.new.hub.taken ≡ state.old.hub.taken }
     ensures none { StartsNone (L.seen launcher.old) (L.seen launcher.new) }
-    ensures later { (L.seen launcher.old).faults ≤ (L.seen launcher.new).faults }
+    ensures monotone { (L.seen launcher.old).faults ≤ (L.seen launcher.new).faults }
 {
     match take_in(
         rt,
@@ -93,7 +93,7 @@ fn take_in_after<N: InboxName, R, L: Launcher<Inbox<N>, Poster<N>>>(
     ensures starved { OnErr result (state.new.hub.starved ≡ true) }
     ensures posts { state.new.hub.taken ≡ state.old.hub.taken }
     ensures none { StartsNone (L.seen launcher.old) (L.seen launcher.new) }
-    ensures later { (L.seen launcher.old).faults ≤ (L.seen launcher.new).faults }
+    ensures monotone { (L.seen launcher.old).faults ≤ (L.seen launcher.new).faults }
 {
     match said {
         Selected::Turn { .. } | Selected::Faulted | Selected::Starved => {

@@ -3,7 +3,7 @@ use Rattle.std.proofs.Common.{◌≡◌, ℕ, List, [], ◌∷◌, Option, Some,
 use Rattle.model_wire.specs.Journal.{Entry, Answered}
 use Rattle.model_wire.specs.JournalText.{entries_of}
 use Rattle.model_wire.specs.Told.{Agrees}
-use Rattle.aio_wire.specs.Replied.{Leaves, UnlessFailed}
+use Rattle.aio_wire.specs.Replied.{ReplyLeaves, UnlessFailed}
 use Rattle.aio_wire.specs.Told.{refused_of}
 use Rattle.aio_wire.specs.declared.wire.Reply.{Reply}
 use Rattle.aio_wire.specs.declared.wire.Reply.TheVariants.{Got, Over, Bad, Failed}
@@ -23,7 +23,7 @@ agrees_same told a b agrees same held e = agrees held e ∙ same
 
 -- the replies of a journal that agrees with what is told
 pub leaves_from : (told : Option (List Entry)) (old new : List Entry) (reply : Reply) → Agrees told old → RepliesWith old new reply
-    → Leaves told (Some new) reply
+    → ReplyLeaves told (Some new) reply
 leaves_from told old new (Got answer) agrees replies =
     λ rest left. agrees_same told old (Answered answer ∷ rest) agrees
     (replies ∙ ap (λ (es : List Entry). Answered answer ∷ es) (told_outright new rest left))

@@ -17,7 +17,7 @@ use Rattle.aio_wire.specs.declared.wire.Reply.TheVariants.{Failed}
 pub record SourceRead (max : ℕ) (old new : SourceSeen) (result : Result SourceGot Memory) : Type 0 where
   pub size : IfOk result (FitsRead max)
   pub left : IfOk result (ReadLeaves old new)
-  pub later : old.faults ≤ new.faults
+  pub monotone : old.faults ≤ new.faults
   pub err : OnErr result (new ≡ old)
 
 -- a sink was given a piece

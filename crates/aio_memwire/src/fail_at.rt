@@ -38,7 +38,7 @@ pub(crate) fn fails(calls: &[u64], made: &mut u64, faults: &mut u64) -> bool
     ensures listed { result ≡ list_any (λ call. call == one_more made.old) calls.now }
     ensures failures { faults.new ≡ (if result then one_more faults.old else faults.old) }
     ensures rose { result ≡ true → Rose faults.old faults.new }
-    ensures later { faults.old ≤ faults.new }
+    ensures monotone { faults.old ≤ faults.new }
     ensures same { result ≡ false → faults.new ≡ faults.old }
 {
     *made = made.saturating_add(1);

@@ -1,6 +1,6 @@
 //! A journal on a shelf, as a wire.
 ghost use Rattle.std.specs.Prelude.{◌≡◌, ◌≤◌, true, false, [], Some, None, IfOk, OnErr, IsErr};
-ghost use Rattle.aio_wire.specs.Replied.{Replied, Unreplied, UnlessFailed, Leaves, EndsAs, FailedIfRose};
+ghost use Rattle.aio_wire.specs.Replied.{Replied, Unreplied, UnlessFailed, ReplyLeaves, EndsAs, FailedIfRose};
 ghost use Rattle.aio_wire.specs.declared.wire.Reply.TheVariants.{Failed};
 ghost use Rattle.aio_memwire.specs.Held.{held};
 ghost use Rattle.aio_memwire.specs.JournalWire.{left_of, end_of, seen_of};
@@ -95,7 +95,7 @@ impl<'a, F: Shelf> Wire for JournalWire<'a, F, Buffers> {
         ensures unreplied { OnErr result (Unreplied call.now
             (seen_of (F.seen self.old.shelf.now) self.old.name.now self.old.own)
             (seen_of (F.seen self.new.shelf.now) self.new.name.now self.new.own)) }
-        ensures later { (F.seen self.old.shelf.now).faults self.old.name.now
+        ensures monotone { (F.seen self.old.shelf.now).faults self.old.name.now
             ≤ (F.seen self.new.shelf.now).faults self.old.name.now }
         ensures missing { self.old.own.journal ≡ None
             → (F.seen self.old.shelf.now).file self.old.name.now ≡ Some None
@@ -128,12 +128,12 @@ fn next_reply<F: Shelf>(
     name: &str,
     journal: &mut Option<Journal>,
 ) -> Result<Reply, Memory>
-    ensures left { IfOk result (Leaves (left_of ((F.seen shelf.old).file name.now) journal.old)
+    ensures left { IfOk result (ReplyLeaves (left_of ((F.seen shelf.old).file name.now) journal.old)
         (left_of ((F.seen shelf.new).file name.now) journal.new)) }
     ensures ends { IfOk result (EndsAs (end_of journal.new)) }
     ensures failed { IfOk result (FailedIfRose ((F.seen shelf.old).faults name.now)
         ((F.seen shelf.new).faults name.now)) }
-    ensures later { (F.seen shelf.old).faults name.now ≤ (F.seen shelf.new).faults name.now }
+    ensures monotone { (F.seen shelf.old).faults name.now ≤ (F.seen shelf.new).faults name.now }
     ensures missing { journal.old ≡ None → (F.seen shelf.old).file name.now ≡ Some None
         → IfOk result (λ reply. reply ≡ Failed) }
     ensures files { (F.seen shelf.new).file ≡ (F.seen shelf.old).file }

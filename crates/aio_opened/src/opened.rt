@@ -10,7 +10,7 @@ ghost use Rattle.model_machine.specs.Arguments.{AWriter, as_bytes as bytes_of, a
 ghost use Rattle.model_machine.specs.Arguments.{as_closable as closable_of, as_reader as reader_of, as_writer as writer_of};
 ghost use Rattle.model_machine.specs.State.{State};
 ghost use Rattle.aio_transports.specs.Readers.{reader_as};
-ghost use Rattle.aio_transports.specs.Standing.{StandsFor};
+ghost use Rattle.aio_transports.specs.Standing.{TransportsStandFor};
 ghost use Rattle.aio_opened.specs.Closing.{closable_as};
 
 use aio_base::{Value, ValueCase};
@@ -29,7 +29,7 @@ pub enum Closable {
 
 /// A connection that was made.
 pub fn as_conn<X: Extra>(transports: &Transports, value: &Value) -> Option<u32>
-    ensures { (s : State X.added.Kept) → StandsFor transports.now s.streams
+    ensures { (s : State X.added.Kept) → TransportsStandFor transports.now s.streams
         → result ≡ conn_of s value.now }
 {
     match value.case() {
@@ -40,7 +40,7 @@ pub fn as_conn<X: Extra>(transports: &Transports, value: &Value) -> Option<u32>
 
 /// A child that was launched.
 pub fn as_child<X: Extra>(transports: &Transports, value: &Value) -> Option<u32>
-    ensures { (s : State X.added.Kept) → StandsFor transports.now s.streams
+    ensures { (s : State X.added.Kept) → TransportsStandFor transports.now s.streams
         → result ≡ child_of s value.now }
 {
     match value.case() {
@@ -51,7 +51,7 @@ pub fn as_child<X: Extra>(transports: &Transports, value: &Value) -> Option<u32>
 
 /// What is written: a connection, or a child's standard input.
 pub fn as_writer<X: Extra>(transports: &Transports, value: &Value) -> Option<Handed>
-    ensures { (s : State X.added.Kept) → StandsFor transports.now s.streams
+    ensures { (s : State X.added.Kept) → TransportsStandFor transports.now s.streams
         → result ≡ writer_of s value.now }
 {
     match value.case() {
@@ -63,7 +63,7 @@ pub fn as_writer<X: Extra>(transports: &Transports, value: &Value) -> Option<Han
 
 /// What is read: a connection, or one of the pipes that a child writes.
 pub fn as_reader<X: Extra>(transports: &Transports, value: &Value) -> Option<StreamReader>
-    ensures { (s : State X.added.Kept) → StandsFor transports.now s.streams
+    ensures { (s : State X.added.Kept) → TransportsStandFor transports.now s.streams
         → option_map reader_as result ≡ reader_of s value.now }
 {
     match value.case() {
@@ -76,7 +76,7 @@ pub fn as_reader<X: Extra>(transports: &Transports, value: &Value) -> Option<Str
 
 /// What may be closed.
 pub fn as_closable<X: Extra>(transports: &Transports, value: &Value) -> Option<Closable>
-    ensures { (s : State X.added.Kept) → StandsFor transports.now s.streams
+    ensures { (s : State X.added.Kept) → TransportsStandFor transports.now s.streams
         → option_map closable_as result ≡ closable_of s value.now }
 {
     match value.case() {
@@ -99,7 +99,7 @@ pub fn as_bytes(value: &Value) -> Option<&RcSlice<u8>>
 
 // The connection of this number, if it was made.
 fn conn<X: Extra>(transports: &Transports, id: u32) -> Option<u32>
-    ensures { (s : State X.added.Kept) → StandsFor transports.now s.streams
+    ensures { (s : State X.added.Kept) → TransportsStandFor transports.now s.streams
         → result ≡ conn_of s (Conn id) }
 {
     if transports.has_conn(id) {
@@ -111,7 +111,7 @@ fn conn<X: Extra>(transports: &Transports, id: u32) -> Option<u32>
 
 // The child of this number, if it was launched.
 fn child<X: Extra>(transports: &Transports, id: u32) -> Option<u32>
-    ensures { (s : State X.added.Kept) → StandsFor transports.now s.streams
+    ensures { (s : State X.added.Kept) → TransportsStandFor transports.now s.streams
         → result ≡ child_of s (Child id) }
 {
     if transports.has_child(id) {
@@ -123,7 +123,7 @@ fn child<X: Extra>(transports: &Transports, id: u32) -> Option<u32>
 
 // The listener of this number, if it was made.
 fn server<X: Extra>(transports: &Transports, id: u32) -> Option<Closable>
-    ensures { (s : State X.added.Kept) → StandsFor transports.now s.streams
+    ensures { (s : State X.added.Kept) → TransportsStandFor transports.now s.streams
         → option_map closable_as result ≡ closable_of s (Server id) }
 {
     if transports.has_server(id) {

@@ -50,7 +50,7 @@ impl<R> RealPoller<R> {
     /// Counts a failure, unless it is want of memory.
     fn failed(&mut self, error: &io::Error) -> Result<(), Memory>
         ensures rose { OnOk result (Rose self.old.faults self.new.faults) }
-        ensures later { self.old.faults ≤ self.new.faults }
+        ensures monotone { self.old.faults ≤ self.new.faults }
         ensures time { self.new.time ≡ self.old.time }
     {
         if error.kind() == ErrorKind::OutOfMemory && error.raw_os_error().is_none() {
@@ -62,7 +62,7 @@ impl<R> RealPoller<R> {
 
     fn count(&mut self)
         ensures rose { Rose self.old.faults self.new.faults }
-        ensures later { self.old.faults ≤ self.new.faults }
+        ensures monotone { self.old.faults ≤ self.new.faults }
         ensures time { self.new.time ≡ self.old.time }
     {
         self.faults = self.faults.saturating_add(1);
@@ -109,7 +109,7 @@ impl<R: Net + Clock> Poller for RealPoller<R> {
     ) -> Result<Polled, Memory>
         ensures polled { IfOk result (Polls wait watch.now (untold self.old.faults)
             (untold self.new.faults)) }
-        ensures later { self.old.faults ≤ self.new.faults }
+        ensures monotone { self.old.faults ≤ self.new.faults }
         ensures told { IfOk result (IsAt self.new.time.told) }
         ensures onward { self.old.time.told ≤ self.new.time.told }
     {
@@ -135,7 +135,7 @@ impl<R: Net + Clock> Poller for RealPoller<R> {
     fn net(&mut self, alloc: Global, call: &Call) -> Result<Reply, Memory>
         ensures net { IfOk result
             (Nets call.now (untold self.old.faults) (untold self.new.faults)) }
-        ensures later { self.old.faults ≤ self.new.faults }
+        ensures monotone { self.old.faults ≤ self.new.faults }
         ensures onward { self.old.time.told ≤ self.new.time.told }
     {
         match self.answer(alloc, call) {

@@ -49,7 +49,7 @@ pub(crate) fn poll<P: Poller, Q: Pumps>(
 ) -> Result<Polled, Memory>
     ensures polled { IfOk result (PollAnswers wait watch.now (Q.children pumps.now) kept.now
         (P.seen poller.old) (P.seen poller.new)) }
-    ensures later { (P.seen poller.old).faults ≤ (P.seen poller.new).faults }
+    ensures monotone { (P.seen poller.old).faults ≤ (P.seen poller.new).faults }
 {
     let alone = without_children(alloc, watch.entries())?;
     let has = has_item(alloc, watch, pumps, kept)?;

@@ -60,7 +60,7 @@ pub fn select<R: Wait, P: Poller, Q: Pumps>(
         pumps.new) (P.seen poller.new)) }
     ensures noted { Notes (Q.children pumps.old) (Q.taken pumps.old) (Q.children pumps.new)
         (Q.taken pumps.new) }
-    ensures later { (P.seen poller.old).faults ≤ (P.seen poller.new).faults }
+    ensures monotone { (P.seen poller.old).faults ≤ (P.seen poller.new).faults }
 {
     let watching = Watching::new(alloc, watch)?;
     match poll(alloc, poller, pumps, kept.as_slice(), wait, &watching)? {

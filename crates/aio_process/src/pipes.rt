@@ -58,7 +58,7 @@ impl<P> PipeSource<P> {
         requires { ReadsAtMost read piece.items }
         ensures size { FitsRead (vec_len piece) result }
         ensures left { ReadLeaves (untold self.old.faults) (untold self.new.faults) result }
-        ensures later { self.old.faults ≤ self.new.faults }
+        ensures monotone { self.old.faults ≤ self.new.faults }
         ensures answered { Got read piece.items self.old.faults self.new.faults result }
         ensures pipe { self.new.pipe ≡ self.old.pipe }
     {
@@ -83,7 +83,7 @@ impl<P: Read + AsRawFd> Source for PipeSource<P> {
         requires { 1 ≤ max }
         ensures size { IfOk result (FitsRead max) }
         ensures left { IfOk result (ReadLeaves (untold self.old.faults) (untold self.new.faults)) }
-        ensures later { self.old.faults ≤ self.new.faults }
+        ensures monotone { self.old.faults ≤ self.new.faults }
         ensures drained { IfOk result
             (Drains (P.remaining self.old.pipe) (P.remaining self.new.pipe)) }
         ensures unchanged { OnErr result (self.new ≡ self.old) }

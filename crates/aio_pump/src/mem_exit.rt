@@ -56,7 +56,7 @@ impl ExitSource for MemExit {
     fn wait(&mut self) -> Exited
         ensures answer { result ≡ exited self.old }
         ensures after { self.new ≡ waited self.old }
-        ensures later { self.old.faults ≤ self.new.faults }
+        ensures monotone { self.old.faults ≤ self.new.faults }
     {
         self.waits = self.waits.saturating_add(1);
         let fails = is_listed(self.failing.as_slice(), self.waits);

@@ -13,7 +13,7 @@ use Rattle.model_hub.specs.declared.pump.Pump.TheVariants as pump
 use Rattle.model_hub.specs.Children.{new_child, pump_of, pump_at, runs}
 use Rattle.aio_serving.specs.Served.{IsModest}
 use Rattle.aio_roster.specs.Rosters.{IsRoster, IsShort, IsFree, running_of}
-use Rattle.aio_roster.specs.Changes.{AreSeats, MayBeLent, lend_to, Leaves}
+use Rattle.aio_roster.specs.Changes.{AreSeats, MayBeLent, lend_to, RosterLeaves}
 use Rattle.aio_roster.proofs.Seated.{put_at}
 use Rattle.aio_roster.proofs.Running.{Found, find, running_cons, running_append, get_middle, set_middle, snoc_case}
 
@@ -257,7 +257,7 @@ module _ (children : List Child) (holders : List (Option ℕ)) (running : List �
       (ap (λ (l : List ℕ). remove l k) roster.runs
       ∙ sym (running_less children k n child left named at roster.numbered over))
 
-  pub leaves : Leaves k stay children (slice_set children n left)
+  pub leaves : RosterLeaves k stay children (slice_set children n left)
   leaves =
       let same = roster.numbered n child at in
       record {

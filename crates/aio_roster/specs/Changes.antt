@@ -61,7 +61,7 @@ lend_to number seats holders =
     seats.exit (Some number)
 
 -- the child with the k-th of the numbers of those that run does so no longer
-pub record Leaves (k : ℕ) (stay : Stay) (children children_now : List Child) : Type 0 where
+pub record RosterLeaves (k : ℕ) (stay : Stay) (children children_now : List Child) : Type 0 where
   pub child : Child
   pub named : slice_get (running_of children) k ≡ Some child.number
   pub at : slice_get children child.number ≡ Some child

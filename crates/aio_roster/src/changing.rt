@@ -4,7 +4,7 @@ ghost use Rattle.std.specs.List.{remove};
 ghost use Rattle.model_hub.specs.declared.child.Seats.{Seats};
 ghost use Rattle.model_hub.specs.Children.{new_child, runs};
 ghost use Rattle.aio_roster.specs.Rosters.{Numbered, running_of};
-ghost use Rattle.aio_roster.specs.Changes.{IsKth, IsFound, Replaces, MayBeLent, AreSeats, AreApart, LeavesFree, GivesBack, lend_to, Leaves};
+ghost use Rattle.aio_roster.specs.Changes.{IsKth, IsFound, Replaces, MayBeLent, AreSeats, AreApart, LeavesFree, GivesBack, lend_to, RosterLeaves};
 
 use crate::roster::Roster;
 use aio_base::Memory;
@@ -93,7 +93,7 @@ impl Roster {
     pub fn leave(&mut self, k: usize, stay: Stay)
         requires running { k < length (running_of self.old.children) }
         requires over { runs stay ≡ false }
-        ensures left { Leaves k stay self.old.children self.new.children }
+        ensures left { RosterLeaves k stay self.old.children self.new.children }
         ensures lent { LeavesFree self.old.children self.new.children }
         ensures back { GivesBack k stay self.old.children self.new.children }
         ensures noted { self.new.noted ≡ self.old.noted }

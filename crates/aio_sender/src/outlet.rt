@@ -46,7 +46,7 @@ pub fn loses(whom: Handed, broken: bool) -> Action
 
 /// The exception of a loss by failure.
 pub fn fault(alloc: Global, whom: Handed) -> Result<Exc, Memory>
-    ensures { IfOk result (λ exc. exc ≡ (outlet_of whom).fault) }
+    ensures { IfOk result (λ exc. exc ≡ (outlet_of whom).exception) }
 {
     match whom {
         Handed::Conn(_) => exception(alloc, Kind::ConnectionResetError, LOST_TEXT),

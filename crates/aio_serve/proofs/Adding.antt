@@ -20,7 +20,7 @@ use Rattle.model_machine.specs.Extra.{Extra, ExtraAnswer, ExtraSaid, WakesFall, 
 use Rattle.model_machine.specs.Outcomes.{input_of}
 use Rattle.model_machine.specs.Replies as plain
 use Rattle.model_machine.specs.Replies.{ended, input_by, serves_as, serves_until, waits, woken, woken_within}
-use Rattle.model_machine.specs.State as standing
+use Rattle.model_machine.specs.State as resume_point
 use Rattle.model_machine.specs.State.{State, stands}
 use Rattle.model_machine.specs.Told.{told_in}
 use Rattle.law_runs.specs.Allowed.{IsSaidAllowed}
@@ -29,20 +29,20 @@ use Rattle.refine_parts.proofs.Telling.{outcome_kept, pending_kept}
 use Rattle.law_runs.proofs.Waking.{asks_alike, woken_ends}
 use Rattle.law_turns.specs.Replied.{RunsSound}
 use Rattle.aio_cancel.specs.Awaitables.{Appended}
-use Rattle.aio_task.specs.Keeps.{Ties}
+use Rattle.aio_task.specs.Keeps.{NameMap}
 use Rattle.aio_task.specs.View.{View, parts}
 use Rattle.aio_extra.specs.Added.{Added, named_in}
 use Rattle.aio_extra.specs.Called as by_call
 use Rattle.aio_extra.specs.Called.{IsServed, MayServe, SaysAs}
 use Rattle.aio_extra.specs.declared.asked.Asked.{Asked}
 use Rattle.aio_extra.specs.declared.asked.Asked.TheVariants.{Answer, Raise, Wait}
-use Rattle.aio_body.specs.Asked.{HasRested, IsAskingFor, IsDeciding, IsGoing, IsInStep, Says}
-use Rattle.aio_body.specs.Slots.{standing_at}
-use Rattle.aio_body.specs.Stands.{IsOwnSleep, Setting, Possible}
-use Rattle.aio_body.specs.declared.body.Body.{Body}
+use Rattle.aio_body.specs.Asked.{HasSuspended, IsAskingFor, IsDeciding, IsGoing, IsInStep, Says}
+use Rattle.aio_body.specs.Slots.{resume_point_at}
+use Rattle.aio_body.specs.Stands.{IsOwnSleep, Context, Possible}
+use Rattle.aio_body.specs.declared.run_state.RunState.{RunState}
 use Rattle.aio_body.specs.declared.reply.RequestReply.{RequestReply}
 use Rattle.aio_body.specs.declared.reply.RequestReply.TheVariants as reply
-use Rattle.aio_body.specs.declared.standing.Standing.TheVariants.{Serving}
+use Rattle.aio_body.specs.declared.resume_point.ResumePoint.TheVariants.{Serving}
 use Rattle.aio_wire.specs.Outside.{Outside}
 use Rattle.aio_wire.specs.Port.{ported}
 use Rattle.aio_exchange.proofs.Among.{told_none}
@@ -57,12 +57,12 @@ use Rattle.aio_body.proofs.Asking.{HasCome, come_none, come_then, comes_alone, c
 use Rattle.aio_body.specs.Asking.{Comes, ReplyBegins, or_stop, serving}
 use Rattle.aio_body.proofs.Answering.{alive_come}
 use Rattle.aio_body.specs.Answers.{with_answers}
-use Rattle.aio_body.proofs.Adding.{served_of, sound_called, stands_called, ties_called}
+use Rattle.aio_body.proofs.Adding.{served_of, sound_called, stands_called, name_map_called}
 use Rattle.aio_body.proofs.Lasting.{Spares}
 use Rattle.aio_body.proofs.Left.{leaves_suspend}
 use Rattle.aio_body.proofs.May.{same_prop}
 use Rattle.aio_body.proofs.Rooms.{waits_so}
-use Rattle.aio_body.proofs.Slotting.{stands_standing}
+use Rattle.aio_body.proofs.Slotting.{stands_resume_point}
 use Rattle.aio_body.proofs.Telling.{named_also}
 use Rattle.aio_body.proofs.Growing.{decides_begins, replies_begin, row_begins}
 use Rattle.law_reach.proofs.Opened.{decides_comes}
@@ -118,31 +118,31 @@ answered_begins added task (extra.Raises fault) s events same = ([], same ∙ sy
 answered_begins added task (extra.Waits on key) s events same = by (ended s on)
   where
     by : (o : Option Outcome) → ReplyBegins events (serves_until o (woken added task) task on key s)
-    by (Some outcome) = decides_begins added task events s same (standing.Serving key) (input_of outcome)
+    by (Some outcome) = decides_begins added task events s same (resume_point.Serving key) (input_of outcome)
     by None = ([], same ∙ sym (append-nil events))
 answered_begins added task (extra.Asks code bytes key) s events same =
     replies_begin events (answered added task (extra.Asks code bytes key) s)
     (row_begins events s (left_by (answered added task (extra.Asks code bytes key) s))
     (done_row left_by plain.Halts (λ how t. refl) (doing.Asks (call.Extra code bytes) doing.Ends) (λ said. woken added task key (input_by said)) s
     (λ said t. in_turn added
-    (in_callback added (in_answer added (decides_comes added task (standing.Serving key) (input_by said) t).reaches)))) same)
+    (in_callback added (in_answer added (decides_comes added task (resume_point.Serving key) (input_by said) t).reaches)))) same)
 
 -- ---- what it may rely on
 module _ {X : Type 0} {a : Added X} where
-  pub asks_served : (task : ℕ) (body : Body X) (code arguments : Value) → Possible a (IsAskingFor task (request.Extra code arguments)) body
+  pub asks_served : (task : ℕ) (body : RunState X) (code arguments : Value) → Possible a (IsAskingFor task (request.Extra code arguments)) body
       → MayServe a (Some task) body.extra body.parts
   asks_served task body code arguments m =
       ∥∥₁_map m (λ w.
       let going = w.1.1.going in
       let h = going.in_step in
-      (h.stands.ties, (w.1.0, served_of (Some task) (Some task) w.0 body w.1.0 h.stands h.called h.running going.sound.others.loop)))
+      (h.stands.name_map, (w.1.0, served_of (Some task) (Some task) w.0 body w.1.0 h.stands h.called h.running going.sound.others.loop)))
 
-  pub decides_served : (task key : ℕ) (body : Body X) → Possible a (IsDeciding task (standing.Serving key)) body
+  pub decides_served : (task key : ℕ) (body : RunState X) → Possible a (IsDeciding task (resume_point.Serving key)) body
       → MayServe a body.parts.running body.extra body.parts
   decides_served task key body m =
       ∥∥₁_map m (λ w.
       let h = w.1.1.in_step in (
-        h.stands.ties,
+        h.stands.name_map,
         (
           w.1.0,
           served_of (Some task) body.parts.running w.0 body w.1.0 h.stands h.called refl
@@ -150,11 +150,12 @@ module _ {X : Type 0} {a : Added X} where
         ),
       ))
 
-  pub answers_served : (task : ℕ) (asked : Asked) (body : Body X) → Possible a (HasAnswer task asked) body → MayServe a body.parts.running body.extra body.parts
+  pub answers_served : (task : ℕ) (asked : Asked) (body : RunState X) → Possible a (HasAnswer task asked) body
+      → MayServe a body.parts.running body.extra body.parts
   answers_served task asked body m =
       ∥∥₁_map m (λ w.
       let h = w.1.1.1.in_step in (
-        h.stands.ties,
+        h.stands.name_map,
         (
           w.1.0,
           served_of (Some task) body.parts.running w.0 body w.1.0 h.stands h.called refl
@@ -163,7 +164,7 @@ module _ {X : Type 0} {a : Added X} where
       ))
 
 -- what is known where an answer has come
-module _ {X : Type 0} {a : Added X} (task : ℕ) (asked : Asked) (body : Body X) (m : Possible a (HasAnswer task asked) body) where
+module _ {X : Type 0} {a : Added X} (task : ℕ) (asked : Asked) (body : RunState X) (m : Possible a (HasAnswer task asked) body) where
   pub answers_idle : body.parts.called ≡ None
   answers_idle = ∥∥₁_elim m (same_prop body.parts.called None) (λ w. w.1.1.1.in_step.called)
 
@@ -176,14 +177,14 @@ module _ {X : Type 0} {a : Added X} (task : ℕ) (asked : Asked) (body : Body X)
       subst (λ n. task < n) (sym w.1.1.1.in_step.stands.made)
       (lives_within w.1.0.loop.parts task (w.1.1.1.sound.parts.runs task (eq-eqb task task refl))))
 
-pub decides_run : {X : Type 0} {a : Added X} (task key : ℕ) (body : Body X) → Possible a (IsDeciding task (standing.Serving key)) body
+pub decides_run : {X : Type 0} {a : Added X} (task key : ℕ) (body : RunState X) → Possible a (IsDeciding task (resume_point.Serving key)) body
     → body.parts.running ≡ Some task
 decides_run task key body m = ∥∥₁_elim m (same_prop body.parts.running (Some task)) (λ w. w.1.1.in_step.running)
 
 -- ---- what comes of a call
-module _ {X : Type 0} {a : Added X} (task : ℕ) (c : Setting a) (old : Body X) (s : State a.Kept) (h : IsInStep task c old s) (sound : RunsSound task s)
+module _ {X : Type 0} {a : Added X} (task : ℕ) (c : Context a) (old : RunState X) (s : State a.Kept) (h : IsInStep task c old s) (sound : RunsSound task s)
     (v : View) (x : X) (asked : Asked) (said : ExtraSaid a.Kept) (may : IsSaidAllowed said s)
-    (r : SaysAs a h.stands.ties s old.parts v x asked said) where
+    (r : SaysAs a h.stands.name_map s old.parts v x asked said) where
   pub answering_so : IsAnswering task asked said.answer c (record old { parts = v; extra = x }) (called said.call s)
   answering_so = record {
     in_step = record {
@@ -194,12 +195,12 @@ module _ {X : Type 0} {a : Added X} (task : ℕ) (c : Setting a) (old : Body X) 
     sound = sound_called (Some task) (Some task) c old s v x said.call h.stands may.0 sound r.calls;
     answers =
         subst (λ t. by_call.AnswersAs a t (called said.call s) asked said.answer)
-        (sym (ties_called (Some task) (Some task) c old s v x said.call h.stands may.0 sound r.calls)) r.answers;
+        (sym (name_map_called (Some task) (Some task) c old s v x said.call h.stands may.0 sound r.calls)) r.answers;
     allowed = may.1;
   }
 
 -- an answer that is none, and one that is
-module _ {X : Type 0} {a : Added X} (task : ℕ) (c : Setting a) (body : Body X) (s : State a.Kept) where
+module _ {X : Type 0} {a : Added X} (task : ℕ) (c : Context a) (body : RunState X) (s : State a.Kept) where
   pub answer_so : (value : Value) (it : ExtraAnswer) → IsAnswering task (Answer value) it c body s
       → Says task c body (reply.Answers value) (answered a.meaning task it s)
   answer_so value (extra.Answers said) h = (h.answers, h.in_step)
@@ -227,15 +228,15 @@ module _ {X : Type 0} {a : Added X} (task : ℕ) (c : Setting a) (body : Body X)
       subst P (waits_is on key it h) (go (subst (λ x. IsAnswering task (Wait on key) x c body s) (sym (waits_is on key it h)) h))
 
 -- ---- a wait
-module _ {X : Type 0} {a : Added X} (task on key : ℕ) (c : Setting a) (body : Body X) (s : State a.Kept)
+module _ {X : Type 0} {a : Added X} (task on key : ℕ) (c : Context a) (body : RunState X) (s : State a.Kept)
     (h : IsAnswering task (Wait on key) (extra.Waits on key) c body s) where
   pub outcome_is : outcome_at (slice_get body.parts.futures on) ≡ future_outcome s.loop.parts on
-  outcome_is = outcome_kept h.in_step.stands.ties body.parts s.loop.parts h.in_step.stands.keeps on h.answers.2
+  outcome_is = outcome_kept h.in_step.stands.name_map body.parts s.loop.parts h.in_step.stands.keeps on h.answers.2
 
   pub waits_pending : outcome_at (slice_get body.parts.futures on) ≡ None → is_pending_at (slice_get body.parts.futures on) ≡ true
   waits_pending none =
       let it = get_there s.loop.parts.futures on h.allowed in
-      pending_kept h.in_step.stands.ties body.parts s.loop.parts h.in_step.stands.keeps on ∙ ap is_pending_at it.1
+      pending_kept h.in_step.stands.name_map body.parts s.loop.parts h.in_step.stands.keeps on ∙ ap is_pending_at it.1
       ∙ ap is_none (sym (ap outcome_at it.1) ∙ sym outcome_is ∙ none)
 
   pub within : task < next_task s.loop.parts
@@ -248,30 +249,30 @@ module _ {X : Type 0} {a : Added X} (task on key : ℕ) (c : Setting a) (body : 
       absurd (there.unnamed (named_also a s on (h.answers.3 there.plain)))
 
   -- the task waits
-  pub rests_so : (new : Body X) (v : View) → outcome_at (slice_get body.parts.futures on) ≡ None
+  pub suspends_so : (new : RunState X) (v : View) → outcome_at (slice_get body.parts.futures on) ≡ None
       → parts v ≡ (suspend task on (parts body.parts)).parts → Appended body.parts.queue v.queue
       → v ≡ record body.parts { queue = v.queue; futures = v.futures; tasks = v.tasks; running = None }
-      → new ≡ record body { parts = v; slots = new.slots } → new.slots.items ≡ standing_at task (Serving key) body.slots.items
-      → Says task c new reply.Rests (answered a.meaning task (extra.Waits on key) s)
-  rests_so new v none after appended beside slots items =
-      subst (λ o. Says task c new reply.Rests (serves_until o (woken a.meaning task) task on key s)) (sym (sym outcome_is ∙ none)) rested
+      → new ≡ record body { parts = v; slots = new.slots } → new.slots.items ≡ resume_point_at task (Serving key) body.slots.items
+      → Says task c new reply.Suspends (answered a.meaning task (extra.Waits on key) s)
+  suspends_so new v none after appended frame slots items =
+      subst (λ o. Says task c new reply.Suspends (serves_until o (woken a.meaning task) task on key s)) (sym (sym outcome_is ∙ none)) suspended
     where
-      waited : HasRested task c (record body { parts = v }) (waits task on s)
-      waited = waits_so task on c body s v h.in_step spares after appended beside
+      waited : HasSuspended task c (record body { parts = v }) (waits task on s)
+      waited = waits_so task on c body s v h.in_step spares after appended frame
 
-      rested : HasRested task c new (stands (standing.Serving key) task (waits task on s))
-      rested = record {
+      suspended : HasSuspended task c new (stands (resume_point.Serving key) task (waits task on s))
+      suspended = record {
         stands =
-            stands_standing c (record body { parts = v }) new (waits task on s) task (Serving key) (standing.Serving key) waited.stands refl slots items
+            stands_resume_point c (record body { parts = v }) new (waits task on s) task (Serving key) (resume_point.Serving key) waited.stands refl slots items
             (subst (λ n. task < n) (sym (leaves_suspend task on s.loop.parts).tasks) within);
-        called = ap (λ (b : Body X). b.parts.called) slots ∙ waited.called;
-        running = ap (λ (b : Body X). b.parts.running) slots ∙ waited.running;
+        called = ap (λ (b : RunState X). b.parts.called) slots ∙ waited.called;
+        running = ap (λ (b : RunState X). b.parts.running) slots ∙ waited.running;
       }
 
   -- it is done: the request is woken at once
   pub wakes_so : (outcome : Outcome) (input : Input) → outcome_at (slice_get body.parts.futures on) ≡ Some outcome → input ≡ input_of outcome
       → (v : View) (x : X) (asked : Asked)
-      → ((t : Ties) (now : State a.Kept) → IsServed a body.parts.running t now body.extra body.parts
+      → ((t : NameMap) (now : State a.Kept) → IsServed a body.parts.running t now body.extra body.parts
       → SaysAs a t now body.parts v x asked (a.meaning.wake key input now))
       → AnswersAgain task asked c (record body { parts = v; extra = x }) (answered a.meaning task (extra.Waits on key) s)
   wakes_so outcome input is heard v x asked wakes = record {
@@ -279,7 +280,7 @@ module _ {X : Type 0} {a : Added X} (task on key : ℕ) (c : Setting a) (body : 
     it = (a.meaning.wake key input s).answer;
     answering =
         answering_so task c body s h.in_step h.sound v x asked (a.meaning.wake key input s) (a.allowed.wake task key input s h.sound)
-        (wakes h.in_step.stands.ties s
+        (wakes h.in_step.stands.name_map s
         (served_of (Some task) body.parts.running c body s h.in_step.stands h.in_step.called refl
         (subst (λ r. IsSound r (told_in s.events) s.loop) (sym h.in_step.running) h.sound)));
     same =
@@ -288,7 +289,7 @@ module _ {X : Type 0} {a : Added X} (task on key : ℕ) (c : Setting a) (body : 
         ∙ ap (λ o. serves_until o (woken a.meaning task) task on key s) (sym (sym outcome_is ∙ is));
   }
 
-pub waits_may : {X : Type 0} {a : Added X} (task on key : ℕ) (body : Body X) → Possible a (HasAnswer task (Wait on key)) body
+pub waits_may : {X : Type 0} {a : Added X} (task on key : ℕ) (body : RunState X) → Possible a (HasAnswer task (Wait on key)) body
     → outcome_at (slice_get body.parts.futures on) ≡ None → is_pending_at (slice_get body.parts.futures on) ≡ true
 waits_may task on key body m none =
     ∥∥₁_elim m (hlevel props) (λ w.
@@ -296,7 +297,8 @@ waits_may task on key body m none =
     (λ h. waits_pending task on key w.0 body w.1.0 h none))
 
 -- After some asks this answer has come, from wherever it began.
-abbrev pub AreAnswered : {X W : Type 0} → (a : Added X) → Outside W → (task : ℕ) (first : Asked) (old : Body X) (was : W) (asked : Asked) (body : Body X)
+abbrev pub AreAnswered : {X W : Type 0} → (a : Added X) → Outside W
+    → (task : ℕ) (first : Asked) (old : RunState X) (was : W) (asked : Asked) (body : RunState X)
     (is : W) → Type 0
 AreAnswered a o task first old was asked body is =
     (had : List Exchange)
@@ -305,21 +307,21 @@ AreAnswered a o task first old was asked body is =
 
 -- ---- from a request, and from the wait of one
 -- it was asked, with this code
-abbrev pub Asks : {X : Type 0} → (a : Added X) → (task : ℕ) (body : Body X) (arguments : Value) (v : View) (x : X) (asked : Asked) (number : ℤ) → Type 0
+abbrev pub Asks : {X : Type 0} → (a : Added X) → (task : ℕ) (body : RunState X) (arguments : Value) (v : View) (x : X) (asked : Asked) (number : ℤ) → Type 0
 Asks a task body arguments v x asked number =
-    (t : Ties) (s : State a.Kept) (items : List Value) → as_list arguments ≡ Some items → IsServed a (Some task) t s body.extra body.parts
+    (t : NameMap) (s : State a.Kept) (items : List Value) → as_list arguments ≡ Some items → IsServed a (Some task) t s body.extra body.parts
     → SaysAs a t s body.parts v x asked (a.meaning.ask task number items s)
 
-module _ {X : Type 0} (a : Added X) (task : ℕ) (body : Body X) (code arguments : Value) (number : ℤ) (items : List Value)
+module _ {X : Type 0} (a : Added X) (task : ℕ) (body : RunState X) (code arguments : Value) (number : ℤ) (items : List Value)
     (is_code : as_int code ≡ Some number) (are_items : as_list arguments ≡ Some items) (v : View) (x : X) (asked : Asked)
     (asks : Asks a task body arguments v x asked number) where
-  asked_so : (c : Setting a) (s : State a.Kept) → IsGoing task c body s
+  asked_so : (c : Context a) (s : State a.Kept) → IsGoing task c body s
       → IsAnswering task asked (a.meaning.ask task number items s).answer c (record body { parts = v; extra = x })
       (called (a.meaning.ask task number items s).call s)
   asked_so c s h =
       let sound = h.sound.others.loop in
       answering_so task c body s h.in_step sound v x asked (a.meaning.ask task number items s) (a.allowed.ask task number items s sound)
-      (asks h.in_step.stands.ties s items are_items
+      (asks h.in_step.stands.name_map s items are_items
       (served_of (Some task) (Some task) c body s h.in_step.stands h.in_step.called h.in_step.running sound))
 
   pub asks_answer : Possible a (IsAskingFor task (request.Extra code arguments)) body → Possible a (HasAnswer task asked) (record body { parts = v; extra = x })
@@ -327,7 +329,7 @@ module _ {X : Type 0} (a : Added X) (task : ℕ) (body : Body X) (code arguments
       ∥∥₁_map m (λ w.
       (w.0, (called (a.meaning.ask task number items w.1.0).call w.1.0, ((a.meaning.ask task number items w.1.0).answer, asked_so w.0 w.1.0 w.1.1.going))))
 
-  pub asks_go : {W : Type 0} (o : Outside W) (new : Body X) (was is : W) (result : Result RequestReply Stop)
+  pub asks_go : {W : Type 0} (o : Outside W) (new : RunState X) (was is : W) (result : Result RequestReply Stop)
       → Comes o (answering a task asked (record body { parts = v; extra = x }) new) (ported was body.events) (ported is new.events) result
       → Comes o (serving a task (request.Extra code arguments) body new) (ported was body.events) (ported is new.events) result
   asks_go o new was is result answers =
@@ -346,34 +348,34 @@ module _ {X : Type 0} (a : Added X) (task : ℕ) (body : Body X) (code arguments
       )))
       answers
 
-module _ {X : Type 0} {a : Added X} (task key : ℕ) (body : Body X) (input : Input) (v : View) (x : X) (asked : Asked)
-    (wakes : (t : Ties) (s : State a.Kept) → IsServed a body.parts.running t s body.extra body.parts
+module _ {X : Type 0} {a : Added X} (task key : ℕ) (body : RunState X) (input : Input) (v : View) (x : X) (asked : Asked)
+    (wakes : (t : NameMap) (s : State a.Kept) → IsServed a body.parts.running t s body.extra body.parts
     → SaysAs a t s body.parts v x asked (a.meaning.wake key input s)) where
-  woken_so : (c : Setting a) (s : State a.Kept) → IsDeciding task (standing.Serving key) c body s
+  woken_so : (c : Context a) (s : State a.Kept) → IsDeciding task (resume_point.Serving key) c body s
       → IsAnswering task asked (a.meaning.wake key input s).answer c (record body { parts = v; extra = x })
       (called (a.meaning.wake key input s).call s)
   woken_so c s h =
       let sound = h.asked.others.loop in
       answering_so task c body s h.in_step sound v x asked (a.meaning.wake key input s) (a.allowed.wake task key input s sound)
-      (wakes h.in_step.stands.ties s
+      (wakes h.in_step.stands.name_map s
       (served_of (Some task) body.parts.running c body s h.in_step.stands h.in_step.called refl
       (subst (λ r. IsSound r (told_in s.events) s.loop) (sym h.in_step.running) sound)))
 
-  pub wakes_answer : Possible a (IsDeciding task (standing.Serving key)) body → Possible a (HasAnswer task asked) (record body { parts = v; extra = x })
+  pub wakes_answer : Possible a (IsDeciding task (resume_point.Serving key)) body → Possible a (HasAnswer task asked) (record body { parts = v; extra = x })
   wakes_answer m =
       ∥∥₁_map m (λ w.
       (w.0, (called (a.meaning.wake key input w.1.0).call w.1.0, ((a.meaning.wake key input w.1.0).answer, woken_so w.0 w.1.0 w.1.1))))
 
-  pub wakes_go : {W : Type 0} (o : Outside W) (new : Body X) (was is : W) (result : Result RequestReply Stop)
+  pub wakes_go : {W : Type 0} (o : Outside W) (new : RunState X) (was is : W) (result : Result RequestReply Stop)
       → Comes o (answering a task asked (record body { parts = v; extra = x }) new) (ported was body.events) (ported is new.events) result
       → Comes o (waking a task key input body new) (ported was body.events) (ported is new.events) result
   wakes_go o new was is result answers =
       comes_goes o (waking a task key input body new) [] (ported was body.events) (ported was body.events)
       (λ c at. IsAnswering task asked at.1 c (record body { parts = v; extra = x }) at.0) (λ at. answered a.meaning task at.1 at.0)
       (ported is new.events) result
-      (come_none o (λ c s. IsDeciding task (standing.Serving key) c body s) (ported was body.events) (ported was body.events)
+      (come_none o (λ c s. IsDeciding task (resume_point.Serving key) c body s) (ported was body.events) (ported was body.events)
       (λ c s. (at : State a.Kept × ExtraAnswer) × (IsAnswering task asked at.1 c (record body { parts = v; extra = x }) at.0
-      × (plain.decides a.meaning (standing.Serving key) task input s ≡ answered a.meaning task at.1 at.0))) refl
+      × (plain.decides a.meaning (resume_point.Serving key) task input s ≡ answered a.meaning task at.1 at.0))) refl
       (λ c s h. (
         told_none body.events.events,
         (
@@ -384,12 +386,12 @@ module _ {X : Type 0} {a : Added X} (task key : ℕ) (body : Body X) (input : In
       answers
 
 -- ---- one answer after another
-module _ {X W : Type 0} (a : Added X) (o : Outside W) (task : ℕ) (first : Asked) (old : Body X) (was : W) where
-  abbrev From : Setting a → State a.Kept × ExtraAnswer → Type 0
+module _ {X W : Type 0} (a : Added X) (o : Outside W) (task : ℕ) (first : Asked) (old : RunState X) (was : W) where
+  abbrev From : Context a → State a.Kept × ExtraAnswer → Type 0
   From c at = IsAnswering task first at.1 c old at.0
 
   -- another answer has come, from which the machine's reply is the same
-  abbrev Again_ : Asked → Body X → Setting a → State a.Kept × ExtraAnswer → Type 0
+  abbrev Again_ : Asked → RunState X → Context a → State a.Kept × ExtraAnswer → Type 0
   Again_ asked body c at = AnswersAgain task asked c body (answered a.meaning task at.1 at.0)
 
   pub on_first : AreAnswered a o task first old was first old was
@@ -399,7 +401,7 @@ module _ {X W : Type 0} (a : Added X) (o : Outside W) (task : ℕ) (first : Aske
         (λ c at h. (told_none old.events.events, record { now = at.0; it = at.1; answering = h; same = refl })),
   )
 
-  module _ (asked : Asked) (body : Body X) (mid : W) (are : AreAnswered a o task first old was asked body mid) where
+  module _ (asked : Asked) (body : RunState X) (mid : W) (are : AreAnswered a o task first old was asked body mid) where
     pub on_answer : Possible a (HasAnswer task first) old → Possible a (HasAnswer task asked) body
     on_answer m =
         ∥∥₁_map
@@ -407,7 +409,7 @@ module _ {X W : Type 0} (a : Added X) (o : Outside W) (task : ℕ) (first : Aske
         (ported was old.events) (ported mid body.events) (Again_ asked body) are.1 (∥∥₁_map m (λ w. (w.0, ((w.1.0, w.1.1.0), w.1.1.1)))))
         (λ w. (w.0, (w.1.1.now, (w.1.1.it, w.1.1.answering))))
 
-    pub on_starved : (new : Body X) → Comes o (answering a task first old new) (ported was old.events) (ported mid new.events) (Err stop.Memory)
+    pub on_starved : (new : RunState X) → Comes o (answering a task first old new) (ported was old.events) (ported mid new.events) (Err stop.Memory)
     on_starved new =
         comes_starved o (answering a task first old new) are.0 (ported was old.events) (ported mid body.events) (ported mid new.events) refl
         (record {
@@ -420,7 +422,7 @@ module _ {X W : Type 0} (a : Added X) (o : Outside W) (task : ℕ) (first : Aske
               );
         })
 
-    module _ (new : Body X) (is : W) where
+    module _ (new : RunState X) (is : W) where
       pub on_next : (next : Asked)
           → Comes o (answering_once a task asked body new) (ported mid body.events) (ported is new.events) (Ok (Again next))
           → AreAnswered a o task first old was next new is
@@ -459,11 +461,11 @@ module _ {X W : Type 0} (a : Added X) (o : Outside W) (task : ℕ) (first : Aske
           }) one
 
 -- ---- an answer by itself asks nothing
-module _ {X W : Type 0} (a : Added X) (o : Outside W) (task : ℕ) (asked : Asked) (old new : Body X) (wire : W)
+module _ {X W : Type 0} (a : Added X) (o : Outside W) (task : ℕ) (asked : Asked) (old new : RunState X) (wire : W)
     (same : new.events ≡ old.events) where
   abbrev Answers_ : Answered → Type 0
   Answers_ told =
-      (c : Setting a) (s : State a.Kept) (it : ExtraAnswer) → IsAnswering task asked it c old s → AnswersAs task c new told (answered a.meaning task it s)
+      (c : Context a) (s : State a.Kept) (it : ExtraAnswer) → IsAnswering task asked it c old s → AnswersAs task c new told (answered a.meaning task it s)
 
   told_same : AreTold [] All old.events.events new.events.events
   told_same = subst (λ (l : EventList). AreTold [] All old.events.events l.events) (sym same) (told_none old.events.events)
@@ -476,9 +478,9 @@ module _ {X W : Type 0} (a : Added X) (o : Outside W) (task : ℕ) (asked : Aske
       (IfOk-weaker result _ _ (λ told are c at h. (told_same, are c at.0 at.1 h)) answers)
 
 -- what lacks memory
-module _ {X W : Type 0} (a : Added X) (o : Outside W) (task key : ℕ) (input : Input) (old : Body X) (wire : W) where
-  pub wakes_without : (new : Body X)
+module _ {X W : Type 0} (a : Added X) (o : Outside W) (task key : ℕ) (input : Input) (old : RunState X) (wire : W) where
+  pub wakes_without : (new : RunState X)
       → Comes o (waking a task key input old new) (ported wire old.events) (ported wire new.events) (Err stop.Memory)
   wakes_without new =
       comes_without o (waking a task key input old new) (ported wire old.events) (ported wire new.events)
-      (λ c s h. decides_begins a.meaning task (c.past ++ old.events.events) s h.in_step.stands.events (standing.Serving key) input) refl
+      (λ c s h. decides_begins a.meaning task (c.past ++ old.events.events) s h.in_step.stands.events (resume_point.Serving key) input) refl

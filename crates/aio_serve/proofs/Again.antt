@@ -5,14 +5,14 @@ use Rattle.model_machine.specs.Extra as extra
 use Rattle.model_machine.specs.Extra.{ExtraAnswer}
 use Rattle.model_machine.specs.State.{State}
 use Rattle.law_runs.specs.Allowed.{IsAnswerAllowed}
-use Rattle.aio_task.specs.Keeps.{Ties}
+use Rattle.aio_task.specs.Keeps.{NameMap}
 use Rattle.aio_extra.specs.Added.{Added}
 use Rattle.aio_extra.specs.Called as called
 use Rattle.aio_extra.specs.declared.asked.Asked.{Asked}
 use Rattle.aio_extra.specs.declared.asked.Asked.TheVariants as variants
 use Rattle.aio_extra.specs.declared.asked.Asked.TheVariants.{Answer, Raise, Wait}
-use Rattle.aio_body.specs.declared.body.Body.{Body}
-use Rattle.aio_body.specs.Stands.{Setting}
+use Rattle.aio_body.specs.declared.run_state.RunState.{RunState}
+use Rattle.aio_body.specs.Stands.{Context}
 use Rattle.aio_body.proofs.Answering.{in_step_again}
 use Rattle.aio_body.specs.Answers.{with_answers, with_rest}
 use Rattle.aio_serve.specs.Adding.{IsAnswering}
@@ -25,7 +25,7 @@ allowed_again answers (extra.Waits on key) s h = h
 allowed_again answers (extra.Asks code bytes key) s h = h
 
 module _ {X : Type 0} (a : Added X) (answers : List Entry) where
-  answers_again : (t : Ties) (s : State a.Kept) (asked : Asked) (it : ExtraAnswer) → called.AnswersAs a t s asked it
+  answers_again : (t : NameMap) (s : State a.Kept) (asked : Asked) (it : ExtraAnswer) → called.AnswersAs a t s asked it
       → called.AnswersAs a t (with_answers answers s) asked it
   answers_again t s (Answer value) (extra.Answers said) h = h
   answers_again t s (Answer value) (extra.Raises fault) h = absurd h
@@ -44,11 +44,11 @@ module _ {X : Type 0} (a : Added X) (answers : List Entry) where
   answers_again t s (variants.Outside code bytes key) (extra.Raises fault) h = absurd h
   answers_again t s (variants.Outside code bytes key) (extra.Waits on kept) h = absurd h
 
-  pub answering_again : (task : ℕ) (asked : Asked) (it : ExtraAnswer) (c : Setting a) (body : Body X) (s : State a.Kept)
+  pub answering_again : (task : ℕ) (asked : Asked) (it : ExtraAnswer) (c : Context a) (body : RunState X) (s : State a.Kept)
       → IsAnswering task asked it c body s → IsAnswering task asked it (with_rest answers c) body (with_answers answers s)
   answering_again task asked it c body s h = record {
     in_step = in_step_again answers c body s task h.in_step;
     sound = h.sound;
-    answers = answers_again h.in_step.stands.ties s asked it h.answers;
+    answers = answers_again h.in_step.stands.name_map s asked it h.answers;
     allowed = allowed_again answers it s h.allowed;
   }

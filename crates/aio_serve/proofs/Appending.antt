@@ -12,7 +12,7 @@ use Rattle.refine_parts.proofs.Lists.{all-append, all_more}
 use Rattle.refine_parts.proofs.Running.{count_early}
 use Rattle.refine_parts.proofs.Only.{OnlyAppends}
 use Rattle.aio_task.specs.View.{View}
-use Rattle.aio_task.specs.Keeps.{Ties, Keeps}
+use Rattle.aio_task.specs.Keeps.{NameMap, Keeps}
 
 -- what came is stamped as it came
 pub record Appends (p q : Parts) : Type 0 where
@@ -80,7 +80,7 @@ count_past bar (h ∷ hs) late a =
     let more = count_past bar hs late a in
     omega (arith, c, d, more)
 
-pub below_kept : (t u : Ties) (v w : View) (p q : Parts) → Keeps t v p → Keeps u w q → u.bar ≡ t.bar → Appends p q
+pub below_kept : (t u : NameMap) (v w : View) (p q : Parts) → Keeps t v p → Keeps u w q → u.bar ≡ t.bar → Appends p q
     → length w.queue.below ≡ length v.queue.below
 below_kept t u v w p q k n same a =
     let given = k.handles.bar_given in

@@ -8,7 +8,7 @@ use Rattle.model_value.specs.Number.{most}
 use Rattle.model_value.specs.Value.{Exc, Value}
 use Rattle.model_value.specs.declared.action.Action.TheVariants.{GroupDone}
 use Rattle.model_loop.specs.Futures.{is_pending, is_pending_at, next_future, register, registered, registered_on}
-use Rattle.model_loop.specs.Groups.{Refusal, NotEntered, IsFinished, IsShuttingDown, create, create_unless, group_of, refusal, refusal_fault, with_child}
+use Rattle.model_loop.specs.Groups.{Refusal, NotEntered, IsFinished, IsShuttingDown, create, create_unless, group_of, refusal, refusal_exception, with_child}
 use Rattle.model_loop.specs.Loop.{Loop}
 use Rattle.model_loop.specs.Parts.{Future, Parts, Task}
 use Rattle.model_loop.specs.Tasks.{future_of, lives, next_task, spawn, waiter_of}
@@ -31,9 +31,9 @@ use Rattle.aio_task.specs.View.{View}
 use Rattle.aio_extra.specs.Added.{Added}
 use Rattle.aio_body.specs.Asked.{IsGoing, IsInStep, Says}
 use Rattle.aio_body.specs.Slots.{HoldsMore}
-use Rattle.aio_body.specs.Stands.{Setting, Stands, WaitsAs}
+use Rattle.aio_body.specs.Stands.{Context, Stands, WaitsAs}
 use Rattle.aio_flat.specs.Code.{IsCodeOf}
-use Rattle.aio_body.specs.declared.body.Body.{Body}
+use Rattle.aio_body.specs.declared.run_state.RunState.{RunState}
 use Rattle.aio_body.specs.declared.reply.RequestReply.{RequestReply}
 use Rattle.aio_body.specs.declared.reply.RequestReply.TheVariants.{Answers, Raises}
 use Rattle.aio_body.proofs.Leaving.{IsNew, Leaves}
@@ -133,24 +133,24 @@ refused_is (Some NotEntered) task = refl
 refused_is (Some IsFinished) task = refl
 refused_is (Some IsShuttingDown) task = refl
 
-module _ {X : Type 0} {a : Added X} (task id coroutine : ℕ) (arguments : List Value) (c : Setting a) (old mid : Body X) (s : State a.Kept)
+module _ {X : Type 0} {a : Added X} (task id coroutine : ℕ) (arguments : List Value) (c : Context a) (old mid : RunState X) (s : State a.Kept)
     (h : IsGoing task c old s)
-    (moves : Moves old.parts mid.parts) (beside : mid ≡ record old { parts = mid.parts; groups = mid.groups })
-    (came : Came h.in_step.stands.ties s.loop mid.groups mid.parts (create id s.loop)) where
+    (moves : Moves old.parts mid.parts) (frame : mid ≡ record old { parts = mid.parts; groups = mid.groups })
+    (came : Came h.in_step.stands.name_map s.loop mid.groups mid.parts (create id s.loop)) where
   called_is : mid.parts.called ≡ None
-  called_is = ap (λ (v : View). v.called) moves.beside ∙ h.in_step.called
+  called_is = ap (λ (v : View). v.called) moves.frame ∙ h.in_step.called
 
   running_is : mid.parts.running ≡ Some task
-  running_is = ap (λ (v : View). v.running) moves.beside ∙ h.in_step.running
+  running_is = ap (λ (v : View). v.running) moves.frame ∙ h.in_step.running
 
   profile_is : mid.parts.profile ≡ old.parts.profile
-  profile_is = ap (λ (v : View). v.profile) moves.beside
+  profile_is = ap (λ (v : View). v.profile) moves.frame
 
   -- nothing changed
   refused_stands : (cause : Refusal) → refusal (group_of s.loop id) ≡ Some cause → IsInStep task c mid s
   refused_stands cause r = record {
     stands =
-        subst (λ b. Stands (Some task) c b s) (sym beside)
+        subst (λ b. Stands (Some task) c b s) (sym frame)
         (subst (λ (l : Loop). Stands (Some task) c (record old { parts = mid.parts; groups = mid.groups }) (record s { loop = l })) same
         (stands_stepped (Some task) c old s mid.parts mid.groups (create id) h.in_step.stands came
         (subst (λ l. StepLeaves s.loop l) (sym same) (step_same s.loop s.loop refl refl)) profile_is));
@@ -161,29 +161,30 @@ module _ {X : Type 0} {a : Added X} (task id coroutine : ℕ) (arguments : List 
       same : create id s.loop ≡ s.loop
       same = ap (λ o. create_unless o id s.loop) r
 
-  made_stands : (new : Body X) → refusal (group_of s.loop id) ≡ None → HoldsMore coroutine arguments mid new → length old.slots.items + 1 < 2 ^ 32
+  made_stands : (new : RunState X) → refusal (group_of s.loop id) ≡ None → HoldsMore coroutine arguments mid new → length old.slots.items + 1 < 2 ^ 32
       → IsInStep task c new (with_coroutine coroutine arguments (in_loop (create id) s))
   made_stands new r holds few = record {
     stands =
         subst (λ b. Stands (Some task) c b (with_coroutine coroutine arguments (in_loop (create id) s))) (sym whole)
         (stands_made (Some task) c old (record old { slots = new.slots }) s mid.parts mid.groups (create id) coroutine arguments h.in_step.stands
         (kept_of came) (subst (λ (l : Loop). LeavesMore p l.parts) (sym same) (child_leaves id p made))
-        (blocks_came h.in_step.stands.ties old.timeouts old.groups mid.groups mid.parts s.loop (create id s.loop) came
+        (blocks_came h.in_step.stands.name_map old.timeouts old.groups mid.groups mid.parts s.loop (create id s.loop) came
         (ap (λ (l : Loop). l.timeouts) same) h.in_step.stands.blocks)
-        (below_kept h.in_step.stands.ties came.ties old.parts mid.parts p (create id s.loop).parts h.in_step.stands.keeps came.stands.keeps came.extends.bar
+        (below_kept h.in_step.stands.name_map came.name_map old.parts mid.parts p (create id s.loop).parts h.in_step.stands.keeps came.stands.keeps
+        came.extends.bar
         (subst (λ (l : Loop). Appends p l.parts) (sym same) (child_appends id p)))
         (record {
           slot = holds.slot;
-          beside = refl;
-          slots = holds.slots ∙ ap (λ (b : Body X). b.slots.items ++ holds.slot ∷ []) beside;
-          standing = holds.standing;
+          frame = refl;
+          slots = holds.slots ∙ ap (λ (b : RunState X). b.slots.items ++ holds.slot ∷ []) frame;
+          resume_point = holds.resume_point;
           waits = λ program code.
-              subst (λ (b : Body X). WaitsAs program b.code (generator coroutine arguments) holds.slot.coroutine) beside
-              (holds.waits program (subst (λ (b : Body X). IsCodeOf program b.code) (sym beside) code));
+              subst (λ (b : RunState X). WaitsAs program b.code (generator coroutine arguments) holds.slot.coroutine) frame
+              (holds.waits program (subst (λ (b : RunState X). IsCodeOf program b.code) (sym frame) code));
         })
         few profile_is (runs_no_other task (next_task p) (λ e. let within = within_going task c old s h in omega (arith, within, e))));
-    called = ap (λ (b : Body X). b.parts.called) holds.beside ∙ called_is;
-    running = ap (λ (b : Body X). b.parts.running) holds.beside ∙ running_is;
+    called = ap (λ (b : RunState X). b.parts.called) holds.frame ∙ called_is;
+    running = ap (λ (b : RunState X). b.parts.running) holds.frame ∙ running_is;
   }
     where
       p : Parts
@@ -196,34 +197,34 @@ module _ {X : Type 0} {a : Added X} (task id coroutine : ℕ) (arguments : List 
       same = ap (λ o. create_unless o id s.loop) r
 
       whole : new ≡ record old { slots = new.slots; parts = mid.parts; groups = mid.groups }
-      whole = holds.beside ∙ ap (λ (b : Body X). record b { slots = new.slots }) beside
+      whole = holds.frame ∙ ap (λ (b : RunState X). record b { slots = new.slots }) frame
 
   -- what the call answered tells which
-  fault_of : option_map refusal_fault (refusal_in (created_of (refusal (group_of s.loop id)) (next_task s.loop.parts)))
-      ≡ option_map refusal_fault (refusal (group_of s.loop id))
-  fault_of = ap (option_map refusal_fault) (refused_is (refusal (group_of s.loop id)) (next_task s.loop.parts))
+  fault_of : option_map refusal_exception (refusal_in (created_of (refusal (group_of s.loop id)) (next_task s.loop.parts)))
+      ≡ option_map refusal_exception (refusal (group_of s.loop id))
+  fault_of = ap (option_map refusal_exception) (refused_is (refusal (group_of s.loop id)) (next_task s.loop.parts))
 
   pub refuses_so : (answer : Created) (fault : Exc) (said : RequestReply) → answer ≡ created_of (refusal (group_of s.loop id)) (next_task s.loop.parts)
-      → Some fault ≡ option_map refusal_fault (refusal_in answer) → said ≡ Raises fault → Says task c mid said (creates id coroutine arguments s)
+      → Some fault ≡ option_map refusal_exception (refusal_in answer) → said ≡ Raises fault → Says task c mid said (creates id coroutine arguments s)
   refuses_so answer fault said is e says =
-      at (refusal (group_of s.loop id)) refl (e ∙ ap (λ a. option_map refusal_fault (refusal_in a)) is ∙ fault_of)
+      at (refusal (group_of s.loop id)) refl (e ∙ ap (λ a. option_map refusal_exception (refusal_in a)) is ∙ fault_of)
     where
-      at : (o : Option Refusal) → refusal (group_of s.loop id) ≡ o → Some fault ≡ option_map refusal_fault o
+      at : (o : Option Refusal) → refusal (group_of s.loop id) ≡ o → Some fault ≡ option_map refusal_exception o
           → Says task c mid said (creates id coroutine arguments s)
       at None r f = absurd (cc)
       at (Some cause) r f =
-          let same : fault ≡ refusal_fault cause = cc in
-          raises_so task c mid s said (creates id coroutine arguments s) (refusal_fault cause) (says ∙ ap Raises same)
+          let same : fault ≡ refusal_exception cause = cc in
+          raises_so task c mid s said (creates id coroutine arguments s) (refusal_exception cause) (says ∙ ap Raises same)
           (ap (λ o. creates_unless o id coroutine arguments s) r) (refused_stands cause r)
 
-  pub creates_so : (answer : Created) (new : Body X) (said : RequestReply) → answer ≡ created_of (refusal (group_of s.loop id)) (next_task s.loop.parts)
-      → None ≡ option_map refusal_fault (refusal_in answer) → said ≡ Answers (values.Task (next_task s.loop.parts))
+  pub creates_so : (answer : Created) (new : RunState X) (said : RequestReply) → answer ≡ created_of (refusal (group_of s.loop id)) (next_task s.loop.parts)
+      → None ≡ option_map refusal_exception (refusal_in answer) → said ≡ Answers (values.Task (next_task s.loop.parts))
       → HoldsMore coroutine arguments mid new → length old.slots.items + 1 < 2 ^ 32
       → Says task c new said (creates id coroutine arguments s)
   creates_so answer new said is e says holds few =
-      at (refusal (group_of s.loop id)) refl (e ∙ ap (λ a. option_map refusal_fault (refusal_in a)) is ∙ fault_of)
+      at (refusal (group_of s.loop id)) refl (e ∙ ap (λ a. option_map refusal_exception (refusal_in a)) is ∙ fault_of)
     where
-      at : (o : Option Refusal) → refusal (group_of s.loop id) ≡ o → None ≡ option_map refusal_fault o
+      at : (o : Option Refusal) → refusal (group_of s.loop id) ≡ o → None ≡ option_map refusal_exception o
           → Says task c new said (creates id coroutine arguments s)
       at (Some cause) r f = absurd (cc)
       at None r f =

@@ -10,12 +10,12 @@ use Rattle.model_loop.specs.Parts.{Plain, Parts}
 use Rattle.model_loop.specs.Suspend.{suspend}
 use Rattle.model_loop.specs.Tasks.{next_task}
 use Rattle.model_machine.specs.Replies.{exits_as, exits_group, waits}
-use Rattle.model_machine.specs.State as standing
+use Rattle.model_machine.specs.State as resume_point
 use Rattle.model_machine.specs.State.{State, stands, with_loop}
 use Rattle.law_cancel.proofs.Lookups.{get-push_last}
 use Rattle.law_steps.proofs.CancelSound.{plain_within}
 use Rattle.aio_task.specs.View.{View}
-use Rattle.aio_task.specs.Keeps.{Ties}
+use Rattle.aio_task.specs.Keeps.{NameMap}
 use Rattle.aio_group.specs.Held.{Held}
 use Rattle.refine_parts.proofs.Telling.{pending_kept}
 use Rattle.aio_group.specs.declared.exit.GroupExit.{GroupExit}
@@ -25,12 +25,12 @@ use Rattle.aio_group.specs.GoesOn.{Moves}
 use Rattle.aio_group.specs.Stands.{Came}
 use Rattle.aio_group.proofs.Standing.{then_extends}
 use Rattle.aio_extra.specs.Added.{Added, named_in}
-use Rattle.aio_body.specs.declared.body.Body.{Body}
+use Rattle.aio_body.specs.declared.run_state.RunState.{RunState}
 use Rattle.aio_body.specs.declared.reply.RequestReply.{RequestReply}
-use Rattle.aio_body.specs.declared.standing.Standing.TheVariants.{Leaving}
-use Rattle.aio_body.specs.Asked.{HasRested, IsInStep, Says}
-use Rattle.aio_body.specs.Slots.{standing_at}
-use Rattle.aio_body.specs.Stands.{Setting, Stands}
+use Rattle.aio_body.specs.declared.resume_point.ResumePoint.TheVariants.{Leaving}
+use Rattle.aio_body.specs.Asked.{HasSuspended, IsInStep, Says}
+use Rattle.aio_body.specs.Slots.{resume_point_at}
+use Rattle.aio_body.specs.Stands.{Context, Stands}
 use Rattle.aio_serve.proofs.Appending.{below_kept}
 use Rattle.aio_body.proofs.Blocks.{blocks_on}
 use Rattle.aio_body.proofs.Left.{leaves_suspend}
@@ -39,7 +39,7 @@ use Rattle.aio_serve.proofs.GroupsOn.{StepLeaves, begun_leaves, heard_leaves, bl
 use Rattle.aio_body.proofs.Lasting.{Spares}
 use Rattle.aio_body.proofs.Leaving.{leaves_on}
 use Rattle.aio_body.proofs.Rooms.{below_appended}
-use Rattle.aio_body.proofs.Slotting.{stands_standing}
+use Rattle.aio_body.proofs.Slotting.{stands_resume_point}
 use Rattle.aio_serve.specs.GoneOn.{GoneOn, WaitsAtExit}
 
 -- ---- what an exit waits for
@@ -87,25 +87,25 @@ woken_freshly input id l =
     (heard_leaves input id l).parts.goes_on.futures
 
 -- and so it is in code
-pub exit_pends : (t : Ties) (l : Loop) (groups : List Held) (v : View) (exited : Exited) (came : Came t l groups v exited.loop) → WaitsFreshly l exited
+pub exit_pends : (t : NameMap) (l : Loop) (groups : List Held) (v : View) (exited : Exited) (came : Came t l groups v exited.loop) → WaitsFreshly l exited
     → (said : GroupExit) (future : ℕ) → exit_of said ≡ exited.answer → said ≡ exit.Waits future → is_pending_at (slice_get v.futures future) ≡ true
 exit_pends t l groups v exited came fresh said future answer is =
-    pending_kept came.ties v exited.loop.parts came.stands.keeps future ∙ fresh.pends future (sym answer ∙ ap exit_of is)
+    pending_kept came.name_map v exited.loop.parts came.stands.keeps future ∙ fresh.pends future (sym answer ∙ ap exit_of is)
 
 -- ---- what it makes of the step
-module _ {X : Type 0} {a : Added X} (task group : ℕ) (c : Setting a) (old mid new : Body X) (s : State a.Kept) (exited : Exited) (h : IsInStep task c old s)
+module _ {X : Type 0} {a : Added X} (task group : ℕ) (c : Context a) (old mid new : RunState X) (s : State a.Kept) (exited : Exited) (h : IsInStep task c old s)
     (within : task < next_task s.loop.parts) (moves : Moves old.parts mid.parts)
-    (beside : mid ≡ record old { parts = mid.parts; groups = mid.groups })
-    (came : Came h.stands.ties s.loop mid.groups mid.parts exited.loop) (leaves : StepLeaves s.loop exited.loop)
+    (frame : mid ≡ record old { parts = mid.parts; groups = mid.groups })
+    (came : Came h.stands.name_map s.loop mid.groups mid.parts exited.loop) (leaves : StepLeaves s.loop exited.loop)
     (fresh : WaitsFreshly s.loop exited) where
   pub gone_stands : IsInStep task c mid (with_loop exited.loop s)
   gone_stands = record {
     stands =
-        subst (λ b. Stands (Some task) c b (with_loop exited.loop s)) (sym beside)
+        subst (λ b. Stands (Some task) c b (with_loop exited.loop s)) (sym frame)
         (stands_stepped (Some task) c old s mid.parts mid.groups (λ _. exited.loop) h.stands came leaves
-        (ap (λ (v : View). v.profile) moves.beside));
-    called = ap (λ (v : View). v.called) moves.beside ∙ h.called;
-    running = ap (λ (v : View). v.running) moves.beside ∙ h.running;
+        (ap (λ (v : View). v.profile) moves.frame));
+    called = ap (λ (v : View). v.called) moves.frame ∙ h.called;
+    running = ap (λ (v : View). v.running) moves.frame ∙ h.running;
   }
 
   spares : (future : ℕ) → next_future s.loop.parts ≤ future → Spares (Some (task, future)) s.loop.parts (named_in a s)
@@ -120,7 +120,7 @@ module _ {X : Type 0} {a : Added X} (task group : ℕ) (c : Setting a) (old mid 
   suspended future later is =
       let first = kept_of came in
       let second =
-      kept_suspend came.ties mid.parts new.parts exited.loop.parts came.stands.keeps task future (record {
+      kept_suspend came.name_map mid.parts new.parts exited.loop.parts came.stands.keeps task future (record {
         parts = is.after;
         queue = is.queue;
         time = ap (λ (v : View). v.time) is.parts;
@@ -130,28 +130,29 @@ module _ {X : Type 0} {a : Added X} (task group : ℕ) (c : Setting a) (old mid 
       let q = (suspend task future exited.loop.parts).parts in
       stands_blocks (Some (task, future)) (Some task) c old s new.parts mid.groups (λ _. book (suspend task future) exited.loop) h.stands
       (record {
-        ties = second.ties;
+        name_map = second.name_map;
         keeps = second.keeps;
-        extends = then_extends h.stands.ties came.ties second.ties s.loop.parts exited.loop.parts q came.extends second.extends;
+        extends = then_extends h.stands.name_map came.name_map second.name_map s.loop.parts exited.loop.parts q came.extends second.extends;
       })
       (leaves_on (Some (task, future)) s.loop.parts exited.loop.parts q leaves.parts on) (spares future later)
-      (blocks_on came.ties second.ties old.timeouts mid.groups exited.loop (book (suspend task future) exited.loop) second.extends on.goes_on refl refl
-      (blocks_came h.stands.ties old.timeouts old.groups mid.groups mid.parts s.loop exited.loop came leaves.timeouts h.stands.blocks))
+      (blocks_on came.name_map second.name_map old.timeouts mid.groups exited.loop (book (suspend task future) exited.loop) second.extends on.goes_on refl refl
+      (blocks_came h.stands.name_map old.timeouts old.groups mid.groups mid.parts s.loop exited.loop came leaves.timeouts h.stands.blocks))
       (below_appended mid.parts.queue new.parts.queue is.queue
-      ∙ below_kept h.stands.ties came.ties old.parts mid.parts s.loop.parts exited.loop.parts h.stands.keeps came.stands.keeps came.extends.bar leaves.handles)
-      (ap (λ (v : View). v.profile) is.parts ∙ ap (λ (v : View). v.profile) moves.beside)
+      ∙ below_kept h.stands.name_map came.name_map old.parts mid.parts s.loop.parts exited.loop.parts h.stands.keeps came.stands.keeps came.extends.bar
+      leaves.handles)
+      (ap (λ (v : View). v.profile) is.parts ∙ ap (λ (v : View). v.profile) moves.frame)
 
   waits_at_exit : (future : ℕ) → next_future s.loop.parts ≤ future → WaitsAtExit task group future mid new
-      → HasRested task c new (stands (standing.Leaving group) task (waits task future (with_loop exited.loop s)))
+      → HasSuspended task c new (stands (resume_point.Leaving group) task (waits task future (with_loop exited.loop s)))
   waits_at_exit future later is =
       let tasks = leaves.parts.tasks in
       let suspends = (leaves_suspend task future exited.loop.parts).tasks in
       record {
         stands =
-            stands_standing c (record old { parts = new.parts; groups = mid.groups }) new (waits task future (with_loop exited.loop s)) task (Leaving group)
-            (standing.Leaving group) (suspended future later is) refl
-            (is.beside ∙ ap (λ (b : Body X). record b { parts = new.parts; slots = new.slots }) beside)
-            (is.slots ∙ ap (λ (b : Body X). standing_at task (Leaving group) b.slots.items) beside) (omega (arith, within, tasks, suspends));
+            stands_resume_point c (record old { parts = new.parts; groups = mid.groups }) new (waits task future (with_loop exited.loop s)) task (Leaving group)
+            (resume_point.Leaving group) (suspended future later is) refl
+            (is.frame ∙ ap (λ (b : RunState X). record b { parts = new.parts; slots = new.slots }) frame)
+            (is.slots ∙ ap (λ (b : RunState X). resume_point_at task (Leaving group) b.slots.items) frame) (omega (arith, within, tasks, suspends));
         called = ap (λ (v : View). v.called) is.parts ∙ gone_stands.called;
         running = ap (λ (v : View). v.running) is.parts;
       }

@@ -26,14 +26,14 @@ use Rattle.law_steps.proofs.CancelSound.{plain_within}
 use Rattle.law_replies.specs.InStep.{IsStepSound}
 use Rattle.law_replies.proofs.Replying.{fits_in}
 use Rattle.aio_task.specs.View.{View}
-use Rattle.aio_task.specs.Keeps.{Ties}
+use Rattle.aio_task.specs.Keeps.{NameMap}
 use Rattle.aio_group.proofs.Listing.{all_to, index_at, index_past}
 use Rattle.aio_group.proofs.Standing.{there}
 use Rattle.aio_group.specs.Held.{Held, held_at, new_held, shown}
 use Rattle.aio_group.specs.Stands.{AllBelong, Belongs, IsLive, IsOwn, KeepsAt, StandForGroups, bare}
 use Rattle.aio_extra.specs.Added.{Added}
-use Rattle.aio_body.specs.declared.body.Body.{Body}
-use Rattle.aio_body.specs.Stands.{Setting, Stands}
+use Rattle.aio_body.specs.declared.run_state.RunState.{RunState}
+use Rattle.aio_body.specs.Stands.{Context, Stands}
 use Rattle.refine_parts.proofs.Telling.{next_kept, owner_kept}
 use Rattle.aio_serve.proofs.GroupsOn.{groups_stand}
 
@@ -59,7 +59,7 @@ all_belong_prop v groups = hlevel (belongs_prop v)
 
 -- ---- a group in code is the machine's
 -- also one that isn't there
-pub shown_is : (t : Ties) (v : View) (p : Parts) (groups : List Held) (l : Loop) (id : ℕ) → StandForGroups t groups v p l.groups
+pub shown_is : (t : NameMap) (v : View) (p : Parts) (groups : List Held) (l : Loop) (id : ℕ) → StandForGroups t groups v p l.groups
     → shown (held_at groups id) ≡ bare (group_of l id)
 shown_is t v p groups l id s = at (slice_get groups id) (slice_get l.groups id) refl refl (s.each id)
   where
@@ -72,7 +72,7 @@ shown_is t v p groups l id s = at (slice_get groups id) (slice_get l.groups id) 
     at (Some held) None e d is = absurd is
 
 -- as many
-pub same_many : (t : Ties) (p : Parts) (groups : List Held) (plain : List Group)
+pub same_many : (t : NameMap) (p : Parts) (groups : List Held) (plain : List Group)
     → ((id : ℕ) → KeepsAt t p (slice_get groups id) (slice_get plain id)) → length groups ≡ length plain
 same_many t p [] [] each = refl
 same_many t p [] (y ∷ plain) each = absurd (each zero)
@@ -81,19 +81,19 @@ same_many t p (x ∷ groups) (y ∷ plain) each = ap suc (same_many t p groups p
 
 module _ {X : Type 0} {a : Added X} where
   -- what groups keep belongs to the parts, where exits wait for plain futures
-  pub all_belong : (out : Option ℕ) (c : Setting a) (body : Body X) (s : State a.Kept) → Stands out c body s
+  pub all_belong : (out : Option ℕ) (c : Context a) (body : RunState X) (s : State a.Kept) → Stands out c body s
       → ((id : ℕ) → HasPlainExit s.loop.parts (group_of s.loop id)) → AllBelong body.parts body.groups
   all_belong out c body s h plain id held e =
-      let it = there h.ties body.groups body.parts s.loop id held e (groups_stand out c body s h) in
+      let it = there h.name_map body.groups body.parts s.loop id held e (groups_stand out c body s h) in
       record {
         children =
-            all_to (IsLive h.ties s.loop.parts) (λ task. task < length body.parts.tasks) held.children
+            all_to (IsLive h.name_map s.loop.parts) (λ task. task < length body.parts.tasks) held.children
             (λ task live. subst (λ (n : ℕ). task < n) (sym (ap length h.keeps.tasks)) live.made) it.is.children;
         exit = λ future x.
             let waits : (group_of s.loop id).exit_future ≡ Some future = sym (ap (λ (g : Group). g.exit_future) it.is.same) ∙ x in
             let is = plain_within s.loop.parts future (plain id future waits) in (
-              subst (λ (n : ℕ). future < n) (sym (next_kept h.ties body.parts s.loop.parts h.keeps)) is.1,
-              owner_kept h.ties body.parts s.loop.parts h.keeps future is.0,
+              subst (λ (n : ℕ). future < n) (sym (next_kept h.name_map body.parts s.loop.parts h.keeps)) is.1,
+              owner_kept h.name_map body.parts s.loop.parts h.keeps future is.0,
             );
       }
 

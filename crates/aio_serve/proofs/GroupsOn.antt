@@ -21,14 +21,14 @@ use Rattle.model_machine.specs.State.{State, in_loop}
 use Rattle.refine_parts.proofs.Only.{only_cancel, only_settle, changes_make, changes_task, appends}
 use Rattle.law_steps.proofs.CancelSound.{plain_within}
 use Rattle.aio_task.specs.View.{View}
-use Rattle.aio_task.specs.Keeps.{Ties, Kept}
+use Rattle.aio_task.specs.Keeps.{NameMap, Kept}
 use Rattle.aio_timeout.proofs.Keeping.{timeouts_stay}
 use Rattle.aio_timeout.specs.Kept.{AreTimeouts}
 use Rattle.aio_group.specs.Held.{Held}
 use Rattle.aio_group.specs.Stands.{Came, StandForGroups}
 use Rattle.aio_extra.specs.Added.{Added, named_in}
-use Rattle.aio_body.specs.declared.body.Body.{Body}
-use Rattle.aio_body.specs.Stands.{AreBlocks, Setting, Stands}
+use Rattle.aio_body.specs.declared.run_state.RunState.{RunState}
+use Rattle.aio_body.specs.Stands.{AreBlocks, Context, Stands}
 use Rattle.aio_serve.proofs.Appending.{Appends, appends_same, appends_on, appends_only, below_kept}
 use Rattle.aio_body.proofs.Left.{AreOwnMade, leaves_plain, leaves_request, leaves_settle, leaves_uncancel}
 use Rattle.aio_body.proofs.Lasting.{Spares, spares_none, stands_kept}
@@ -233,39 +233,39 @@ exit_woken_leaves input id l made =
 module _ {X : Type 0} {a : Added X} where
   -- ---- what is stood for goes on
   -- An operation after which timeouts and groups stand for the machine's, by whatever the code made of them.
-  pub stands_blocks : (new : Option (ℕ × ℕ)) (out : Option ℕ) (c : Setting a) (old : Body X) (s : State a.Kept) (v : View) (groups : List Held)
-      (change : Loop → Loop) → (h : Stands out c old s) → (kept : Kept h.ties s.loop.parts v (change s.loop).parts)
+  pub stands_blocks : (new : Option (ℕ × ℕ)) (out : Option ℕ) (c : Context a) (old : RunState X) (s : State a.Kept) (v : View) (groups : List Held)
+      (change : Loop → Loop) → (h : Stands out c old s) → (kept : Kept h.name_map s.loop.parts v (change s.loop).parts)
       → Leaves new s.loop.parts (change s.loop).parts → Spares new s.loop.parts (named_in a s)
-      → AreBlocks kept.ties old.timeouts groups (change s.loop) → length v.queue.below ≡ length old.parts.queue.below
+      → AreBlocks kept.name_map old.timeouts groups (change s.loop) → length v.queue.below ≡ length old.parts.queue.below
       → v.profile ≡ old.parts.profile → Stands out c (record old { parts = v; groups = groups }) (in_loop change s)
   stands_blocks new out c old s v groups change h kept leaves spares blocks below profile =
       stands_kept new out c old s v old.timeouts groups (change s.loop) c.left h kept leaves spares blocks (below ∙ h.left) profile
 
   -- groups and parts of a body stand for its loop
-  pub groups_stand : (out : Option ℕ) (c : Setting a) (body : Body X) (s : State a.Kept) → (h : Stands out c body s)
-      → StandForGroups h.ties body.groups body.parts s.loop.parts s.loop.groups
+  pub groups_stand : (out : Option ℕ) (c : Context a) (body : RunState X) (s : State a.Kept) → (h : Stands out c body s)
+      → StandForGroups h.name_map body.groups body.parts s.loop.parts s.loop.groups
   groups_stand out c body s h = record { keeps = h.keeps; each = h.blocks.groups }
 
 -- the timeouts stay where tags are known as before
-pub blocks_came : (t : Ties) (timeouts : List _) (groups others : List Held) (v : View) (l m : Loop) → (came : Came t l others v m)
-    → m.timeouts ≡ l.timeouts → AreBlocks t timeouts groups l → AreBlocks came.ties timeouts others m
+pub blocks_came : (t : NameMap) (timeouts : List _) (groups others : List Held) (v : View) (l m : Loop) → (came : Came t l others v m)
+    → m.timeouts ≡ l.timeouts → AreBlocks t timeouts groups l → AreBlocks came.name_map timeouts others m
 blocks_came t timeouts groups others v l m came same b = record {
   timeouts =
-      subst (λ (xs : List loop.Timeout). AreTimeouts came.ties m.parts timeouts xs) (sym same)
-      (timeouts_stay t came.ties l.parts m.parts timeouts l.timeouts came.extends.known came.extends.tags b.timeouts);
+      subst (λ (xs : List loop.Timeout). AreTimeouts came.name_map m.parts timeouts xs) (sym same)
+      (timeouts_stay t came.name_map l.parts m.parts timeouts l.timeouts came.extends.known came.extends.tags b.timeouts);
   groups = came.stands.each;
 }
 
-abbrev pub kept_of : {t : Ties} {l m : Loop} {groups : List Held} {v : View} → (came : Came t l groups v m) → Kept t l.parts v m.parts
-kept_of came = record { ties = came.ties; keeps = came.stands.keeps; extends = came.extends }
+abbrev pub kept_of : {t : NameMap} {l m : Loop} {groups : List Held} {v : View} → (came : Came t l groups v m) → Kept t l.parts v m.parts
+kept_of came = record { name_map = came.name_map; keeps = came.stands.keeps; extends = came.extends }
 
 module _ {X : Type 0} {a : Added X} where
   -- a step of a group
-  pub stands_stepped : (out : Option ℕ) (c : Setting a) (old : Body X) (s : State a.Kept) (v : View) (groups : List Held) (change : Loop → Loop)
-      → (h : Stands out c old s) → Came h.ties s.loop groups v (change s.loop) → StepLeaves s.loop (change s.loop)
+  pub stands_stepped : (out : Option ℕ) (c : Context a) (old : RunState X) (s : State a.Kept) (v : View) (groups : List Held) (change : Loop → Loop)
+      → (h : Stands out c old s) → Came h.name_map s.loop groups v (change s.loop) → StepLeaves s.loop (change s.loop)
       → v.profile ≡ old.parts.profile → Stands out c (record old { parts = v; groups = groups }) (in_loop change s)
   stands_stepped out c old s v groups change h came leaves profile =
       stands_blocks None out c old s v groups change h (kept_of came) leaves.parts (spares_none s.loop.parts (named_in a s))
-      (blocks_came h.ties old.timeouts old.groups groups v s.loop (change s.loop) came leaves.timeouts h.blocks)
-      (below_kept h.ties came.ties old.parts v s.loop.parts (change s.loop).parts h.keeps came.stands.keeps came.extends.bar leaves.handles)
+      (blocks_came h.name_map old.timeouts old.groups groups v s.loop (change s.loop) came leaves.timeouts h.blocks)
+      (below_kept h.name_map came.name_map old.parts v s.loop.parts (change s.loop).parts h.keeps came.stands.keeps came.extends.bar leaves.handles)
       profile

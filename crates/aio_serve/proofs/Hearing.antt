@@ -12,7 +12,7 @@ use Rattle.model_machine.specs.Extra as extra
 use Rattle.model_machine.specs.Extra.{ExtraAnswer, called}
 use Rattle.model_machine.specs.Replies as plain
 use Rattle.model_machine.specs.Replies.{input_by, woken}
-use Rattle.model_machine.specs.State as standing
+use Rattle.model_machine.specs.State as resume_point
 use Rattle.model_machine.specs.State.{State, noted}
 use Rattle.model_machine.specs.Told.{told_in}
 use Rattle.model_machine.specs.Went.{answered_so, answers_in, fitted_so}
@@ -39,8 +39,8 @@ use Rattle.aio_extra.specs.declared.asked.Asked.TheVariants as asked
 use Rattle.aio_body.proofs.Asking.{HasCome, comes_ends, comes_starved}
 use Rattle.aio_body.specs.Asked.{IsInStep}
 use Rattle.aio_body.specs.Asking.{Comes, EndsAs, ReplyBegins, RestFits, StopsWith, before, or_stop}
-use Rattle.aio_body.specs.Stands.{Possible, Setting}
-use Rattle.aio_body.specs.declared.body.Body.{Body}
+use Rattle.aio_body.specs.Stands.{Possible, Context}
+use Rattle.aio_body.specs.declared.run_state.RunState.{RunState}
 use Rattle.aio_body.proofs.Adding.{served_of}
 use Rattle.aio_body.proofs.Answering.{alive_come, stands_again}
 use Rattle.aio_body.proofs.Growing.{decides_begins}
@@ -57,7 +57,7 @@ pub asks_number : {W : Type 0} (o : Outside W) (n m : ℤ) → n ≡ m → (byte
     → AsksOne o (call.Extra n bytes) old new result → AsksOne o (call.Extra m bytes) old new result
 asks_number o n m same bytes old new result one = subst (λ k. AsksOne o (call.Extra k bytes) old new result) same one
 
-module _ {X W : Type 0} (a : Added X) (o : Outside W) (task : ℕ) (code : ℤ) (bytes : List ℕ) (key : ℕ) (old : Body X) (was : W) where
+module _ {X W : Type 0} (a : Added X) (o : Outside W) (task : ℕ) (code : ℤ) (bytes : List ℕ) (key : ℕ) (old : RunState X) (was : W) where
   abbrev Asks_ : Asked
   Asks_ = asked.Outside code bytes key
 
@@ -67,7 +67,7 @@ module _ {X W : Type 0} (a : Added X) (o : Outside W) (task : ℕ) (code : ℤ) 
   abbrev At : Type 0
   At = State a.Kept × ExtraAnswer
 
-  abbrev From : Setting a → At → Type 0
+  abbrev From : Context a → At → Type 0
   From c at = IsAnswering task Asks_ at.1 c old at.0
 
   -- what comes next, by the answer
@@ -81,14 +81,14 @@ module _ {X W : Type 0} (a : Added X) (o : Outside W) (task : ℕ) (code : ℤ) 
   got_at answer rest s = noted (event.Got answer) (record (called_at s) { answers = rest })
 
   -- ---- in the machine
-  asks_is : (c : Setting a) (s : State a.Kept) (it : ExtraAnswer) → IsAnswering task Asks_ it c old s → extra.Asks code bytes key ≡ it
+  asks_is : (c : Context a) (s : State a.Kept) (it : ExtraAnswer) → IsAnswering task Asks_ it c old s → extra.Asks code bytes key ≡ it
   asks_is c s (extra.Asks number piece kept) h =
       ap (λ n. extra.Asks n bytes key) h.answers.0 ∙ ap (λ bs. extra.Asks number bs key) h.answers.1 ∙ ap (extra.Asks number piece) h.answers.2
   asks_is c s (extra.Answers value) h = absurd h.answers
   asks_is c s (extra.Raises fault) h = absurd h.answers
   asks_is c s (extra.Waits on kept) h = absurd h.answers
 
-  asks_as : (c : Setting a) (s : State a.Kept) (it : ExtraAnswer) → IsAnswering task Asks_ it c old s → (answers : List Entry) → s.answers ≡ answers
+  asks_as : (c : Context a) (s : State a.Kept) (it : ExtraAnswer) → IsAnswering task Asks_ it c old s → (answers : List Entry) → s.answers ≡ answers
       → answered a.meaning task it s ≡ answered_so plain.Halts answers asks wakes (called_at s)
   asks_as c s it h answers left =
       ap (λ x. answered a.meaning task x s) (sym (asks_is c s it h))
@@ -105,17 +105,17 @@ module _ {X W : Type 0} (a : Added X) (o : Outside W) (task : ℕ) (code : ℤ) 
       ∙ append_assoc past (pushed old.events (event.Called asks)).events (event.Got answer ∷ [])
 
   -- ---- it has no answer that fits
-  module _ (new : Body X) (is : W) (why : Stop) where
+  module _ (new : RunState X) (is : W) (why : Stop) where
     abbrev Stops_ : Type 0
     Stops_ = Comes o (answering_once a task Asks_ old new) (ported was old.events) (ported is new.events) (Err why)
 
     abbrev Ends_ : Reply → Type 0
     Ends_ said =
-        (c : Setting a) (s : State a.Kept) (it : ExtraAnswer) → IsAnswering task Asks_ it c old s → RestFits (Met asks said) c.answers
+        (c : Context a) (s : State a.Kept) (it : ExtraAnswer) → IsAnswering task Asks_ it c old s → RestFits (Met asks said) c.answers
         → StopsWith plain.Halts why c.past new.events.events (answered a.meaning task it s)
 
     over_so : new.events ≡ pushed old.events (event.Called asks)
-        → ((s : State a.Kept) → EndsAs why (end.Over asks) s) → (c : Setting a) (s : State a.Kept) (it : ExtraAnswer)
+        → ((s : State a.Kept) → EndsAs why (end.Over asks) s) → (c : Context a) (s : State a.Kept) (it : ExtraAnswer)
         → IsAnswering task Asks_ it c old s → c.answers ≡ []
         → StopsWith plain.Halts why c.past new.events.events (answered a.meaning task it s)
     over_so e way c s it h none = record {
@@ -201,16 +201,16 @@ module _ {X W : Type 0} (a : Added X) (o : Outside W) (task : ℕ) (code : ℤ) 
     abbrev had : List Exchange
     had = record { call = asks; answer = answer } ∷ []
 
-    abbrev body : Body X
+    abbrev body : RunState X
     body = record old { events = events }
 
     -- the request goes on from there
-    pub record HasHeard (c : Setting a) (at : At) : Type 0 where
+    pub record HasHeard (c : Context a) (at : At) : Type 0 where
       pub in_step : IsInStep task c body (got_at answer c.answers at.0)
       pub sound : RunsSound task (got_at answer c.answers at.0)
       pub same : answered a.meaning task at.1 at.0 ≡ wakes answer (got_at answer c.answers at.0)
 
-    heard_so : (c : Setting a) (at : At) → From (before had c) at → HasHeard c at
+    heard_so : (c : Context a) (at : At) → From (before had c) at → HasHeard c at
     heard_so c at h =
         let s = at.0 in
         let b = before had c in
@@ -241,12 +241,12 @@ module _ {X W : Type 0} (a : Added X) (o : Outside W) (task : ℕ) (code : ℤ) 
     }
 
     -- what a wake may rely on then
-    heard_may : Possible a (HasAnswer task Asks_) old → ∥ ((c : Setting a) × ((at : At) × HasHeard c at)) ∥₁
+    heard_may : Possible a (HasAnswer task Asks_) old → ∥ ((c : Context a) × ((at : At) × HasHeard c at)) ∥₁
     heard_may m =
         alive_come o From (λ answers c at h. ((with_answers answers at.0, at.1), answering_again a answers task Asks_ at.1 c old at.0 h)) had
         (ported was old.events) (ported mid events) HasHeard has_heard (∥∥₁_map m (λ w. (w.0, ((w.1.0, w.1.1.0), w.1.1.1))))
 
-    runs_sound : (c : Setting a) (at : At) → HasHeard c at
+    runs_sound : (c : Context a) (at : At) → HasHeard c at
         → IsSound body.parts.running (told_in (got_at answer c.answers at.0).events) (got_at answer c.answers at.0).loop
     runs_sound c at h =
         subst (λ r. IsSound r (told_in (got_at answer c.answers at.0).events) (got_at answer c.answers at.0).loop) (sym h.in_step.running) h.sound
@@ -255,7 +255,7 @@ module _ {X W : Type 0} (a : Added X) (o : Outside W) (task : ℕ) (code : ℤ) 
     heard_served m =
         ∥∥₁_map (heard_may m) (λ w.
         let h = w.1.1 in (
-          h.in_step.stands.ties,
+          h.in_step.stands.name_map,
           (
             got_at answer w.0.answers w.1.0.0,
             served_of (Some task) body.parts.running w.0 body (got_at answer w.0.answers w.1.0.0) h.in_step.stands h.in_step.called refl
@@ -264,33 +264,33 @@ module _ {X W : Type 0} (a : Added X) (o : Outside W) (task : ℕ) (code : ℤ) 
         ))
 
     -- it was woken
-    woken_so : (c : Setting a) (at : At) → HasHeard c at → (new : Body X) (next : Asked) → Woke a key (input_by answer) body new next
+    woken_so : (c : Context a) (at : At) → HasHeard c at → (new : RunState X) (next : Asked) → Woke a key (input_by answer) body new next
         → AnswersAgain task next c new (answered a.meaning task at.1 at.0)
     woken_so c at h new next woke =
         let t = got_at answer c.answers at.0 in
         let said = a.meaning.wake key (input_by answer) t in
-        subst (λ (b : Body X). AnswersAgain task next c b (answered a.meaning task at.1 at.0)) (sym woke.beside) (record {
+        subst (λ (b : RunState X). AnswersAgain task next c b (answered a.meaning task at.1 at.0)) (sym woke.frame) (record {
           now = called said.call t;
           it = said.answer;
           answering =
               answering_so task c body t h.in_step h.sound new.parts new.extra next said (a.allowed.wake task key (input_by answer) t h.sound)
-              (woke.says h.in_step.stands.ties t
+              (woke.says h.in_step.stands.name_map t
               (served_of (Some task) body.parts.running c body t h.in_step.stands h.in_step.called refl (runs_sound c at h)));
           same = sym (woken_on a.meaning a.falls task key (input_by answer) t) ∙ sym h.same;
         })
 
-    pub wakes_again : (new : Body X) (next : Asked) → Woke a key (input_by answer) body new next
+    pub wakes_again : (new : RunState X) (next : Asked) → Woke a key (input_by answer) body new next
         → Comes o (answering_once a task Asks_ old new) (ported was old.events) (ported mid new.events) (Ok (Again next))
     wakes_again new next woke =
         subst (λ (l : EventList). Comes o (answering_once a task Asks_ old new) (ported was old.events) (ported mid l) (Ok (Again next)))
-        (sym (ap (λ (b : Body X). b.events) woke.beside))
+        (sym (ap (λ (b : RunState X). b.events) woke.frame))
         (comes_ends o (answering_once a task Asks_ old new) had (ported was old.events) (ported mid events) (Again next) (record {
           exchanged = has_heard.exchanged;
           told = λ c at h. let t = has_heard.told c at h in (t.0, woken_so c at t.1 new next woke);
         }))
 
     -- memory is refused for that
-    pub wakes_starved : (new : Body X)
+    pub wakes_starved : (new : RunState X)
         → Comes o (answering_once a task Asks_ old new) (ported was old.events) (ported mid new.events) (Err stop.Memory)
     wakes_starved new =
         comes_starved o (answering_once a task Asks_ old new) had (ported was old.events) (ported mid events) (ported mid new.events) refl (record {
@@ -300,15 +300,15 @@ module _ {X W : Type 0} (a : Added X) (o : Outside W) (task : ℕ) (code : ℤ) 
                 t.0,
                 subst (ReplyBegins (c.past ++ events.events)) (sym t.1.same)
                     (decides_begins a.meaning task (c.past ++ events.events) (got_at answer c.answers at.0) t.1.in_step.stands.events
-                    (standing.Serving key) (input_by answer)),
+                    (resume_point.Serving key) (input_by answer)),
               );
         })
 
     -- by what came of it
-    pub hears_so : (mid_body : Body X) → mid_body ≡ body → (new : Body X) (result : Result Answered Memory)
+    pub hears_so : (mid_body : RunState X) → mid_body ≡ body → (new : RunState X) (result : Result Answered Memory)
         → IfOk result (λ told. (next : Asked) × (told ≡ Again next) × Woke a key (input_by answer) mid_body new next)
         → Comes o (answering_once a task Asks_ old new) (ported was old.events) (ported mid new.events) (or_stop result)
     hears_so mid_body same new (Ok told) h =
         subst (λ k. Comes o (answering_once a task Asks_ old new) (ported was old.events) (ported mid new.events) (Ok k)) (sym h.1)
-        (wakes_again new h.0 (subst (λ (b : Body X). Woke a key (input_by answer) b new h.0) same h.2))
+        (wakes_again new h.0 (subst (λ (b : RunState X). Woke a key (input_by answer) b new h.0) same h.2))
     hears_so mid_body same new (Err memory) h = wakes_starved new

@@ -2,7 +2,7 @@ mod Saying
 mod Meaning
 mod Reading
 mod Changing
-mod Resting
+mod Suspending
 mod Spawning
 mod Timing
 mod Appending

@@ -14,26 +14,26 @@ use Rattle.model_machine.specs.State.{State}
 use Rattle.refine_parts.proofs.Telling.{outcome_kept, owner_kept}
 use Rattle.aio_task.specs.View.{parts}
 use Rattle.aio_extra.specs.Added.{Added}
-use Rattle.aio_body.specs.declared.body.Body.{Body}
+use Rattle.aio_body.specs.declared.run_state.RunState.{RunState}
 use Rattle.aio_body.specs.Asked.{IsGoing, SomeGoes}
 use Rattle.aio_body.specs.Named.{awaited_in, future_in}
-use Rattle.aio_body.specs.Stands.{Setting, Stands, Possible}
+use Rattle.aio_body.specs.Stands.{Context, Stands, Possible}
 use Rattle.aio_body.proofs.May.{same_prop}
 use Rattle.aio_body.proofs.Telling.{awaited_named, awaited_stays, future_named, named_stays}
 
 module _ {X : Type 0} {a : Added X} where
   -- a task's count
-  pub count_read : (out : Option ℕ) (c : Setting a) (body : Body X) (s : State a.Kept) → Stands out c body s → (task : ℕ)
+  pub count_read : (out : Option ℕ) (c : Context a) (body : RunState X) (s : State a.Kept) → Stands out c body s → (task : ℕ)
       → cancelling (parts body.parts) task ≡ cancelling s.loop.parts task
   count_read out c body s h task = ap (λ (tasks : List Task). option_map_or (λ (it : Task). it.cancels) (slice_get tasks task) 0) h.keeps.tasks
 
-  pub few_counts : (body : Body X) → Possible a SomeGoes body → (task : ℕ) → cancelling (parts body.parts) task ≤ most
+  pub few_counts : (body : RunState X) → Possible a SomeGoes body → (task : ℕ) → cancelling (parts body.parts) task ≤ most
   few_counts body m task =
       ∥∥₁_elim m le_prop (λ w.
       subst (λ n. n ≤ most) (sym (count_read (Some w.1.1.0) w.0 body w.1.0 w.1.1.1.in_step.stands task)) (w.1.1.1.in_step.stands.counts task))
 
   -- the time
-  pub few_moments : (body : Body X) → Possible a SomeGoes body → body.parts.time ≤ most
+  pub few_moments : (body : RunState X) → Possible a SomeGoes body → body.parts.time ≤ most
   few_moments body m =
       ∥∥₁_elim m le_prop (λ w. subst (λ n. n ≤ most) (sym w.1.1.1.in_step.stands.keeps.time) w.1.1.1.in_step.stands.time)
 
@@ -41,7 +41,7 @@ some_copied : {A : Type 0} (o : Option (Bor A)) → is_some (option_copied o) �
 some_copied None = refl
 some_copied (Some it) = refl
 
-module _ {X : Type 0} {a : Added X} (task : ℕ) (c : Setting a) (body : Body X) (s : State a.Kept) (h : IsGoing task c body s) where
+module _ {X : Type 0} {a : Added X} (task : ℕ) (c : Context a) (body : RunState X) (s : State a.Kept) (h : IsGoing task c body s) where
   -- what is named
   pub awaited_as : (x : Value) (on : Option ℕ) → awaited_in body.futures.items (parts body.parts) x ≡ on → as_awaited s x ≡ on
   awaited_as x on e = sym (awaited_named (Some task) c body s h.in_step.stands x) ∙ e
@@ -53,13 +53,13 @@ module _ {X : Type 0} {a : Added X} (task : ℕ) (c : Setting a) (body : Body X)
   pub outcome_read : (x : Value) (on : ℕ) → awaited_in body.futures.items (parts body.parts) x ≡ Some on
       → outcome_at (slice_get body.parts.futures on) ≡ future_outcome s.loop.parts on
   outcome_read x on e =
-      outcome_kept h.in_step.stands.ties body.parts s.loop.parts h.in_step.stands.keeps on
+      outcome_kept h.in_step.stands.name_map body.parts s.loop.parts h.in_step.stands.keeps on
       (awaited_stays (Some task) c body s h.in_step.stands h.sound.others.loop.parts.owns x on (awaited_as x (Some on) e))
 
   pub future_read : (x : Value) (on : ℕ) → future_in body.futures.items x ≡ Some on
       → outcome_at (slice_get body.parts.futures on) ≡ future_outcome s.loop.parts on
   future_read (Fut id) on e =
-      outcome_kept h.in_step.stands.ties body.parts s.loop.parts h.in_step.stands.keeps on
+      outcome_kept h.in_step.stands.name_map body.parts s.loop.parts h.in_step.stands.keeps on
       (named_stays (Some task) c body s h.in_step.stands id on (future_as (Fut id) (Some on) e))
   future_read _ on e = absurd (cc)
 
@@ -80,9 +80,9 @@ module _ {X : Type 0} {a : Added X} (task : ℕ) (c : Setting a) (body : Body X)
   unowned _ on e = absurd (cc)
 
 module _ {X : Type 0} {a : Added X} where
-  pub unowned_kept : (body : Body X) → Possible a SomeGoes body → (x : Value) (on : ℕ) → future_in body.futures.items x ≡ Some on
+  pub unowned_kept : (body : RunState X) → Possible a SomeGoes body → (x : Value) (on : ℕ) → future_in body.futures.items x ≡ Some on
       → owner_at (slice_get body.parts.futures on) ≡ None
   unowned_kept body m x on e =
       ∥∥₁_elim m (same_prop (owner_at (slice_get body.parts.futures on)) None) (λ w.
       let h = w.1.1.1 in
-      owner_kept h.in_step.stands.ties body.parts w.1.0.loop.parts h.in_step.stands.keeps on (unowned w.1.1.0 w.0 body w.1.0 h x on e))
+      owner_kept h.in_step.stands.name_map body.parts w.1.0.loop.parts h.in_step.stands.keeps on (unowned w.1.1.0 w.0 body w.1.0 h x on e))

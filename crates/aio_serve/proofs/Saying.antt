@@ -7,14 +7,14 @@ use Rattle.model_machine.specs.Outcomes.{input_of}
 use Rattle.model_machine.specs.Replies as plain
 use Rattle.model_machine.specs.State.{State}
 use Rattle.aio_extra.specs.Added.{Added}
-use Rattle.aio_body.specs.declared.body.Body.{Body}
+use Rattle.aio_body.specs.declared.run_state.RunState.{RunState}
 use Rattle.aio_body.specs.declared.reply.RequestReply.{RequestReply}
 use Rattle.aio_body.specs.declared.reply.RequestReply.TheVariants.{Answers, Raises}
 use Rattle.aio_body.specs.Outcomes.{RepliesAs, reply_of}
 use Rattle.aio_body.specs.Asked.{IsInStep, Says}
-use Rattle.aio_body.specs.Stands.{Setting}
+use Rattle.aio_body.specs.Stands.{Context}
 
-module _ {X : Type 0} {a : Added X} (task : ℕ) (c : Setting a) (body : Body X) (now : State a.Kept) (said : RequestReply)
+module _ {X : Type 0} {a : Added X} (task : ℕ) (c : Context a) (body : RunState X) (now : State a.Kept) (said : RequestReply)
     (machine : plain.RequestReply a.Kept) where
   pub answers_so : (value : Value) → said ≡ Answers value → machine ≡ plain.Answers value now → IsInStep task c body now
       → Says task c body said machine

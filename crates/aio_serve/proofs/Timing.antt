@@ -12,7 +12,7 @@ use Rattle.model_value.specs.Value.{Value, Nothing, Truth, Timeout as Named, Exc
 use Rattle.model_says.specs.Operations.{out_of_range}
 use Rattle.model_says.specs.Requests.{bad_argument}
 use Rattle.model_loop.specs.Loop.{Loop, TimeoutState, Finished}
-use Rattle.model_loop.specs.Timeouts.{enter_timeout, has_expired, is_active, next_timeout, no_timeout, reschedule, reschedule_fault, reschedule_where}
+use Rattle.model_loop.specs.Timeouts.{enter_timeout, has_expired, is_active, next_timeout, no_timeout, reschedule, reschedule_exception, reschedule_where}
 use Rattle.model_loop.specs.Timeouts.{timeout_of}
 use Rattle.model_machine.specs.Arguments.{as_delay, as_timeout}
 use Rattle.model_machine.specs.Extra.{Extra}
@@ -33,18 +33,18 @@ use Rattle.aio_timeout.proofs.Keeping.{timeouts_count}
 use Rattle.aio_timeout.proofs.Naming.{handlers_step_none}
 use Rattle.aio_extra.specs.Added.{Added}
 use Rattle.aio_body.specs.Delay.{number_of}
-use Rattle.aio_body.specs.declared.body.Body.{Body}
+use Rattle.aio_body.specs.declared.run_state.RunState.{RunState}
 use Rattle.aio_body.specs.declared.delay.Delay.{Delay}
 use Rattle.aio_body.specs.declared.reply.RequestReply.{RequestReply}
 use Rattle.aio_body.specs.declared.reply.RequestReply.TheVariants.{Answers, Raises}
 use Rattle.aio_body.specs.Asked.{IsAskingFor, IsGoing, IsInStep, Says, SomeGoes}
-use Rattle.aio_body.specs.Stands.{Setting, Stands, Possible}
+use Rattle.aio_body.specs.Stands.{Context, Stands, Possible}
 use Rattle.aio_body.specs.Taken.{IsTaken}
 use Rattle.aio_serve.specs.Left.{left_as}
 use Rattle.aio_serve.proofs.Saying.{answers_so, raises_so}
 use Rattle.aio_body.proofs.TimeoutsOn.{timeouts_of}
 
-module _ {X : Type 0} {a : Added X} (task : ℕ) (c : Setting a) (body : Body X) (now : State a.Kept) (h : IsInStep task c body now) where
+module _ {X : Type 0} {a : Added X} (task : ℕ) (c : Context a) (body : RunState X) (now : State a.Kept) (h : IsInStep task c body now) where
   -- a block that was left
   pub left_so : (exit : TimeoutExit) (b : Bool) → has_timed_out exit ≡ b → Says task c body (left_as exit) (timed_out_if b now)
   left_so Passes false e = (refl, h)
@@ -122,9 +122,9 @@ module _ {S : Type 0} (added : Extra S) (task : ℕ) (s : State S) where
 
 module _ {X : Type 0} {a : Added X} where
   -- ---- numbers of timeouts
-  pub count_is : (out : Option ℕ) (c : Setting a) (body : Body X) (s : State a.Kept) → Stands out c body s
+  pub count_is : (out : Option ℕ) (c : Context a) (body : RunState X) (s : State a.Kept) → Stands out c body s
       → length body.timeouts ≡ length s.loop.timeouts
-  count_is out c body s h = timeouts_count h.ties s.loop.parts body.timeouts s.loop.timeouts h.blocks.timeouts
+  count_is out c body s h = timeouts_count h.name_map s.loop.parts body.timeouts s.loop.timeouts h.blocks.timeouts
 
 -- one that was not made is finished
 pub unmade_is : (l : Loop) (id : ℕ) → length l.timeouts ≤ id → (timeout_of l id).state ≡ Finished
@@ -137,31 +137,31 @@ steps_prop q (Some (At id)) = hlevel props
 steps_prop q (Some (Soon id)) = hlevel props
 
 module _ {X : Type 0} {a : Added X} where
-  steps_none_in : (task : ℕ) (c : Setting a) (body : Body X) (s : State a.Kept) (id : ℕ) → IsGoing task c body s
+  steps_none_in : (task : ℕ) (c : Context a) (body : RunState X) (s : State a.Kept) (id : ℕ) → IsGoing task c body s
       → StepsNone body.parts.queue (handler_at id body.timeouts)
   steps_none_in task c body s id h =
-      handlers_step_none h.in_step.stands.ties body.parts s.loop body.timeouts (timeouts_of (Some task) c body s h.in_step.stands)
+      handlers_step_none h.in_step.stands.name_map body.parts s.loop body.timeouts (timeouts_of (Some task) c body s h.in_step.stands)
       h.sound.others.loop.timeouts id
 
-  pub steps_none_some : (body : Body X) (id : ℕ) → Possible a SomeGoes body → StepsNone body.parts.queue (handler_at id body.timeouts)
+  pub steps_none_some : (body : RunState X) (id : ℕ) → Possible a SomeGoes body → StepsNone body.parts.queue (handler_at id body.timeouts)
   steps_none_some body id m =
       ∥∥₁_elim m (steps_prop body.parts.queue (handler_at id body.timeouts)) (λ w. steps_none_in w.1.1.0 w.0 body w.1.0 id w.1.1.1)
 
-  pub exit_there : (task : ℕ) (timeout : Value) (raised : Option Exc) (id : ℕ) (body : Body X) → as_timeout timeout ≡ Some id
+  pub exit_there : (task : ℕ) (timeout : Value) (raised : Option Exc) (id : ℕ) (body : RunState X) → as_timeout timeout ≡ Some id
       → Possible a (IsAskingFor task (request.TimeoutExit timeout raised)) body → id < length body.timeouts
   exit_there task timeout raised id body e m = ∥∥₁_elim m le_prop (λ w. there w.0 w.1.0 w.1.1)
     where
-      there : (c : Setting a) (s : State a.Kept) → IsAskingFor task (request.TimeoutExit timeout raised) c body s → id < length body.timeouts
+      there : (c : Context a) (s : State a.Kept) → IsAskingFor task (request.TimeoutExit timeout raised) c body s → id < length body.timeouts
       there c s h =
           let fit = fits_in a.meaning task s h.going.sound (request.TimeoutExit timeout raised) h.says refl id e in
           let inside = fit.0 in
           let count = count_is (Some task) c body s h.going.in_step.stands in
           omega (arith, inside, count)
 
-  pub fired_there : (id : ℕ) (body : Body X) → Possible a (IsTaken (Fires id)) body → id < length body.timeouts
+  pub fired_there : (id : ℕ) (body : RunState X) → Possible a (IsTaken (Fires id)) body → id < length body.timeouts
   fired_there id body m = ∥∥₁_elim m le_prop (λ w. there w.0 w.1.0 w.1.1)
     where
-      there : (c : Setting a) (s : State a.Kept) → IsTaken (Fires id) c body s → id < length body.timeouts
+      there : (c : Context a) (s : State a.Kept) → IsTaken (Fires id) c body s → id < length body.timeouts
       there c s h =
           let tags : HaveTags h.before.loop = record { numbered = h.sound.loop.numbered; tags = h.sound.loop.timeouts } in
           let inside = within id h.handle h.rest h.before.loop h.pending h.live h.runs tags in
@@ -195,7 +195,7 @@ refused_is told state e = at (is_active state) refl
         inside a b e = cc
 
 module _ {X : Type 0} {a : Added X} where
-  pub rescheduled_so : (task : ℕ) (c : Setting a) (body : Body X) (s : State a.Kept) (timeout when : Value) (id : ℕ) (it : Option ℤ)
+  pub rescheduled_so : (task : ℕ) (c : Context a) (body : RunState X) (s : State a.Kept) (timeout when : Value) (id : ℕ) (it : Option ℤ)
       → as_timeout timeout ≡ Some id → as_delay when ≡ Some it → None ≡ refusal (timeout_of s.loop id).state
       → IsInStep task c body (in_loop (reschedule id it) s)
       → (said : RequestReply) → said ≡ Answers Nothing → Says task c body said (reply a.meaning task (request.Reschedule timeout when) s)
@@ -205,27 +205,27 @@ module _ {X : Type 0} {a : Added X} where
       ∙ ap (λ b. reschedules_if b id it s) (set_is (timeout_of s.loop id).state set)) h
 
   -- a timeout that isn't active
-  pub inactive_so : (task : ℕ) (c : Setting a) (body : Body X) (s : State a.Kept) (timeout when : Value) (id : ℕ) (it : Option ℤ)
+  pub inactive_so : (task : ℕ) (c : Context a) (body : RunState X) (s : State a.Kept) (timeout when : Value) (id : ℕ) (it : Option ℤ)
       (state : TimeoutState) → as_timeout timeout ≡ Some id → as_delay when ≡ Some it → is_active (timeout_of s.loop id).state ≡ false
       → state ≡ (timeout_of s.loop id).state → IsInStep task c body s
-      → (said : RequestReply) → said ≡ Raises (reschedule_fault state) → Says task c body said (reply a.meaning task (request.Reschedule timeout when) s)
+      → (said : RequestReply) → said ≡ Raises (reschedule_exception state) → Says task c body said (reply a.meaning task (request.Reschedule timeout when) s)
   inactive_so task c body s timeout when id it state named delay inactive same h said e =
-      raises_so task c body s said (reply a.meaning task (request.Reschedule timeout when) s) (reschedule_fault (timeout_of s.loop id).state)
-      (e ∙ ap (λ (x : TimeoutState). Raises (reschedule_fault x)) same)
+      raises_so task c body s said (reply a.meaning task (request.Reschedule timeout when) s) (reschedule_exception (timeout_of s.loop id).state)
+      (e ∙ ap (λ (x : TimeoutState). Raises (reschedule_exception x)) same)
       (reschedule_goes a.meaning task s timeout when id it named delay ∙ ap (λ b. reschedules_if b id it s) inactive) h
 
-  pub refused_so : (task : ℕ) (c : Setting a) (body : Body X) (s : State a.Kept) (timeout when : Value) (id : ℕ) (it : Option ℤ)
+  pub refused_so : (task : ℕ) (c : Context a) (body : RunState X) (s : State a.Kept) (timeout when : Value) (id : ℕ) (it : Option ℤ)
       (state : TimeoutState) → as_timeout timeout ≡ Some id → as_delay when ≡ Some it → Some state ≡ refusal (timeout_of s.loop id).state
       → IsInStep task c body (in_loop (reschedule id it) s)
-      → (said : RequestReply) → said ≡ Raises (reschedule_fault state) → Says task c body said (reply a.meaning task (request.Reschedule timeout when) s)
+      → (said : RequestReply) → said ≡ Raises (reschedule_exception state) → Says task c body said (reply a.meaning task (request.Reschedule timeout when) s)
   refused_so task c body s timeout when id it state named delay told h said e =
       let is = refused_is state (timeout_of s.loop id).state told in
       inactive_so task c body s timeout when id it state named delay is.0 is.1
       (subst (λ b. IsInStep task c body (in_loop (reschedule_where b id it) s)) is.0 h) said e
 
-  pub finished_so : (task : ℕ) (c : Setting a) (body : Body X) (s : State a.Kept) (timeout when : Value) (id : ℕ) (it : Option ℤ)
+  pub finished_so : (task : ℕ) (c : Context a) (body : RunState X) (s : State a.Kept) (timeout when : Value) (id : ℕ) (it : Option ℤ)
       → as_timeout timeout ≡ Some id → as_delay when ≡ Some it → length body.timeouts ≤ id → IsInStep task c body s
-      → (said : RequestReply) → said ≡ Raises (reschedule_fault Finished) → Says task c body said (reply a.meaning task (request.Reschedule timeout when) s)
+      → (said : RequestReply) → said ≡ Raises (reschedule_exception Finished) → Says task c body said (reply a.meaning task (request.Reschedule timeout when) s)
   finished_so task c body s timeout when id it named delay past h said e =
       let count = count_is (Some task) c body s h.stands in
       let over : length s.loop.timeouts ≤ id = omega (arith, count, past) in

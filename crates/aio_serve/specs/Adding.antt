@@ -7,15 +7,15 @@ use Rattle.model_machine.specs.Replies.{decides, serves_as, woken}
 use Rattle.model_machine.specs.State.{State, Serving}
 use Rattle.law_runs.specs.Allowed.{IsAnswerAllowed}
 use Rattle.law_turns.specs.Replied.{RunsSound}
-use Rattle.aio_task.specs.Keeps.{Ties}
+use Rattle.aio_task.specs.Keeps.{NameMap}
 use Rattle.aio_extra.specs.Added.{Added}
 use Rattle.aio_extra.specs.Called as called
 use Rattle.aio_extra.specs.declared.asked.Asked.{Asked}
-use Rattle.aio_body.specs.declared.body.Body.{Body}
+use Rattle.aio_body.specs.declared.run_state.RunState.{RunState}
 use Rattle.aio_body.specs.declared.reply.RequestReply.{RequestReply}
 use Rattle.aio_body.specs.Asked.{IsDeciding, IsInStep, Says}
 use Rattle.aio_body.specs.Asking.{Piece, ReplyBegins}
-use Rattle.aio_body.specs.Stands.{Setting}
+use Rattle.aio_body.specs.Stands.{Context}
 use Rattle.aio_serve.specs.declared.added.Answered.{Answered}
 use Rattle.aio_serve.specs.declared.added.Answered.TheVariants.{Replies, Again}
 
@@ -24,19 +24,19 @@ abbrev pub answered : {S : Type 0} → Extra S → ℕ → ExtraAnswer → State
 answered added task it s = serves_as it (woken added task) task s
 
 -- A call of what is added has given this answer, and the machine's call that one; both are in the state after it.
-pub record IsAnswering {X : Type 0} {a : Added X} (task : ℕ) (asked : Asked) (it : ExtraAnswer) (c : Setting a)
-    (body : Body X) (s : State a.Kept) : Type 0 where
+pub record IsAnswering {X : Type 0} {a : Added X} (task : ℕ) (asked : Asked) (it : ExtraAnswer) (c : Context a)
+    (body : RunState X) (s : State a.Kept) : Type 0 where
   pub in_step : IsInStep task c body s
   pub sound : RunsSound task s
-  pub answers : called.AnswersAs a in_step.stands.ties s asked it
+  pub answers : called.AnswersAs a in_step.stands.name_map s asked it
   pub allowed : IsAnswerAllowed it s
 
 -- whatever the machine's answer is
-abbrev pub HasAnswer : {X : Type 0} {a : Added X} → ℕ → Asked → Setting a → Body X → State a.Kept → Type 0
+abbrev pub HasAnswer : {X : Type 0} {a : Added X} → ℕ → Asked → Context a → RunState X → State a.Kept → Type 0
 HasAnswer task asked c body s = (it : ExtraAnswer) × IsAnswering task asked it c body s
 
 -- another answer, from which the machine's reply is the same
-pub record AnswersAgain {X : Type 0} {a : Added X} (task : ℕ) (asked : Asked) (c : Setting a) (body : Body X)
+pub record AnswersAgain {X : Type 0} {a : Added X} (task : ℕ) (asked : Asked) (c : Context a) (body : RunState X)
     (machine : plain.RequestReply a.Kept) : Type 0 where
   pub now : State a.Kept
   pub it : ExtraAnswer
@@ -44,18 +44,18 @@ pub record AnswersAgain {X : Type 0} {a : Added X} (task : ℕ) (asked : Asked) 
   pub same : answered a.meaning task it now ≡ machine
 
 -- A request was woken with this, and said that; of the body its parts and what is added changed alone.
-pub record Woke {X : Type 0} (a : Added X) (key : ℕ) (input : Input) (old new : Body X) (asked : Asked) : Type 0 where
-  pub beside : new ≡ record old { parts = new.parts; extra = new.extra }
-  pub says : (t : Ties) (s : State a.Kept) → called.IsServed a old.parts.running t s old.extra old.parts
+pub record Woke {X : Type 0} (a : Added X) (key : ℕ) (input : Input) (old new : RunState X) (asked : Asked) : Type 0 where
+  pub frame : new ≡ record old { parts = new.parts; extra = new.extra }
+  pub says : (t : NameMap) (s : State a.Kept) → called.IsServed a old.parts.running t s old.extra old.parts
       → called.SaysAs a t s old.parts new.parts new.extra asked (a.meaning.wake key input s)
 
-abbrev pub AnswersAs : {X : Type 0} {a : Added X} → ℕ → Setting a → Body X → Answered → plain.RequestReply a.Kept → Type 0
+abbrev pub AnswersAs : {X : Type 0} {a : Added X} → ℕ → Context a → RunState X → Answered → plain.RequestReply a.Kept → Type 0
 AnswersAs task c body (Replies said) machine = Says task c body said machine
 AnswersAs task c body (Again asked) machine = AnswersAgain task asked c body machine
 
 -- ---- as pieces of the machine
 -- from whatever its answer was
-abbrev pub answering : {X : Type 0} → (a : Added X) → ℕ → Asked → (old new : Body X)
+abbrev pub answering : {X : Type 0} → (a : Added X) → ℕ → Asked → (old new : RunState X)
     → Piece a (State a.Kept × ExtraAnswer) (plain.RequestReply a.Kept) RequestReply
 answering a task asked old new =
     record {
@@ -67,7 +67,7 @@ answering a task asked old new =
     }
 
 -- one answer of them
-abbrev pub answering_once : {X : Type 0} → (a : Added X) → ℕ → Asked → (old new : Body X)
+abbrev pub answering_once : {X : Type 0} → (a : Added X) → ℕ → Asked → (old new : RunState X)
     → Piece a (State a.Kept × ExtraAnswer) (plain.RequestReply a.Kept) Answered
 answering_once a task asked old new =
     record {
@@ -79,7 +79,7 @@ answering_once a task asked old new =
     }
 
 -- the wait of a request is over
-abbrev pub waking : {X : Type 0} → (a : Added X) → (task key : ℕ) → Input → (old new : Body X)
+abbrev pub waking : {X : Type 0} → (a : Added X) → (task key : ℕ) → Input → (old new : RunState X)
     → Piece a (State a.Kept) (plain.RequestReply a.Kept) RequestReply
 waking a task key input old new =
     record {

@@ -5,9 +5,9 @@ use Rattle.model_value.specs.declared.action.Action.TheVariants.{SleepDone}
 use Rattle.model_loop.specs.Parts.{Plain}
 use Rattle.aio_timer.specs.declared.live.TimerId.{TimerId}
 use Rattle.aio_timer.specs.Schedule as schedule
-use Rattle.aio_body.specs.declared.body.Body.{Body}
+use Rattle.aio_body.specs.declared.run_state.RunState.{RunState}
 
-pub record IsAlarmed {X : Type 0} (task delay : ℕ) (timer : TimerId) (future : ℕ) (old new : Body X) : Type 0 where
+pub record IsAlarmed {X : Type 0} (task delay : ℕ) (timer : TimerId) (future : ℕ) (old new : RunState X) : Type 0 where
   pub number : future ≡ length old.parts.futures
   pub id : timer ≡ record { number = old.parts.schedule.next; when = min (old.parts.time + delay) most }
   pub after : new ≡ record old {

@@ -11,12 +11,14 @@ ghost use Rattle.aio_extra.specs.declared.asked.Asked.{Asked as AnyAsked};
 ghost use Rattle.aio_extra.specs.declared.asked.Asked.TheVariants.{Outside, Wait};
 ghost use Rattle.aio_body.specs.Asked.{IsDeciding, IsAskingFor};
 ghost use Rattle.aio_body.specs.Asking.{Comes, serving};
-ghost use Rattle.aio_body.specs.Stands.{Setting, Possible};
+ghost use Rattle.aio_body.specs.Stands.{Context, Possible};
 ghost use Rattle.aio_serve.specs.Adding.{AnswersAs, HasAnswer, IsAnswering, Woke, answered};
 ghost use Rattle.aio_serve.specs.Adding.{answering, answering_once, waking};
 
 use aio_base::{Blob, Input, Kind, Memory, Value, exception};
-use aio_body::{Body, RequestReply, Standing, as_int, bad_argument, input_of, is_list, or_stop};
+use aio_body::{
+    RequestReply, ResumePoint, RunState, as_int, bad_argument, input_of, is_list, or_stop,
+};
 use aio_extra::{Asked, Extra};
 use aio_task::FutureId;
 use aio_wire::{Answer, Call, Port, Stop, Wire};
@@ -32,7 +34,7 @@ pub enum Answered {
 
 /// `extra(code, list)`.
 pub fn extra<W: Wire, X: Extra>(
-    body: &mut Body<X>,
+    body: &mut RunState<X>,
     alloc: Global,
     wire: &mut W,
     task: u32,
@@ -61,7 +63,7 @@ pub fn extra<W: Wire, X: Extra>(
 
 /// The wait of such a request is over.
 pub fn wake<W: Wire, X: Extra>(
-    body: &mut Body<X>,
+    body: &mut RunState<X>,
     alloc: Global,
     wire: &mut W,
     task: u32,
@@ -80,7 +82,7 @@ pub fn wake<W: Wire, X: Extra>(
 
 // What is done is not waited for: the request is woken at once, for as long as it waits on.
 fn answer<W: Wire, X: Extra>(
-    body: &mut Body<X>,
+    body: &mut RunState<X>,
     alloc: Global,
     wire: &mut W,
     task: u32,
@@ -106,7 +108,7 @@ fn answer<W: Wire, X: Extra>(
 fn forget_asked(_asked: Asked) {}
 
 fn answer_one<W: Wire, X: Extra>(
-    body: &mut Body<X>,
+    body: &mut RunState<X>,
     alloc: Global,
     wire: &mut W,
     task: u32,
@@ -128,7 +130,7 @@ fn answer_one<W: Wire, X: Extra>(
 
 // The outside is asked, and what it answers wakes the request, in the same step.
 fn ask_outside<W: Wire, X: Extra>(
-    body: &mut Body<X>,
+    body: &mut RunState<X>,
     alloc: Global,
     wire: &mut W,
     task: u32,
@@ -149,12 +151,12 @@ fn ask_outside<W: Wire, X: Extra>(
 
 // The outside is asked once, and it is noted.
 fn ask<W: Wire, X: Extra>(
-    body: &mut Body<X>,
+    body: &mut RunState<X>,
     alloc: Global,
     wire: &mut W,
     call: Call,
 ) -> Result<Answer, Stop>
-    ensures beside { body.new ≡ record body.old { events = body.new.events } }
+    ensures frame { body.new ≡ record body.old { events = body.new.events } }
     ensures asks { AsksOne W.outside call
         (ported wire.old body.old.events) (ported wire.new body.new.events) result }
 {
@@ -164,7 +166,7 @@ fn ask<W: Wire, X: Extra>(
 
 // The request is woken with what the outside answered.
 fn hear<X: Extra>(
-    body: &mut Body<X>,
+    body: &mut RunState<X>,
     alloc: Global,
     key: u64,
     answer: Answer,
@@ -206,7 +208,7 @@ fn extra_refused(alloc: Global) -> Result<Input, Memory>
 
 // The task waits for the future, or the request is woken at once.
 fn wait<X: Extra>(
-    body: &mut Body<X>,
+    body: &mut RunState<X>,
     alloc: Global,
     task: u32,
     on: FutureId,
@@ -214,15 +216,15 @@ fn wait<X: Extra>(
 ) -> Result<Answered, Memory>
     requires { Possible X.added (HasAnswer task (Wait on key)) body.old }
     ensures answers { IfOk result
-        (λ told. (c : Setting X.added) (s : State X.added.Kept) (it : ExtraAnswer)
+        (λ told. (c : Context X.added) (s : State X.added.Kept) (it : ExtraAnswer)
         → IsAnswering task (Wait on key) it c body.old s
         → AnswersAs task c body.new told (answered X.added.meaning task it s)) }
     ensures events { body.new.events ≡ body.old.events }
 {
     let Some(outcome) = body.parts.outcome(on) else {
         let _suspension = body.parts.suspend(task, on);
-        body.stand_far(task, Standing::Serving(key))?;
-        return Ok(Answered::Replies(RequestReply::Rests));
+        body.stand_far(task, ResumePoint::Serving(key))?;
+        return Ok(Answered::Replies(RequestReply::Suspends));
     };
     let input = input_of(outcome)?;
     let asked = body.extra.wake(alloc, key, input, &mut body.parts)?;

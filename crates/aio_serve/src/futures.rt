@@ -10,13 +10,13 @@ ghost use Rattle.aio_body.specs.Stands.{Possible};
 
 use aio_base::{Exc, Kind, Memory, Outcome, Value};
 use aio_body::{
-    Body, MOST_IDS, RequestReply, as_failure, bad_argument, out_of_range, raises, replied,
+    MOST_IDS, RequestReply, RunState, as_failure, bad_argument, out_of_range, raises, replied,
 };
 use aio_extra::Extra;
 use std::alloc::Global;
 
 /// `future()`.
-pub fn make_future<X: Extra>(body: &mut Body<X>, alloc: Global) -> Result<RequestReply, Memory>
+pub fn make_future<X: Extra>(body: &mut RunState<X>, alloc: Global) -> Result<RequestReply, Memory>
     requires { Possible X.added SomeGoes body.old }
     ensures { (task : ℕ) → Serves X.added task request.MakeFuture body.old body.new result }
 {
@@ -31,7 +31,7 @@ pub fn make_future<X: Extra>(body: &mut Body<X>, alloc: Global) -> Result<Reques
 
 /// `set(f, v)`. InvalidStateError where `f` is done (`Future.set_result`).
 pub fn set<X: Extra>(
-    body: &mut Body<X>,
+    body: &mut RunState<X>,
     alloc: Global,
     future: &Value,
     value: Value,
@@ -46,7 +46,7 @@ pub fn set<X: Extra>(
 /// `fail(f, e)`. InvalidStateError where `f` is done (`Future.set_exception`); TypeError of a
 /// CancelledError.
 pub fn fail<X: Extra>(
-    body: &mut Body<X>,
+    body: &mut RunState<X>,
     alloc: Global,
     future: &Value,
     fault: &Value,
@@ -67,7 +67,7 @@ fn failed_with(fault: Option<Exc>) -> Option<Outcome>
 
 // A done future is refused.
 fn settle<X: Extra>(
-    body: &mut Body<X>,
+    body: &mut RunState<X>,
     alloc: Global,
     future: &Value,
     outcome: Option<Outcome>,
@@ -91,7 +91,11 @@ fn settle<X: Extra>(
 }
 
 /// `done(x)`.
-pub fn is_done<X: Extra>(body: &Body<X>, alloc: Global, x: &Value) -> Result<RequestReply, Memory>
+pub fn is_done<X: Extra>(
+    body: &RunState<X>,
+    alloc: Global,
+    x: &Value,
+) -> Result<RequestReply, Memory>
     ensures { (task : ℕ) → Serves X.added task (request.IsDone x.now) body.now body.now result }
 {
     match body.as_awaited(x) {
@@ -102,7 +106,7 @@ pub fn is_done<X: Extra>(body: &Body<X>, alloc: Global, x: &Value) -> Result<Req
 
 /// `cancelled(x)`.
 pub fn is_cancelled<X: Extra>(
-    body: &Body<X>,
+    body: &RunState<X>,
     alloc: Global,
     x: &Value,
 ) -> Result<RequestReply, Memory>
@@ -116,7 +120,11 @@ pub fn is_cancelled<X: Extra>(
 }
 
 /// `result(x)`. InvalidStateError where `x` is pending (`Future.result`).
-pub fn result_of<X: Extra>(body: &Body<X>, alloc: Global, x: &Value) -> Result<RequestReply, Memory>
+pub fn result_of<X: Extra>(
+    body: &RunState<X>,
+    alloc: Global,
+    x: &Value,
+) -> Result<RequestReply, Memory>
     ensures { (task : ℕ) → Serves X.added task (request.ResultOf x.now) body.now body.now result }
 {
     let Some(on) = body.as_awaited(x) else {

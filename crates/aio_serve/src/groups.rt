@@ -8,19 +8,19 @@ ghost use Rattle.model_machine.specs.Replies.{decides};
 ghost use Rattle.model_machine.specs.State.{State, Leaving, in_loop};
 ghost use Rattle.aio_group.specs.declared.exit.GroupExit.TheVariants.{Waits};
 ghost use Rattle.aio_body.specs.Asked.{SomeGoes, Serves, IsDeciding, Says, IsAskingFor, IsGoing};
-ghost use Rattle.aio_body.specs.Stands.{Setting, Possible};
+ghost use Rattle.aio_body.specs.Stands.{Context, Possible};
 ghost use Rattle.aio_body.specs.Taken.{IsTaken, IsAfterCallback};
 ghost use Rattle.aio_serve.specs.GoneOn.{GoneOn};
 
 use aio_base::{Exc, Input, Memory, Value, ValueList};
-use aio_body::{Body, MOST_IDS, Near, RequestReply, as_group, bad_argument, out_of_range};
+use aio_body::{MOST_IDS, Near, RequestReply, RunState, as_group, bad_argument, out_of_range};
 use aio_extra::Extra;
 use aio_group::GroupExit;
 use std::alloc::Global;
 
 /// The group is made and entered at once.
 pub fn enter_group<X: Extra>(
-    body: &mut Body<X>,
+    body: &mut RunState<X>,
     alloc: Global,
     task: u32,
 ) -> Result<RequestReply, Memory>
@@ -37,7 +37,7 @@ pub fn enter_group<X: Extra>(
 
 /// The end of a `with group`, with the exception that leaves it (`TaskGroup.__aexit__`).
 pub fn exit_group<X: Extra>(
-    body: &mut Body<X>,
+    body: &mut RunState<X>,
     alloc: Global,
     task: u32,
     group: &Value,
@@ -54,7 +54,7 @@ pub fn exit_group<X: Extra>(
 }
 
 // An exit that waits suspends its task.
-fn go_on<X: Extra>(body: &mut Body<X>, task: u32, group: u32, exit: GroupExit) -> RequestReply
+fn go_on<X: Extra>(body: &mut RunState<X>, task: u32, group: u32, exit: GroupExit) -> RequestReply
     requires idle { body.old.parts.called ≡ None }
     requires running { body.old.parts.running ≡ Some task }
     requires within { task < length body.old.slots.items }
@@ -66,7 +66,7 @@ fn go_on<X: Extra>(body: &mut Body<X>, task: u32, group: u32, exit: GroupExit) -
         GroupExit::Waits(future) => {
             let _suspension = body.parts.suspend(task, future);
             body.stand(task, Near::Leaving(group));
-            RequestReply::Rests
+            RequestReply::Suspends
         }
         GroupExit::Passes => RequestReply::Answers(Value::nothing()),
         GroupExit::Raises(fault) => RequestReply::Raises(fault),
@@ -75,7 +75,7 @@ fn go_on<X: Extra>(body: &mut Body<X>, task: u32, group: u32, exit: GroupExit) -
 
 /// `create(g, NAME, ..)`. RuntimeError where the group takes no task (`TaskGroup.create_task`).
 pub fn create<X: Extra>(
-    body: &mut Body<X>,
+    body: &mut RunState<X>,
     alloc: Global,
     group: &Value,
     coroutine: u32,
@@ -103,7 +103,7 @@ pub fn create<X: Extra>(
 
 /// The exit of a group goes on after its wait.
 pub fn leave_group<X: Extra>(
-    body: &mut Body<X>,
+    body: &mut RunState<X>,
     alloc: Global,
     task: u32,
     group: u32,
@@ -111,7 +111,7 @@ pub fn leave_group<X: Extra>(
 ) -> Result<RequestReply, Memory>
     requires { Possible X.added (IsDeciding task (Leaving group)) body.old }
     ensures { IfOk result
-        (λ said. (c : Setting X.added) (s : State X.added.Kept)
+        (λ said. (c : Context X.added) (s : State X.added.Kept)
         → IsDeciding task (Leaving group) c body.old s
         → Says task c body.new said (decides X.added.meaning (Leaving group) task input s)) }
 {
@@ -122,9 +122,9 @@ pub fn leave_group<X: Extra>(
 }
 
 /// A task of a group is done.
-pub fn child_done<X: Extra>(body: &mut Body<X>, group: u32, task: u32)
+pub fn child_done<X: Extra>(body: &mut RunState<X>, group: u32, task: u32)
     requires { Possible X.added (IsTaken (GroupDone group task)) body.old }
-    ensures { (c : Setting X.added) (s : State X.added.Kept)
+    ensures { (c : Context X.added) (s : State X.added.Kept)
         → IsTaken (GroupDone group task) c body.old s
         → IsAfterCallback c body.new (in_loop (child_done group task) s) }
 {

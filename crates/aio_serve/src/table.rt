@@ -8,7 +8,7 @@ ghost use Rattle.aio_serve.specs.Own.{is_lent, is_own};
 
 use crate::{added, futures, groups, tasks, time, timeouts, waiting};
 use aio_base::{Memory, Request, Value};
-use aio_body::{Body, RequestReply, or_stop};
+use aio_body::{RequestReply, RunState, or_stop};
 use aio_extra::Extra;
 use aio_streaming as streaming;
 use aio_wire::{Stop, Wire};
@@ -16,7 +16,7 @@ use std::alloc::Global;
 
 /// Serves a request of the task whose step goes on. It may ask the outside.
 pub fn reply<W: Wire, X: Extra>(
-    body: &mut Body<X>,
+    body: &mut RunState<X>,
     alloc: Global,
     wire: &mut W,
     task: u32,
@@ -66,14 +66,14 @@ fn is_own(request: &Request) -> bool
 
 // A request on listeners, connections and children, or one that is added.
 fn serve_beside<W: Wire, X: Extra>(
-    body: &mut Body<X>,
+    body: &mut RunState<X>,
     alloc: Global,
     wire: &mut W,
     task: u32,
     request: &Request,
 ) -> Result<RequestReply, Stop>
     requires asked { Possible X.added (IsAskingFor task request.now) body.old }
-    requires beside { is_own request.now ≡ false }
+    requires frame { is_own request.now ≡ false }
     ensures { Comes W.outside (serving X.added task request.now body.old body.new)
         (ported wire.old body.old.events) (ported wire.new body.new.events) result }
 {
@@ -118,7 +118,7 @@ fn serve_beside<W: Wire, X: Extra>(
 
 // A request of the loop's own, none of which asks the outside.
 fn serve<X: Extra>(
-    body: &mut Body<X>,
+    body: &mut RunState<X>,
     alloc: Global,
     task: u32,
     request: Request,
@@ -143,7 +143,7 @@ fn serve<X: Extra>(
 
 // One that keeps nothing of its arguments.
 fn serve_lent<X: Extra>(
-    body: &mut Body<X>,
+    body: &mut RunState<X>,
     alloc: Global,
     task: u32,
     request: &Request,

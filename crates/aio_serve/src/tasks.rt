@@ -8,13 +8,13 @@ ghost use Rattle.aio_body.specs.Asked.{SomeGoes, Serves};
 ghost use Rattle.aio_body.specs.Stands.{Possible};
 
 use aio_base::{Memory, Value, ValueList};
-use aio_body::{Body, MOST_IDS, RequestReply, as_task, bad_argument, out_of_range};
+use aio_body::{MOST_IDS, RequestReply, RunState, as_task, bad_argument, out_of_range};
 use aio_extra::Extra;
 use std::alloc::Global;
 
 /// `cancel(x)`: whether there was anything to cancel (`Task.cancel`, `Future.cancel`).
 pub fn cancel<X: Extra>(
-    body: &mut Body<X>,
+    body: &mut RunState<X>,
     alloc: Global,
     x: &Value,
 ) -> Result<RequestReply, Memory>
@@ -29,7 +29,7 @@ pub fn cancel<X: Extra>(
 
 /// `cancelling(t)`.
 pub fn cancelling<X: Extra>(
-    body: &Body<X>,
+    body: &RunState<X>,
     alloc: Global,
     x: &Value,
 ) -> Result<RequestReply, Memory>
@@ -44,7 +44,7 @@ pub fn cancelling<X: Extra>(
 
 /// `uncancel(t)`: the count after it.
 pub fn uncancel<X: Extra>(
-    body: &mut Body<X>,
+    body: &mut RunState<X>,
     alloc: Global,
     x: &Value,
 ) -> Result<RequestReply, Memory>
@@ -59,7 +59,7 @@ pub fn uncancel<X: Extra>(
 
 /// `spawn(NAME, ..)`. OverflowError where no more tasks can be numbered.
 pub fn spawn<X: Extra>(
-    body: &mut Body<X>,
+    body: &mut RunState<X>,
     alloc: Global,
     coroutine: u32,
     arguments: &ValueList,

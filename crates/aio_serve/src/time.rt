@@ -7,13 +7,13 @@ ghost use Rattle.aio_body.specs.Stands.{Possible};
 
 use crate::tasks::number;
 use aio_base::{Blob, Memory, Value, ValueList, show};
-use aio_body::{Body, RequestReply};
+use aio_body::{RequestReply, RunState};
 use aio_extra::Extra;
 use aio_wire::Event;
 use std::alloc::Global;
 
 /// `time()`, in milliseconds from the run's beginning.
-pub fn time_now<X: Extra>(body: &Body<X>) -> RequestReply
+pub fn time_now<X: Extra>(body: &RunState<X>) -> RequestReply
     requires { Possible X.added SomeGoes body.now }
     ensures { (task : ℕ) → Serves X.added task request.Time body.now body.now (Ok result) }
 {
@@ -22,7 +22,7 @@ pub fn time_now<X: Extra>(body: &Body<X>) -> RequestReply
 
 /// `print`: notes what the task says.
 pub fn print<X: Extra>(
-    body: &mut Body<X>,
+    body: &mut RunState<X>,
     alloc: Global,
     task: u32,
     values: &ValueList,

@@ -3,26 +3,28 @@ ghost use Rattle.std.specs.Prelude.{◌≡◌, ℕ, Ok, IfOk};
 ghost use Rattle.model_value.specs.declared.action.Action.TheVariants.{Fires};
 ghost use Rattle.model_value.specs.declared.request.Request.TheVariants as request;
 ghost use Rattle.model_loop.specs.Loop.{Loop};
-ghost use Rattle.model_loop.specs.Timeouts.{fire, has_expired, reschedule_fault, timeout_of};
+ghost use Rattle.model_loop.specs.Timeouts.{fire, has_expired, reschedule_exception, timeout_of};
 ghost use Rattle.model_machine.specs.State.{State, in_loop};
-ghost use Rattle.aio_task.specs.Keeps.{Ties};
+ghost use Rattle.aio_task.specs.Keeps.{NameMap};
 ghost use Rattle.aio_timeout.specs.Kept.{AreTimeouts};
 ghost use Rattle.aio_timeout.specs.States.{state_of};
 ghost use Rattle.aio_body.specs.declared.reply.RequestReply.TheVariants.{Raises};
 ghost use Rattle.aio_body.specs.Asked.{SomeGoes, Serves, IsAskingFor, IsGoing};
-ghost use Rattle.aio_body.specs.Stands.{Setting, Possible};
+ghost use Rattle.aio_body.specs.Stands.{Context, Possible};
 ghost use Rattle.aio_body.specs.Taken.{IsTaken, IsAfterCallback};
 ghost use Rattle.aio_serve.specs.Left.{left_as};
 
 use aio_base::{Exc, Memory, Value};
-use aio_body::{Body, MOST_IDS, RequestReply, as_delay, as_timeout, bad_argument, out_of_range};
+use aio_body::{
+    MOST_IDS, RequestReply, RunState, as_delay, as_timeout, bad_argument, out_of_range,
+};
 use aio_extra::Extra;
-use aio_timeout::{Rescheduled, TimeoutExit, TimeoutState, timeout_fault};
+use aio_timeout::{Rescheduled, TimeoutExit, TimeoutState, timeout_exception};
 use std::alloc::Global;
 
 /// The beginning of a `with timeout(delay)`, in milliseconds or None (`Timeout.__aenter__`).
 pub fn enter_timeout<X: Extra>(
-    body: &mut Body<X>,
+    body: &mut RunState<X>,
     alloc: Global,
     task: u32,
     delay: &Value,
@@ -44,7 +46,7 @@ pub fn enter_timeout<X: Extra>(
 
 /// The end of that block, with the exception that leaves it. TimeoutError by `Timeout.__aexit__`.
 pub fn exit_timeout<X: Extra>(
-    body: &mut Body<X>,
+    body: &mut RunState<X>,
     alloc: Global,
     task: u32,
     timeout: &Value,
@@ -67,13 +69,13 @@ fn left(exit: TimeoutExit) -> RequestReply
 {
     match exit {
         TimeoutExit::Passes => RequestReply::Answers(Value::nothing()),
-        TimeoutExit::TimedOut => RequestReply::Raises(timeout_fault()),
+        TimeoutExit::TimedOut => RequestReply::Raises(timeout_exception()),
     }
 }
 
 /// A value may name a timeout that was not made: such a one is finished.
 pub fn reschedule<X: Extra>(
-    body: &mut Body<X>,
+    body: &mut RunState<X>,
     alloc: Global,
     timeout: &Value,
     when: &Value,
@@ -101,14 +103,14 @@ pub fn reschedule<X: Extra>(
 }
 
 fn refused(alloc: Global, state: TimeoutState) -> Result<RequestReply, Memory>
-    ensures { IfOk result (λ said. said ≡ Raises (reschedule_fault (state_of state))) }
+    ensures { IfOk result (λ said. said ≡ Raises (reschedule_exception (state_of state))) }
 {
     Ok(RequestReply::Raises(state.fault(alloc)?))
 }
 
 /// `expired(o)`.
 pub fn expired<X: Extra>(
-    body: &Body<X>,
+    body: &RunState<X>,
     alloc: Global,
     timeout: &Value,
 ) -> Result<RequestReply, Memory>
@@ -121,8 +123,8 @@ pub fn expired<X: Extra>(
     }
 }
 
-fn has_expired<X: Extra>(body: &Body<X>, id: u32) -> bool
-    ensures { (t : Ties) (l : Loop) → AreTimeouts t l.parts body.now.timeouts l.timeouts
+fn has_expired<X: Extra>(body: &RunState<X>, id: u32) -> bool
+    ensures { (t : NameMap) (l : Loop) → AreTimeouts t l.parts body.now.timeouts l.timeouts
         → result ≡ has_expired (timeout_of l id).state }
 {
     if id as usize >= body.timeouts.count() {
@@ -132,9 +134,9 @@ fn has_expired<X: Extra>(body: &Body<X>, id: u32) -> bool
 }
 
 /// The time of a timeout is over.
-pub fn fire<X: Extra>(body: &mut Body<X>, timeout: u32)
+pub fn fire<X: Extra>(body: &mut RunState<X>, timeout: u32)
     requires { Possible X.added (IsTaken (Fires timeout)) body.old }
-    ensures { (c : Setting X.added) (s : State X.added.Kept) → IsTaken (Fires timeout) c body.old s
+    ensures { (c : Context X.added) (s : State X.added.Kept) → IsTaken (Fires timeout) c body.old s
         → IsAfterCallback c body.new (in_loop (fire timeout) s) }
 {
     body.timeouts.fire(timeout, &mut body.parts);

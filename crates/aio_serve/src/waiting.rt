@@ -7,7 +7,7 @@ ghost use Rattle.aio_serve.specs.Alarm.{IsAlarmed};
 ghost use Rattle.aio_body.specs.Stands.{Possible};
 
 use aio_base::{Action, Memory, Value};
-use aio_body::{Body, RequestReply, Standing, as_int, bad_argument, replied};
+use aio_body::{RequestReply, ResumePoint, RunState, as_int, bad_argument, replied};
 use aio_extra::Extra;
 use aio_task::{FutureId, TimerId};
 use std::alloc::Global;
@@ -16,17 +16,17 @@ use std::alloc::Global;
 const MOST: u64 = 0x7FFF_FFFF_FFFF_FFFF;
 
 /// A bare `yield`.
-pub fn pause<X: Extra>(body: &mut Body<X>, task: u32) -> RequestReply
+pub fn pause<X: Extra>(body: &mut RunState<X>, task: u32) -> RequestReply
     requires { Possible X.added (IsGoing task) body.old }
     ensures { Replies X.added task (pauses task) body.old body.new (Ok result) }
 {
     body.parts.pause(task);
-    RequestReply::Rests
+    RequestReply::Suspends
 }
 
 /// What is done is awaited at once.
 pub fn await_value<X: Extra>(
-    body: &mut Body<X>,
+    body: &mut RunState<X>,
     alloc: Global,
     task: u32,
     x: &Value,
@@ -41,12 +41,12 @@ pub fn await_value<X: Extra>(
         return replied(outcome);
     }
     let _suspension = body.parts.suspend(task, on);
-    Ok(RequestReply::Rests)
+    Ok(RequestReply::Suspends)
 }
 
 /// A sleep of 0 or less is a bare `yield`.
 pub fn sleep<X: Extra>(
-    body: &mut Body<X>,
+    body: &mut RunState<X>,
     alloc: Global,
     task: u32,
     delay: &Value,
@@ -62,7 +62,7 @@ pub fn sleep<X: Extra>(
 }
 
 fn sleep_for<X: Extra>(
-    body: &mut Body<X>,
+    body: &mut RunState<X>,
     alloc: Global,
     task: u32,
     delay: u64,
@@ -72,13 +72,13 @@ fn sleep_for<X: Extra>(
 {
     let (timer, future) = alarm(body, alloc, task, delay)?;
     let _suspension = body.parts.suspend(task, future);
-    body.stand_far(task, Standing::Sleeping { timer, future })?;
-    Ok(RequestReply::Rests)
+    body.stand_far(task, ResumePoint::Sleeping { timer, future })?;
+    Ok(RequestReply::Suspends)
 }
 
 // A future of a sleep, which a timer's handle will resolve.
 fn alarm<X: Extra>(
-    body: &mut Body<X>,
+    body: &mut RunState<X>,
     alloc: Global,
     task: u32,
     delay: u64,

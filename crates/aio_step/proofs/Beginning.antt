@@ -13,15 +13,15 @@ use Rattle.model_machine.specs.State as plain
 use Rattle.model_machine.specs.State.{Generator, State, generator_of, stands}
 use Rattle.law_cancel.proofs.Lookups.{get-set_same, get-set_other}
 use Rattle.law_steps.proofs.CancelSound.{plain_within}
-use Rattle.aio_task.specs.Keeps.{let_go}
+use Rattle.aio_task.specs.Keeps.{release}
 use Rattle.aio_extra.specs.Added.{Added, GoesBeside, named_in}
-use Rattle.aio_body.specs.declared.body.Body.{Body}
+use Rattle.aio_body.specs.declared.run_state.RunState.{RunState}
 use Rattle.aio_gen.specs.declared.generator.Gen.{Gen}
-use Rattle.aio_body.specs.declared.standing.Slot.{Slot}
-use Rattle.aio_body.specs.declared.standing.Standing.TheVariants.{Asked}
-use Rattle.aio_body.specs.GivingUp.{let_go_of}
+use Rattle.aio_body.specs.declared.resume_point.Slot.{Slot}
+use Rattle.aio_body.specs.declared.resume_point.ResumePoint.TheVariants.{Asked}
+use Rattle.aio_body.specs.GivingUp.{release_of}
 use Rattle.aio_body.specs.Slots.{no_slot}
-use Rattle.aio_body.specs.Stands.{Setting, Stands, IsOwnSleep, StandsAt, HasSlot, WaitsAs, coroutine_in, holding}
+use Rattle.aio_body.specs.Stands.{Context, Stands, IsOwnSleep, StandsAt, HasSlot, WaitsAs, coroutine_in, holding}
 use Rattle.aio_body.proofs.Blocks.{blocks_released}
 use Rattle.aio_body.proofs.Kept.{keeps_release}
 use Rattle.aio_body.proofs.Lasting.{parts_change}
@@ -37,7 +37,7 @@ change_revoke id change tag p = at (slice_get p.tasks id)
     at None = refl
     at (Some t) = refl
 
--- ---- a future is let go
+-- ---- a future is released
 own_for : (p : Parts) (named : ℕ → Type 0) (task id : ℕ) → IsOwnSleep p named (Some task) id → waiter_of p task ≡ None → IsOwnSleep p named None id
 own_for p named task id own none = record {
   plain = own.plain;
@@ -52,24 +52,24 @@ own_for p named task id own none = record {
     at other e same = let n = subst (λ k. waiter_of p k ≡ None) same none in absurd (cc)
 
 module _ {X : Type 0} {a : Added X} where
-  pub stands_released : (out : Option ℕ) (c : Setting a) (body : Body X) (s : State a.Kept) (task id : ℕ) → (h : Stands out c body s)
+  pub stands_released : (out : Option ℕ) (c : Context a) (body : RunState X) (s : State a.Kept) (task id : ℕ) → (h : Stands out c body s)
       → OwnsFutures s.loop.parts → IsOwnSleep s.loop.parts (named_in a s) (Some task) id → waiter_of s.loop.parts task ≡ None
-      → is_pending s.loop.parts id ≡ false → Stands out c (record body { parts = let_go_of id body.parts }) s
+      → is_pending s.loop.parts id ≡ false → Stands out c (record body { parts = release_of id body.parts }) s
   stands_released out c body s task id h owns own none done =
-      parts_change out c body s (let_go id h.ties) (let_go_of id body.parts) body.timeouts body.groups body.extra s.loop s.extra c.left c.bar h (record {
-        keeps = keeps_release h.ties body.parts s.loop.parts h.keeps id (plain_within s.loop.parts id own.plain).1 done;
-        blocks = blocks_released h.ties body.timeouts body.groups s.loop id owns own.plain h.blocks;
+      parts_change out c body s (release id h.name_map) (release_of id body.parts) body.timeouts body.groups body.extra s.loop s.extra c.left c.bar h (record {
+        keeps = keeps_release h.name_map body.parts s.loop.parts h.keeps id (plain_within s.loop.parts id own.plain).1 done;
+        blocks = blocks_released h.name_map body.timeouts body.groups s.loop id owns own.plain h.blocks;
         tasks = refl;
         living = λ other l. l;
         knows = λ tag timer k. record { given = k.given; known = k.known };
         own = λ sleeper other sleeps. sleeps;
-        gone = λ other e. gone_go other (or_cases (h.ties.gone other) (other == id) e);
+        gone = λ other e. gone_go other (or_cases (h.name_map.gone other) (other == id) e);
         time = h.time;
         counts = h.counts;
-        extra = a.goes_on h.ties (let_go id h.ties) s.loop.parts s.loop.parts body.extra s.extra h.extra beside;
+        extra = a.goes_on h.name_map (release id h.name_map) s.loop.parts s.loop.parts body.extra s.extra h.extra frame;
       }) h.left h.bar refl
     where
-      gone_go : (other : ℕ) → (h.ties.gone other ≡ true) ⊎ ((other == id) ≡ true) → IsOwnSleep s.loop.parts (named_in a s) None other
+      gone_go : (other : ℕ) → (h.name_map.gone other ≡ true) ⊎ ((other == id) ≡ true) → IsOwnSleep s.loop.parts (named_in a s) None other
       gone_go other (inl e) = h.gone other e
       gone_go other (inr e) =
           subst (λ k. IsOwnSleep s.loop.parts (named_in a s) None k) (sym (eqb-true other id e)) (own_for s.loop.parts (named_in a s) task id own none)
@@ -79,25 +79,25 @@ module _ {X : Type 0} {a : Added X} where
       or_none false = refl
 
       -- it is no own one of what is added
-      beside : GoesBeside (a.owns s.extra) h.ties s.loop.parts (let_go id h.ties) s.loop.parts
-      beside = record {
+      frame : GoesBeside (a.owns s.extra) h.name_map s.loop.parts (release id h.name_map) s.loop.parts
+      frame = record {
         known = λ tag k. refl;
         tags = omega arith;
         gone = λ other mine.
-            ap (λ b. h.ties.gone other || b) (ne_eqb other id (λ same. own.unnamed (inr (inl (subst (a.owns s.extra) same mine)))))
-            ∙ or_none (h.ties.gone other);
+            ap (λ b. h.name_map.gone other || b) (ne_eqb other id (λ same. own.unnamed (inr (inl (subst (a.owns s.extra) same mine)))))
+            ∙ or_none (h.name_map.gone other);
         futures = omega arith;
         plain = λ other e. e;
         owners = λ other k. refl;
       }
 
   -- ---- the coroutine is taken out
-  pub stands_taken : (c : Setting a) (old new : Body X) (s : State a.Kept) (task : ℕ) (slot : Slot) (coroutine : Gen) → (h : Stands None c old s)
+  pub stands_taken : (c : Context a) (old new : RunState X) (s : State a.Kept) (task : ℕ) (slot : Slot) (coroutine : Gen) → (h : Stands None c old s)
       → slice_get old.slots.items task ≡ Some slot → slot.coroutine ≡ Some coroutine → task < next_task s.loop.parts
       → new ≡ record old { slots = new.slots } → new.slots.items ≡ slice_set old.slots.items task no_slot
       → Stands (Some task) (holding coroutine c) new (stands plain.Asked task s)
-  stands_taken c old new s task slot coroutine h there its within beside items =
-      slots_change task None (Some task) c (Some coroutine) old new s now.generators h beside (record {
+  stands_taken c old new s task slot coroutine h there its within frame items =
+      slots_change task None (Some task) c (Some coroutine) old new s now.generators h frame (record {
         slots = ap length items ∙ length-set old.slots.items task no_slot;
         generators = set_length task it s;
         found = λ other n. ap (λ (xs : List Slot). slice_get xs other) items ∙ get-set_other old.slots.items task other no_slot n;
@@ -106,7 +106,7 @@ module _ {X : Type 0} {a : Added X} where
       }) own
     where
       it : Generator
-      it = record (generator_of task s) { standing = plain.Asked }
+      it = record (generator_of task s) { resume_point = plain.Asked }
 
       now : State a.Kept
       now = stands plain.Asked task s
@@ -117,8 +117,8 @@ module _ {X : Type 0} {a : Added X} where
       some_is : (a b : Slot) → Some a ≡ Some b → a ≡ b
       some_is a b e = cc
 
-      own : lives s.loop.parts task ≡ true → HasSlot a None c.coroutine h.ties old.code old.slots.items s task
-          → HasSlot a (Some task) (Some coroutine) h.ties old.code new.slots.items now task
+      own : lives s.loop.parts task ≡ true → HasSlot a None c.coroutine h.name_map old.code old.slots.items s task
+          → HasSlot a (Some task) (Some coroutine) h.name_map old.code new.slots.items now task
       own l was = record {
         slot = no_slot;
         found = ap (λ (xs : List Slot). slice_get xs task) items ∙ get-set_same old.slots.items task slot no_slot there;
@@ -128,7 +128,7 @@ module _ {X : Type 0} {a : Added X} where
               (subst (λ b. WaitsAs s.program old.code it (coroutine_in b (Some coroutine) None)) (sym (runs_itself task))
               (subst (λ o. WaitsAs s.program old.code (generator_of task s) o)
               (ap (λ (x : Slot). x.coroutine) (some_is was.slot slot (sym was.found ∙ there)) ∙ its) was.right.waits));
-          standing =
-              subst (λ (g : Generator). StandsAt h.ties s.loop.parts (named_in a s) task Asked g.standing) (sym (set_same task it s inside)) tt;
+          resume_point =
+              subst (λ (g : Generator). StandsAt h.name_map s.loop.parts (named_in a s) task Asked g.resume_point) (sym (set_same task it s inside)) tt;
         };
       }

@@ -13,13 +13,13 @@ use Rattle.law_replies.specs.InStep.{IsAsked, RepliesInStep}
 use Rattle.law_runs.proofs.Beginning.{begins_in, begun_asked, stepped_lives}
 use Rattle.law_steps.proofs.Waiting.{task_there}
 use Rattle.aio_extra.specs.Added.{Added}
-use Rattle.aio_body.specs.declared.body.Body.{Body}
-use Rattle.aio_body.specs.declared.standing.Slot.{Slot}
-use Rattle.aio_body.specs.Stands.{Setting, HasSlot}
+use Rattle.aio_body.specs.declared.run_state.RunState.{RunState}
+use Rattle.aio_body.specs.declared.resume_point.Slot.{Slot}
+use Rattle.aio_body.specs.Stands.{Context, HasSlot}
 use Rattle.aio_step.specs.Stepping.{IsCalled, HearsMade, begun_by, begun_in}
 use Rattle.aio_body.proofs.Sound.{extra_sound}
 
-module _ {X : Type 0} {a : Added X} (task : ℕ) (c : Setting a) (body : Body X) (s : State a.Kept) (h : IsCalled task c body s) where
+module _ {X : Type 0} {a : Added X} (task : ℕ) (c : Context a) (body : RunState X) (s : State a.Kept) (h : IsCalled task c body s) where
   lived : lives h.before.loop.parts task ≡ true
   lived = stepped_lives a.meaning h.before task (Send Nothing) h.handle h.rest h.pending h.live h.steps h.sound
 
@@ -33,7 +33,7 @@ module _ {X : Type 0} {a : Added X} (task : ℕ) (c : Setting a) (body : Body X)
   called_slot = subst (λ n. task < n) (sym h.stands.made) called_within
 
   -- ---- its slot
-  abbrev pub own_slot : HasSlot a None c.coroutine h.stands.ties body.code body.slots.items s task
+  abbrev pub own_slot : HasSlot a None c.coroutine h.stands.name_map body.code body.slots.items s task
   own_slot = h.stands.held task called_lives
 
   some_is : (a b : Slot) → Some a ≡ Some b → a ≡ b
@@ -46,32 +46,32 @@ module _ {X : Type 0} {a : Added X} (task : ℕ) (c : Setting a) (body : Body X)
   pub called_asking : IsAsking a.meaning h.before task
   called_asking = h.sound.asking task lived refl
 
-  pub called_asked : (input : Input) → IsAsked a.meaning task (generator_of task s).standing called_asking.asked (begun_in task input s)
+  pub called_asked : (input : Input) → IsAsked a.meaning task (generator_of task s).resume_point called_asking.asked (begun_in task input s)
   called_asked input =
-      subst (λ (x : State a.Kept). IsAsked a.meaning task (generator_of task x).standing called_asking.asked (begun_in task input x)) (sym h.after)
+      subst (λ (x : State a.Kept). IsAsked a.meaning task (generator_of task x).resume_point called_asking.asked (begun_in task input x)) (sym h.after)
       (begun_asked a.meaning h.before task input h.handle h.rest h.pending h.live h.steps h.sound called_asking.asked called_asking.says)
 
   -- a group at whose exit it stands goes on being left
-  pub called_leaving : (input : Input) (id : ℕ) → (generator_of task s).standing ≡ plain.Leaving id → IsLeft (begun_in task input s) id
+  pub called_leaving : (input : Input) (id : ℕ) → (generator_of task s).resume_point ≡ plain.Leaving id → IsLeft (begun_in task input s) id
   called_leaving input =
-      subst (λ (x : State a.Kept). (id : ℕ) → (generator_of task x).standing ≡ plain.Leaving id → IsLeft (begun_in task input x) id) (sym h.after)
-      (h.sound.standing task lived refl).leaving_now
+      subst (λ (x : State a.Kept). (id : ℕ) → (generator_of task x).resume_point ≡ plain.Leaving id → IsLeft (begun_in task input x) id) (sym h.after)
+      (h.sound.resume_point task lived refl).leaving_now
 
   -- what it stands at was opened
-  pub called_opened : (input : Input) → IsOpenedAt (begun_in task input s).streams (generator_of task s).standing
+  pub called_opened : (input : Input) → IsOpenedAt (begun_in task input s).streams (generator_of task s).resume_point
   called_opened input =
-      subst (λ (x : State a.Kept). IsOpenedAt (begun_in task input x).streams (generator_of task x).standing) (sym h.after)
-      (h.sound.standing task lived refl).opened
+      subst (λ (x : State a.Kept). IsOpenedAt (begun_in task input x).streams (generator_of task x).resume_point) (sym h.after)
+      (h.sound.resume_point task lived refl).opened
 
   same_count : length body.slots.items ≡ next_task h.before.loop.parts
   same_count = h.stands.made ∙ ap (λ (x : State a.Kept). next_task x.loop.parts) h.after
 
   -- what the input means is sound
   pub called_sound : (input : Input) → HearsMade input body
-      → RepliesInStep a.meaning true task (decides a.meaning (generator_of task s).standing task (begun_by task input s).input (begun_in task input s))
+      → RepliesInStep a.meaning true task (decides a.meaning (generator_of task s).resume_point task (begun_by task input s).input (begun_in task input s))
   called_sound input made =
       subst (λ (x : State a.Kept).
-      RepliesInStep a.meaning true task (decides a.meaning (generator_of task x).standing task (begun_by task input x).input (begun_in task input x)))
+      RepliesInStep a.meaning true task (decides a.meaning (generator_of task x).resume_point task (begun_by task input x).input (begun_in task input x)))
       (sym h.after)
       (begins_in a.meaning h.before task input h.handle h.rest h.pending h.live h.steps h.sound (extra_sound a)
       (ap (λ n. sends_made n input) (sym same_count) ∙ made))

@@ -17,18 +17,18 @@ use Rattle.aio_body.proofs.Asking.{come_none, comes_alone, comes_ends, comes_goe
 use Rattle.aio_body.specs.Asked.{IsDeciding, Says}
 use Rattle.aio_body.specs.Asking.{Comes, or_stop}
 use Rattle.aio_body.specs.Outcomes.{reply_of}
-use Rattle.aio_body.specs.Stands.{Setting}
-use Rattle.aio_body.specs.declared.body.Body.{Body}
+use Rattle.aio_body.specs.Stands.{Context}
+use Rattle.aio_body.specs.declared.run_state.RunState.{RunState}
 use Rattle.aio_body.specs.declared.reply.RequestReply.{RequestReply}
-use Rattle.aio_body.specs.declared.standing.Standing.{Standing}
-use Rattle.aio_body.specs.declared.standing.Standing.TheVariants.{Asked, Sleeping}
+use Rattle.aio_body.specs.declared.resume_point.ResumePoint.{ResumePoint}
+use Rattle.aio_body.specs.declared.resume_point.ResumePoint.TheVariants.{Asked, Sleeping}
 use Rattle.aio_streaming.specs.Resuming.{resuming}
 use Rattle.aio_body.proofs.Growing.{decides_begins}
 use Rattle.aio_body.proofs.Unasked.{decides_told}
 use Rattle.aio_step.specs.Stepping.{DecidesAs, deciding}
 use Rattle.aio_step.proofs.First.{asked_decides, sleeping_decides}
 
-module _ {X W : Type 0} (a : Added X) (o : Outside W) (task : ℕ) (input : Input) (old : Body X) (wire : W) where
+module _ {X W : Type 0} (a : Added X) (o : Outside W) (task : ℕ) (input : Input) (old : RunState X) (wire : W) where
   -- the input answers what the coroutine asked
   pub heard_asked : Comes o (deciding a task Asked input old old) (ported wire old.events) (ported wire old.events) (Ok (reply_of input))
   heard_asked =
@@ -48,14 +48,14 @@ module _ {X W : Type 0} (a : Added X) (o : Outside W) (task : ℕ) (input : Inpu
       )))
 
   -- the machine's task stood at this alone
-  module _ (code : Standing) (stood : plain.Standing) (is : (other : plain.Standing) → DecidesAs code other → stood ≡ other) where
-    stood_there : (c : Setting a) (s : State a.Kept) (other : plain.Standing) → DecidesAs code other → IsDeciding task other c old s
+  module _ (code : ResumePoint) (stood : plain.ResumePoint) (is : (other : plain.ResumePoint) → DecidesAs code other → stood ≡ other) where
+    stood_there : (c : Context a) (s : State a.Kept) (other : plain.ResumePoint) → DecidesAs code other → IsDeciding task other c old s
         → IsDeciding task stood c old s
     stood_there c s other d h = subst (λ st. IsDeciding task st c old s) (sym (is other d)) h
 
     -- what it stood at goes on, and asks nothing
-    pub heard_alone : (new : Body X) (result : Result RequestReply Memory)
-        → IfOk result (λ said. (c : Setting a) (s : State a.Kept) → IsDeciding task stood c old s
+    pub heard_alone : (new : RunState X) (result : Result RequestReply Memory)
+        → IfOk result (λ said. (c : Context a) (s : State a.Kept) → IsDeciding task stood c old s
         → Says task c new said (decides a.meaning stood task input s))
         → (told : Result RequestReply Stop) → told ≡ or_stop result
         → Comes o (deciding a task code input old new) (ported wire old.events) (ported wire new.events) told
@@ -64,12 +64,12 @@ module _ {X W : Type 0} (a : Added X) (o : Outside W) (task : ℕ) (input : Inpu
         (comes_alone o (deciding a task code input old new) (ported wire old.events) (ported wire new.events)
         (λ c at h. decides_begins a.meaning task (c.past ++ old.events.events) at.0 h.0.in_step.stands.events at.1 input) result refl
         (IfOk-weaker result _ _ (λ said given c at h.
-        let says = subst (λ (st : plain.Standing). Says task c new said (decides a.meaning st task input at.0)) (is at.1 h.1)
+        let says = subst (λ (st : plain.ResumePoint). Says task c new said (decides a.meaning st task input at.0)) (is at.1 h.1)
         (given c at.0 (stood_there c at.0 at.1 h.1 h.0)) in
         (decides_told task c new old at.0 h.0.in_step said at.1 input says, says)) goes))
 
     -- it goes on, and may ask
-    pub heard_on : (new : Body X) (now : W) (result : Result RequestReply Stop)
+    pub heard_on : (new : RunState X) (now : W) (result : Result RequestReply Stop)
         → Comes o (resuming a task stood input old new) (ported wire old.events) (ported now new.events) result
         → Comes o (deciding a task code input old new) (ported wire old.events) (ported now new.events) result
     heard_on new now result goes =

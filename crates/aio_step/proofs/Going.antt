@@ -19,12 +19,12 @@ use Rattle.aio_exchange.specs.Among.{AreTold}
 use Rattle.aio_exchange.specs.Exchanged.{All, Exchange}
 use Rattle.aio_gen.specs.declared.generator.Gen.{Gen}
 use Rattle.aio_extra.specs.Added.{Added}
-use Rattle.aio_body.specs.declared.body.Body.{Body}
+use Rattle.aio_body.specs.declared.run_state.RunState.{RunState}
 use Rattle.aio_body.proofs.Asking.{HasCome, come_beside, come_none, come_then, comes_ends, comes_starved, comes_stops}
-use Rattle.aio_body.specs.Asked.{HasRested}
+use Rattle.aio_body.specs.Asked.{HasSuspended}
 use Rattle.aio_body.specs.Asking.{Comes, WentBegins}
 use Rattle.aio_body.specs.Slots.{put_back}
-use Rattle.aio_body.specs.Stands.{Setting, IsBetween, holding, Possible}
+use Rattle.aio_body.specs.Stands.{Context, IsBetween, holding, Possible}
 use Rattle.aio_body.proofs.Answering.{alive_come, in_step_again, step_again}
 use Rattle.aio_body.proofs.Slotting.{set_length, stands_back}
 use Rattle.aio_body.specs.Answers.{with_answers, with_rest}
@@ -32,25 +32,25 @@ use Rattle.model_wire.specs.Journal.{Entry}
 use Rattle.aio_step.specs.declared.steps.Stepped.{Stepped}
 use Rattle.aio_step.specs.declared.steps.Stepped.TheVariants as went
 use Rattle.aio_step.specs.Serving.{serving_once}
-use Rattle.aio_step.specs.declared.steps.Served.TheVariants.{Answered, Rests, Ended}
-use Rattle.aio_step.specs.Stepping.{IsServing, Steps, serving_on}
+use Rattle.aio_step.specs.declared.steps.Served.TheVariants.{Answered, Suspends, Ended}
+use Rattle.aio_step.specs.Stepping.{IsServing, TaskSteps, serving_on}
 use Rattle.aio_step.proofs.Resuming.{its_inside}
 use Rattle.aio_step.proofs.Serving.{LeadsTo, leads_begin, leads_end, leads_on, leads_same, once_begins}
 
 module _ {X : Type 0} {a : Added X} where
   -- the task's step has ended, and its coroutine is put back
-  pub back : (task : ℕ) (c : Setting a) (old new : Body X) (coroutine : Gen) (s : State a.Kept) → HasRested task (holding coroutine c) old s
+  pub back : (task : ℕ) (c : Context a) (old new : RunState X) (coroutine : Gen) (s : State a.Kept) → HasSuspended task (holding coroutine c) old s
       → IsStateSound a.meaning s → new ≡ record old { slots = new.slots } → new.slots.items ≡ put_back task coroutine old.slots.items
       → IsBetween c new s
-  back task c old new coroutine s rested sound beside items = record {
-    stands = stands_back c old new s task coroutine rested.stands beside items;
-    called = ap (λ (x : Body X). x.parts.called) beside ∙ rested.called;
-    running = ap (λ (x : Body X). x.parts.running) beside ∙ rested.running;
+  back task c old new coroutine s suspended sound frame items = record {
+    stands = stands_back c old new s task coroutine suspended.stands frame items;
+    called = ap (λ (x : RunState X). x.parts.called) frame ∙ suspended.called;
+    running = ap (λ (x : RunState X). x.parts.running) frame ∙ suspended.running;
     sound = sound;
   }
 
   -- whatever the outside has left to answer
-  pub serving_again : (answers : List Entry) (task : ℕ) (fresh : Bool) (input : Input) (coroutine : Gen) (c : Setting a) (body : Body X) (s : State a.Kept)
+  pub serving_again : (answers : List Entry) (task : ℕ) (fresh : Bool) (input : Input) (coroutine : Gen) (c : Context a) (body : RunState X) (s : State a.Kept)
       → IsServing task fresh input coroutine c body s → IsServing task fresh input coroutine (with_rest answers c) body (with_answers answers s)
   serving_again answers task fresh input coroutine c body s h = record {
     in_step = in_step_again answers (holding coroutine c) body s task h.in_step;
@@ -58,30 +58,31 @@ module _ {X : Type 0} {a : Added X} where
   }
 
   -- After some answers the step of the task, which began with `s`, goes on with this input.
-  pub record IsOn (task : ℕ) (first : Input) (s : State a.Kept) (fresh : Bool) (input : Input) (c : Setting a) (body : Body X) (coroutine : Gen) : Type 0 where
-    pub now : State a.Kept
-    pub serving : IsServing task fresh input coroutine c body now
-    pub within : task < length (resumed true task first s).generators
-    pub leads : LeadsTo a.meaning task (resumed true task first s) (resumed fresh task input now)
+  pub record IsOn (task : ℕ) (first : Input) (s : State a.Kept) (fresh : Bool) (input : Input) (c : Context a) (body : RunState X) (coroutine : Gen) : Type 0
+    where
+      pub now : State a.Kept
+      pub serving : IsServing task fresh input coroutine c body now
+      pub within : task < length (resumed true task first s).generators
+      pub leads : LeadsTo a.meaning task (resumed true task first s) (resumed fresh task input now)
 
   -- it has come to its end, and its coroutine isn't put back yet
-  pub record HasCeased (task : ℕ) (first : Input) (s : State a.Kept) (c : Setting a) (body : Body X) (coroutine : Gen) : Type 0 where
+  pub record HasCeased (task : ℕ) (first : Input) (s : State a.Kept) (c : Context a) (body : RunState X) (coroutine : Gen) : Type 0 where
     pub now : State a.Kept
-    pub rested : HasRested task (holding coroutine c) body now
+    pub suspended : HasSuspended task (holding coroutine c) body now
     pub made : task < length now.generators
     pub sound : IsStateSound a.meaning now
     pub goes : serve_all step_limit a.meaning task (resumed true task first s) ≡ Goes now
 
 -- the same, with whatever state it began, after some asks
-abbrev pub AreOn : {X W : Type 0} → (a : Added X) → Outside W → (task : ℕ) (first : Input) (old : Body X) (start : Gen) (was : W) (fresh : Bool)
-    (input : Input) (body : Body X) (coroutine : Gen) (is : W) → Type 0
+abbrev pub AreOn : {X W : Type 0} → (a : Added X) → Outside W → (task : ℕ) (first : Input) (old : RunState X) (start : Gen) (was : W) (fresh : Bool)
+    (input : Input) (body : RunState X) (coroutine : Gen) (is : W) → Type 0
 AreOn a o task first old start was fresh input body coroutine is =
     (had : List Exchange)
     × HasCome {At = State a.Kept} {a = a} o (λ c s. IsServing task true first start c old s) had (ported was old.events) (ported is body.events)
     (λ c s. IsOn task first s fresh input c body coroutine)
 
-module _ {X W : Type 0} (a : Added X) (o : Outside W) (task : ℕ) (first : Input) (old : Body X) (start : Gen) (was : W) where
-  abbrev From : Setting a → State a.Kept → Type 0
+module _ {X W : Type 0} (a : Added X) (o : Outside W) (task : ℕ) (first : Input) (old : RunState X) (start : Gen) (was : W) where
+  abbrev From : Context a → State a.Kept → Type 0
   From c s = IsServing task true first start c old s
 
   -- what the whole does
@@ -103,9 +104,9 @@ module _ {X W : Type 0} (a : Added X) (o : Outside W) (task : ℕ) (first : Inpu
         )),
   )
 
-  module _ (fresh : Bool) (input : Input) (body : Body X) (coroutine : Gen) (mid : W)
+  module _ (fresh : Bool) (input : Input) (body : RunState X) (coroutine : Gen) (mid : W)
       (on : AreOn a o task first old start was fresh input body coroutine mid) where
-    abbrev On : Setting a → State a.Kept → Type 0
+    abbrev On : Context a → State a.Kept → Type 0
     On c s = IsOn task first s fresh input c body coroutine
 
     pub on_serve : Possible a (IsServing task true first start) old → Possible a (IsServing task fresh input coroutine) body
@@ -115,7 +116,7 @@ module _ {X W : Type 0} (a : Added X) (o : Outside W) (task : ℕ) (first : Inpu
         (ported mid body.events) On on.1 may) (λ w. (w.0, (w.1.1.now, w.1.1.serving)))
 
     -- memory is refused
-    pub on_starved : (new : Body X) → Comes o (serving_on a task first start old new) (ported was old.events) (ported mid new.events) (Err stop.Memory)
+    pub on_starved : (new : RunState X) → Comes o (serving_on a task first start old new) (ported was old.events) (ported mid new.events) (Err stop.Memory)
     on_starved new =
         comes_starved o (serving_on a task first start old new) on.0 (ported was old.events) (ported mid body.events) (ported mid new.events) refl
         (record {
@@ -128,7 +129,7 @@ module _ {X W : Type 0} (a : Added X) (o : Outside W) (task : ℕ) (first : Inpu
               );
         })
 
-    module _ (new : Body X) (after : Gen) (is : W) where
+    module _ (new : RunState X) (after : Gen) (is : W) where
       pub on_next : (next : Input)
           → Comes o (serving_once a task fresh input coroutine after body new) (ported mid body.events) (ported is new.events) (Ok (Answered next))
           → AreOn a o task first old start was false next new after is
@@ -152,7 +153,7 @@ module _ {X W : Type 0} (a : Added X) (o : Outside W) (task : ℕ) (first : Inpu
           → Comes o (serving_on a task first start old new) (ported was old.events) (ported is new.events) (Err why)
       on_stop why once =
           comes_stops o From on.0 (ported was old.events) (ported mid body.events) (serving_once a task fresh input coroutine after body new)
-          (ported is new.events) (does, (Stops, (λ c went it. Steps c new went it, WentBegins))) why
+          (ported is new.events) (does, (Stops, (λ c went it. TaskSteps c new went it, WentBegins))) why
           (record {
             exchanged = on.1.exchanged;
             told = λ c s h.
@@ -177,11 +178,11 @@ module _ {X W : Type 0} (a : Added X) (o : Outside W) (task : ℕ) (first : Inpu
           → Comes o (serving_on a task first start old new) (ported was old.events) (ported is new.events) (Ok went.Goes)
       on_goes once =
           let all = come_then o From on.0 (ported was old.events) (ported mid body.events) (serving_once a task fresh input coroutine after body new)
-          (ported is new.events) On (λ c s. Steps c new went.Goes (does s)) (Ended went.Goes) on.1 once (λ more c s t. (
+          (ported is new.events) On (λ c s. TaskSteps c new went.Goes (does s)) (Ended went.Goes) on.1 once (λ more c s t. (
             t.now,
             (
               t.serving,
-              λ e. subst (Steps c new went.Goes)
+              λ e. subst (TaskSteps c new went.Goes)
                   (sym (leads_end a.meaning task (resumed true task first s) (resumed fresh task input t.now) (Goes e.now) t.leads e.goes t.within))
                   e.between,
             ),
@@ -194,11 +195,11 @@ module _ {X W : Type 0} (a : Added X) (o : Outside W) (task : ℕ) (first : Inpu
           → Comes o (serving_on a task first start old new) (ported was old.events) (ported is new.events) (Ok (went.Runaway other))
       on_runaway other once =
           let all = come_then o From on.0 (ported was old.events) (ported mid body.events) (serving_once a task fresh input coroutine after body new)
-          (ported is new.events) On (λ c s. Steps c new (went.Runaway other) (does s)) (Ended (went.Runaway other)) on.1 once (λ more c s t. (
+          (ported is new.events) On (λ c s. TaskSteps c new (went.Runaway other) (does s)) (Ended (went.Runaway other)) on.1 once (λ more c s t. (
             t.now,
             (
               t.serving,
-              λ e. subst (Steps c new (went.Runaway other))
+              λ e. subst (TaskSteps c new (went.Runaway other))
                   (sym (leads_end a.meaning task (resumed true task first s) (resumed fresh task input t.now) (Stops (end.Runaway task) e.1.last)
                   t.leads e.1.goes t.within))
                   (ap end.Runaway (sym e.0), e.1.told),
@@ -214,18 +215,18 @@ module _ {X W : Type 0} (a : Added X) (o : Outside W) (task : ℕ) (first : Inpu
       on_end (went.Runaway other) once = on_runaway other once
 
       -- or the task waits
-      module _ (once : Comes o (serving_once a task fresh input coroutine after body new) (ported mid body.events) (ported is new.events) (Ok Rests)) where
+      module _ (once : Comes o (serving_once a task fresh input coroutine after body new) (ported mid body.events) (ported is new.events) (Ok Suspends)) where
         ceased : (had : List Exchange)
             × HasCome o From had (ported was old.events) (ported is new.events) (λ c s. HasCeased task first s c new after)
         ceased =
             come_then o From on.0 (ported was old.events) (ported mid body.events) (serving_once a task fresh input coroutine after body new)
-            (ported is new.events) On (λ c s. HasCeased task first s c new after) Rests on.1 once (λ more c s t. (
+            (ported is new.events) On (λ c s. HasCeased task first s c new after) Suspends on.1 once (λ more c s t. (
               t.now,
               (
                 t.serving,
                 λ r. record {
                   now = r.now;
-                  rested = r.rested;
+                  suspended = r.suspended;
                   made = r.made;
                   sound = r.sound;
                   goes = leads_end a.meaning task (resumed true task first s) (resumed fresh task input t.now) (Goes r.now) t.leads r.goes t.within;
@@ -233,20 +234,21 @@ module _ {X W : Type 0} (a : Added X) (o : Outside W) (task : ℕ) (first : Inpu
               ),
             ))
 
-        pub rests_there : Possible a (IsServing task true first start) old → task < length new.slots.items
-        rests_there may =
+        pub suspends_there : Possible a (IsServing task true first start) old → task < length new.slots.items
+        suspends_there may =
             ∥∥₁_elim
             (alive_come o From (λ answers c s h. (with_answers answers s, serving_again answers task true first start c old s h)) ceased.0
             (ported was old.events) (ported is new.events) (λ c s. HasCeased task first s c new after) ceased.1 may) le_prop
-            (λ w. subst (λ n. task < n) (w.1.1.rested.stands.told ∙ sym w.1.1.rested.stands.made) w.1.1.made)
+            (λ w. subst (λ n. task < n) (w.1.1.suspended.stands.told ∙ sym w.1.1.suspended.stands.made) w.1.1.made)
 
-        pub on_rest : (last : Body X) → last ≡ record new { slots = last.slots } → last.slots.items ≡ put_back task after new.slots.items
+        pub on_suspend : (last : RunState X) → last ≡ record new { slots = last.slots } → last.slots.items ≡ put_back task after new.slots.items
             → Comes o (serving_on a task first start old last) (ported was old.events) (ported is last.events) (Ok went.Goes)
-        on_rest last beside items =
+        on_suspend last frame items =
             comes_ends o (serving_on a task first start old last) ceased.0 (ported was old.events) (ported is last.events) went.Goes
             (come_beside o From ceased.0 (ported was old.events) (ported is new.events) (ported is last.events)
-            (λ c s. HasCeased task first s c new after) (λ c s. Steps c last went.Goes (does s)) ceased.1 refl
+            (λ c s. HasCeased task first s c new after) (λ c s. TaskSteps c last went.Goes (does s)) ceased.1 refl
             (λ c s r. (
-              subst (λ (l : EventList). AreTold [] All new.events.events l.events) (sym (ap (λ (x : Body X). x.events) beside)) (told_none new.events.events),
-              subst (Steps c last went.Goes) (sym r.goes) (back task c new last after r.now r.rested r.sound beside items),
+              subst (λ (l : EventList). AreTold [] All new.events.events l.events) (sym (ap (λ (x : RunState X). x.events) frame))
+                  (told_none new.events.events),
+              subst (TaskSteps c last went.Goes) (sym r.goes) (back task c new last after r.now r.suspended r.sound frame items),
             )))

@@ -10,24 +10,24 @@ use Rattle.model_machine.specs.State.{State, generator_of}
 use Rattle.refine_parts.proofs.Telling.{owner_kept}
 use Rattle.law_steps.proofs.CancelSound.{plain_within}
 use Rattle.aio_gen.specs.declared.generator.Gen.{Gen}
-use Rattle.aio_task.specs.Keeps.{Ties, Keeps}
+use Rattle.aio_task.specs.Keeps.{NameMap, Keeps}
 use Rattle.aio_task.specs.View.{View}
 use Rattle.aio_timer.specs.declared.live.TimerId.{TimerId}
 use Rattle.aio_extra.specs.Added.{Added, named_in}
-use Rattle.aio_body.specs.declared.body.Body.{Body}
-use Rattle.aio_body.specs.declared.standing.Slot.{Slot}
-use Rattle.aio_body.specs.declared.standing.Standing.{Standing}
-use Rattle.aio_body.specs.declared.standing.Standing.TheVariants.{Asked, Sleeping, Leaving, Serving, Connecting, Yielding, Reading, ReadingAll}
+use Rattle.aio_body.specs.declared.run_state.RunState.{RunState}
+use Rattle.aio_body.specs.declared.resume_point.Slot.{Slot}
+use Rattle.aio_body.specs.declared.resume_point.ResumePoint.{ResumePoint}
+use Rattle.aio_body.specs.declared.resume_point.ResumePoint.TheVariants.{Asked, Sleeping, Leaving, Serving, Connecting, Yielding, Reading, ReadingAll}
 use Rattle.aio_body.specs.Asked.{IsDeciding}
 use Rattle.aio_body.specs.GivingUp.{IsNoTasks}
-use Rattle.aio_body.specs.Stands.{Setting, StandsAt, WaitsAs, holding, Possible}
+use Rattle.aio_body.specs.Stands.{Context, StandsAt, WaitsAs, holding, Possible}
 use Rattle.aio_body.proofs.May.{same_prop}
 use Rattle.aio_step.specs.declared.steps.Started.{Started}
 use Rattle.aio_step.specs.Stepping.{DecidesAs, HasBegun, IsCalled, begun_in, IsDecidingAs}
 use Rattle.aio_step.proofs.Called.{called_own, called_slot, own_slot}
 
 -- ---- a step begins
-module _ {X : Type 0} {a : Added X} (task : ℕ) (body : Body X) (may : Possible a (IsCalled task) body) where
+module _ {X : Type 0} {a : Added X} (task : ℕ) (body : RunState X) (may : Possible a (IsCalled task) body) where
   pub begin_called : body.parts.called ≡ Some task
   begin_called = ∥∥₁_elim may (same_prop body.parts.called (Some task)) (λ w. w.1.1.called)
 
@@ -38,8 +38,8 @@ module _ {X : Type 0} {a : Added X} (task : ℕ) (body : Body X) (may : Possible
   begin_there = ∥∥₁_elim may le_prop (λ w. called_slot task w.0 body w.1.0 w.1.1)
 
   -- the future of a sleep is no task's
-  at_sleep : (t : Ties) (p : Parts) (named : ℕ → Type 0) (timer : TimerId) (future : ℕ) (v : View) → Keeps t v p → (standing : plain.Standing)
-      → StandsAt t p named task (Sleeping timer future) standing → owner_at (slice_get v.futures future) ≡ None
+  at_sleep : (t : NameMap) (p : Parts) (named : ℕ → Type 0) (timer : TimerId) (future : ℕ) (v : View) → Keeps t v p → (resume_point : plain.ResumePoint)
+      → StandsAt t p named task (Sleeping timer future) resume_point → owner_at (slice_get v.futures future) ≡ None
   at_sleep t p named timer future v k (plain.Sleeping tag) at = owner_kept t v p k future (plain_within p future at.1.plain).0
   at_sleep t p named timer future v k plain.Asked at = absurd at
   at_sleep t p named timer future v k (plain.Leaving id) at = absurd at
@@ -50,8 +50,8 @@ module _ {X : Type 0} {a : Added X} (task : ℕ) (body : Body X) (may : Possible
   at_sleep t p named timer future v k (plain.ReadingAll from had on) at = absurd at
 
   -- nor is that of a connect
-  at_connect : (t : Ties) (p : Parts) (named : ℕ → Type 0) (conn future : ℕ) (v : View) → Keeps t v p → (standing : plain.Standing)
-      → StandsAt t p named task (Connecting conn future) standing → owner_at (slice_get v.futures future) ≡ None
+  at_connect : (t : NameMap) (p : Parts) (named : ℕ → Type 0) (conn future : ℕ) (v : View) → Keeps t v p → (resume_point : plain.ResumePoint)
+      → StandsAt t p named task (Connecting conn future) resume_point → owner_at (slice_get v.futures future) ≡ None
   at_connect t p named conn future v k (plain.Connecting id) at = owner_kept t v p k future (plain_within p future at.1.plain).0
   at_connect t p named conn future v k plain.Asked at = absurd at
   at_connect t p named conn future v k (plain.Sleeping tag) at = absurd at
@@ -61,31 +61,31 @@ module _ {X : Type 0} {a : Added X} (task : ℕ) (body : Body X) (may : Possible
   at_connect t p named conn future v k (plain.Reading from op on) at = absurd at
   at_connect t p named conn future v k (plain.ReadingAll from had on) at = absurd at
 
-  of_connect : (conn future : ℕ) (slot : Slot) → slot.standing ≡ Connecting conn future → slice_get body.slots.items task ≡ Some slot
+  of_connect : (conn future : ℕ) (slot : Slot) → slot.resume_point ≡ Connecting conn future → slice_get body.slots.items task ≡ Some slot
       → owner_at (slice_get body.parts.futures future) ≡ None
   of_connect conn future slot e there =
       ∥∥₁_elim may (same_prop (owner_at (slice_get body.parts.futures future)) None) (λ w.
       let h : IsCalled task w.0 body w.1.0 = w.1.1 in
       let has = own_slot task w.0 body w.1.0 h in
-      at_connect h.stands.ties w.1.0.loop.parts (named_in a w.1.0) conn future body.parts h.stands.keeps (generator_of task w.1.0).standing
-      (subst (λ x. StandsAt h.stands.ties w.1.0.loop.parts (named_in a w.1.0) task x (generator_of task w.1.0).standing)
-      (sym (ap (λ (x : Slot). x.standing) (called_own task w.0 body w.1.0 h slot there)) ∙ e) has.right.standing))
+      at_connect h.stands.name_map w.1.0.loop.parts (named_in a w.1.0) conn future body.parts h.stands.keeps (generator_of task w.1.0).resume_point
+      (subst (λ x. StandsAt h.stands.name_map w.1.0.loop.parts (named_in a w.1.0) task x (generator_of task w.1.0).resume_point)
+      (sym (ap (λ (x : Slot). x.resume_point) (called_own task w.0 body w.1.0 h slot there)) ∙ e) has.right.resume_point))
 
-  of_sleep : (timer : TimerId) (future : ℕ) (slot : Slot) → slot.standing ≡ Sleeping timer future → slice_get body.slots.items task ≡ Some slot
+  of_sleep : (timer : TimerId) (future : ℕ) (slot : Slot) → slot.resume_point ≡ Sleeping timer future → slice_get body.slots.items task ≡ Some slot
       → owner_at (slice_get body.parts.futures future) ≡ None
   of_sleep timer future slot e there =
       ∥∥₁_elim may (same_prop (owner_at (slice_get body.parts.futures future)) None) (λ w.
       let h : IsCalled task w.0 body w.1.0 = w.1.1 in
       let has = own_slot task w.0 body w.1.0 h in
-      at_sleep h.stands.ties w.1.0.loop.parts (named_in a w.1.0) timer future body.parts h.stands.keeps (generator_of task w.1.0).standing
-      (subst (λ x. StandsAt h.stands.ties w.1.0.loop.parts (named_in a w.1.0) task x (generator_of task w.1.0).standing)
-      (sym (ap (λ (x : Slot). x.standing) (called_own task w.0 body w.1.0 h slot there)) ∙ e) has.right.standing))
+      at_sleep h.stands.name_map w.1.0.loop.parts (named_in a w.1.0) timer future body.parts h.stands.keeps (generator_of task w.1.0).resume_point
+      (subst (λ x. StandsAt h.stands.name_map w.1.0.loop.parts (named_in a w.1.0) task x (generator_of task w.1.0).resume_point)
+      (sym (ap (λ (x : Slot). x.resume_point) (called_own task w.0 body w.1.0 h slot there)) ∙ e) has.right.resume_point))
 
   pub begin_no_task : (v : View) → v.futures ≡ body.parts.futures → (slot : Slot) → slice_get body.slots.items task ≡ Some slot
-      → IsNoTasks slot.standing v
-  begin_no_task v same slot there = at slot.standing refl
+      → IsNoTasks slot.resume_point v
+  begin_no_task v same slot there = at slot.resume_point refl
     where
-      at : (standing : Standing) → slot.standing ≡ standing → IsNoTasks standing v
+      at : (resume_point : ResumePoint) → slot.resume_point ≡ resume_point → IsNoTasks resume_point v
       at Asked e = tt
       at (Leaving group) e = tt
       at (Serving key) e = tt
@@ -108,15 +108,15 @@ module _ {X : Type 0} {a : Added X} (task : ℕ) (body : Body X) (may : Possible
 
 -- ---- what its input means
 module _ {X : Type 0} {a : Added X} where
-  pub decide_of : (task : ℕ) (input : Input) (old new : Body X) (started : Started) → Possible a (IsCalled task) old
-      → ((c : Setting a) (s : State a.Kept) → IsCalled task c old s → HasBegun task input c s started new)
-      → Possible a (IsDecidingAs task started.standing) new
+  pub decide_of : (task : ℕ) (input : Input) (old new : RunState X) (started : Started) → Possible a (IsCalled task) old
+      → ((c : Context a) (s : State a.Kept) → IsCalled task c old s → HasBegun task input c s started new)
+      → Possible a (IsDecidingAs task started.resume_point) new
   decide_of task input old new started may begun =
       ∥∥₁_map may (λ w. let b = begun w.0 w.1.0 w.1.1 in
-      (holding started.coroutine w.0, (begun_in task input w.1.0, ((generator_of task w.1.0).standing, (b.decides, b.deciding)))))
+      (holding started.coroutine w.0, (begun_in task input w.1.0, ((generator_of task w.1.0).resume_point, (b.decides, b.deciding)))))
 
   -- where the machine's task stood at this alone
-  pub stood_of : (task : ℕ) (code : Standing) (stood : plain.Standing) → ((other : plain.Standing) → DecidesAs code other → stood ≡ other)
-      → (body : Body X) → Possible a (IsDecidingAs task code) body → Possible a (IsDeciding task stood) body
+  pub stood_of : (task : ℕ) (code : ResumePoint) (stood : plain.ResumePoint) → ((other : plain.ResumePoint) → DecidesAs code other → stood ≡ other)
+      → (body : RunState X) → Possible a (IsDecidingAs task code) body → Possible a (IsDeciding task stood) body
   stood_of task code stood is body may =
       ∥∥₁_map may (λ w. (w.0, (w.1.0, subst (λ st. IsDeciding task st w.0 body w.1.0) (sym (is w.1.1.0 w.1.1.1.0)) w.1.1.1.1)))

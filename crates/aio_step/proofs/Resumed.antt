@@ -14,13 +14,13 @@ use Rattle.model_machine.specs.State.{State, resumed}
 use Rattle.model_machine.specs.Step.{says_of, served}
 use Rattle.aio_cancel.specs.Awaitables.{Appended}
 use Rattle.aio_flat.specs.Code.{IsCodeOf}
-use Rattle.aio_gen.specs.Gens.{StandsFor, saying_of_out}
+use Rattle.aio_gen.specs.Gens.{GenStandsFor, saying_of_out}
 use Rattle.aio_gen.specs.declared.generator.Gen.{Gen}
 use Rattle.aio_gen.specs.declared.generator.GenOut.{GenOut}
 use Rattle.aio_gen.specs.declared.generator.GenOut.TheVariants.{Asks, Returns, Raises, Runaway}
 use Rattle.aio_task.specs.View.{View, parts}
 use Rattle.aio_extra.specs.Added.{Added}
-use Rattle.aio_body.specs.declared.body.Body.{Body}
+use Rattle.aio_body.specs.declared.run_state.RunState.{RunState}
 use Rattle.aio_body.specs.declared.reply.RequestReply.{RequestReply}
 use Rattle.aio_wire.specs.EventList.{EventList}
 use Rattle.aio_wire.specs.Outside.{Outside}
@@ -33,7 +33,7 @@ use Rattle.aio_exchange.specs.Exchanged.{All}
 use Rattle.aio_body.proofs.Asking.{HasCome, come_none, come_then, comes_ends, comes_stops, comes_without}
 use Rattle.aio_body.specs.Asked.{IsAskingFor}
 use Rattle.aio_body.specs.Asking.{Comes, Piece, before, serving}
-use Rattle.aio_body.specs.Stands.{Setting, holding, Possible}
+use Rattle.aio_body.specs.Stands.{Context, holding, Possible}
 use Rattle.aio_body.proofs.May.{same_prop}
 use Rattle.aio_body.proofs.Over.{comes_over, over}
 use Rattle.aio_body.proofs.Slotting.{set_length}
@@ -45,7 +45,7 @@ use Rattle.aio_step.proofs.Resuming.{asks_out, ends_out, its_inside, runs_out, s
 use Rattle.aio_step.proofs.Serving.{answered, asks_begin, halts_so, once_begins}
 use Rattle.aio_body.proofs.Sound.{extra_sound}
 
-module _ {X : Type 0} {a : Added X} (task : ℕ) (fresh : Bool) (input : Input) (body : Body X) (taken : Gen) where
+module _ {X : Type 0} {a : Added X} (task : ℕ) (fresh : Bool) (input : Input) (body : RunState X) (taken : Gen) where
   pub serve_idle : Possible a (IsServing task fresh input taken) body → body.parts.called ≡ None
   serve_idle may = ∥∥₁_elim may (same_prop body.parts.called None) (λ w. w.1.1.in_step.called)
 
@@ -54,12 +54,12 @@ module _ {X : Type 0} {a : Added X} (task : ℕ) (fresh : Bool) (input : Input) 
 
   module _ (now : Gen) (out : GenOut)
       (said : (program : Program) (coroutine : ℕ) (arguments : List Value) (tape : Tape) → IsCodeOf program body.code
-      → StandsFor program body.code coroutine arguments tape taken
+      → GenStandsFor program body.code coroutine arguments tape taken
       → says program coroutine arguments (tape ++ record { input = input; fresh = fresh } ∷ []) ≡ saying_of_out out)
       (stands : (program : Program) (coroutine : ℕ) (arguments : List Value) (tape : Tape) → IsCodeOf program body.code
-      → StandsFor program body.code coroutine arguments tape taken → (request : Request) → out ≡ Asks request
-      → StandsFor program body.code coroutine arguments (tape ++ record { input = input; fresh = fresh } ∷ []) now) where
-    module _ (c : Setting a) (s : State a.Kept) (h : IsServing task fresh input taken c body s) where
+      → GenStandsFor program body.code coroutine arguments tape taken → (request : Request) → out ≡ Asks request
+      → GenStandsFor program body.code coroutine arguments (tape ++ record { input = input; fresh = fresh } ∷ []) now) where
+    module _ (c : Context a) (s : State a.Kept) (h : IsServing task fresh input taken c body s) where
       says_so : says_of step_limit a.meaning task (resumed fresh task input s) ≡ saying_of_out out
       says_so = says_out task fresh input c body taken s h (saying_of_out out) said
 
@@ -80,21 +80,21 @@ module _ {X : Type 0} {a : Added X} (task : ℕ) (fresh : Bool) (input : Input) 
           → Appended body.parts.queue v.queue
           → v ≡ record body.parts { queue = v.queue; futures = v.futures; tasks = v.tasks; running = None }
           → EndsAt c (record body { parts = v }) (serves_once a.meaning task (resumed fresh task input s))
-      returns_so value e v became appended beside =
+      returns_so value e v became appended frame =
           let x = says_so ∙ ap saying_of_out e in
           ends_out task fresh input c body taken s h (Ok value) v
           (λ go_on. ap (λ saying. served step_limit a.meaning saying task go_on (resumed fresh task input s)) x)
-          (returned_sound a.meaning task value (resumed fresh task input s) h.sound x) became appended beside
+          (returned_sound a.meaning task value (resumed fresh task input s) h.sound x) became appended frame
 
       pub raises_so : (fault : Exc) → out ≡ Raises fault → (v : View) → parts v ≡ finish task (Err fault) (parts body.parts)
           → Appended body.parts.queue v.queue
           → v ≡ record body.parts { queue = v.queue; futures = v.futures; tasks = v.tasks; running = None }
           → EndsAt c (record body { parts = v }) (serves_once a.meaning task (resumed fresh task input s))
-      raises_so fault e v became appended beside =
+      raises_so fault e v became appended frame =
           let x = says_so ∙ ap saying_of_out e in
           ends_out task fresh input c body taken s h (Err fault) v
           (λ go_on. ap (λ saying. served step_limit a.meaning saying task go_on (resumed fresh task input s)) x)
-          (raised_sound a.meaning task fault (resumed fresh task input s) h.sound x) became appended beside
+          (raised_sound a.meaning task fault (resumed fresh task input s) h.sound x) became appended frame
 
       -- it runs away
       pub runs_so : out ≡ Runaway → RunsAway task c body (serves_once a.meaning task (resumed fresh task input s))
@@ -105,27 +105,27 @@ module _ {X : Type 0} {a : Added X} (task : ℕ) (fresh : Bool) (input : Input) 
 
     -- ---- what it says is served
     module _ {W : Type 0} (o : Outside W) (was : W) where
-      abbrev From : Setting a → State a.Kept → Type 0
+      abbrev From : Context a → State a.Kept → Type 0
       From c s = IsServing task fresh input taken c body s
 
       -- so it is of wherever it began
-      none : (new : Body X) (so : Setting a → State a.Kept → Type 0) → new.events ≡ body.events
-          → ((c : Setting a) (s : State a.Kept) → From c s → so c s) → HasCome o From [] (ported was body.events) (ported was new.events) so
+      none : (new : RunState X) (so : Context a → State a.Kept → Type 0) → new.events ≡ body.events
+          → ((c : Context a) (s : State a.Kept) → From c s → so c s) → HasCome o From [] (ported was body.events) (ported was new.events) so
       none new so same all =
           come_none o From (ported was body.events) (ported was new.events) so refl
           (λ c s h. (subst (λ (l : EventList). AreTold [] All body.events.events l.events) (sym same) (told_none body.events.events), all c s h))
 
-      abbrev asked : Request → (new : Body X) → Piece a (State a.Kept) (plain.RequestReply a.Kept) RequestReply
+      abbrev asked : Request → (new : RunState X) → Piece a (State a.Kept) (plain.RequestReply a.Kept) RequestReply
       asked request new = over (holding now) (serving a task request body new)
 
-      held : (request : Request) (new : Body X) (is : W) (result : Result RequestReply Stop)
+      held : (request : Request) (new : RunState X) (is : W) (result : Result RequestReply Stop)
           → Comes o (serving a task request body new) (ported was body.events) (ported is new.events) result
           → Comes o (asked request new) (ported was body.events) (ported is new.events) result
       held request new is result replies =
           comes_over o (holding now) (record { answers = λ es c. refl; rest = λ c. refl; past = λ c. refl })
           (serving a task request body new) (ported was body.events) (ported is new.events) result replies
 
-      module _ (request : Request) (e : out ≡ Asks request) (new : Body X) (is : W) where
+      module _ (request : Request) (e : out ≡ Asks request) (new : RunState X) (is : W) where
         -- the request had its reply
         pub asks_so : (it : RequestReply) → Comes o (serving a task request body new) (ported was body.events) (ported is new.events) (Ok it)
             → Comes o (serving_once a task fresh input taken now body new) (ported was body.events) (ported is new.events) (Ok (served_of it))
@@ -164,15 +164,15 @@ module _ {X : Type 0} {a : Added X} (task : ℕ) (fresh : Bool) (input : Input) 
             (held request new is (Err why) replies)
 
       -- it ended
-      pub ends_so : (new : Body X) (said : Served) → new.events ≡ body.events
-          → ((c : Setting a) (s : State a.Kept) → From c s → LeadsOn task c new now said (serves_once a.meaning task (resumed fresh task input s)))
+      pub ends_so : (new : RunState X) (said : Served) → new.events ≡ body.events
+          → ((c : Context a) (s : State a.Kept) → From c s → LeadsOn task c new now said (serves_once a.meaning task (resumed fresh task input s)))
           → Comes o (serving_once a task fresh input taken now body new) (ported was body.events) (ported was new.events) (Ok said)
       ends_so new said same all =
           comes_ends o (serving_once a task fresh input taken now body new) [] (ported was body.events) (ported was new.events) said
           (none new _ same all)
 
 -- it had no memory
-module _ {X W : Type 0} (a : Added X) (o : Outside W) (task : ℕ) (fresh : Bool) (input : Input) (body : Body X) (taken after : Gen)
+module _ {X W : Type 0} (a : Added X) (o : Outside W) (task : ℕ) (fresh : Bool) (input : Input) (body : RunState X) (taken after : Gen)
     (was : W) where
   pub resumes_without : Comes o (serving_once a task fresh input taken after body body) (ported was body.events) (ported was body.events) (Err stop.Memory)
   resumes_without =

@@ -19,11 +19,11 @@ use Rattle.aio_cancel.specs.Awaitables.{Appended}
 use Rattle.aio_flat.specs.Code.{IsCodeOf}
 use Rattle.aio_task.specs.View.{View, parts}
 use Rattle.aio_extra.specs.Added.{Added, named_in}
-use Rattle.aio_body.specs.declared.body.Body.{Body}
+use Rattle.aio_body.specs.declared.run_state.RunState.{RunState}
 use Rattle.aio_gen.specs.declared.generator.Gen.{Gen}
 use Rattle.aio_body.specs.Asked.{IsAskingFor}
-use Rattle.aio_gen.specs.Gens.{StandsFor}
-use Rattle.aio_body.specs.Stands.{Setting, holding}
+use Rattle.aio_gen.specs.Gens.{GenStandsFor}
+use Rattle.aio_body.specs.Stands.{Context, holding}
 use Rattle.aio_step.specs.Serving.{EndsAt, RunsAway, serves_once}
 use Rattle.aio_step.specs.Stepping.{IsServing}
 use Rattle.refine_parts.proofs.Calls.{kept_finish}
@@ -33,7 +33,7 @@ use Rattle.aio_body.proofs.Lasting.{spares_none, stands_on}
 use Rattle.aio_body.proofs.Rooms.{below_appended}
 use Rattle.aio_body.proofs.Slotting.{set_same, stands_resumed, stands_over, stands_dead, stood}
 
-module _ {X : Type 0} {a : Added X} (task : ℕ) (fresh : Bool) (input : Input) (c : Setting a) (body : Body X) (before : Gen) (s : State a.Kept)
+module _ {X : Type 0} {a : Added X} (task : ℕ) (fresh : Bool) (input : Input) (c : Context a) (body : RunState X) (before : Gen) (s : State a.Kept)
     (h : IsServing task fresh input before c body s) where
   its_lives : lives s.loop.parts task ≡ true
   its_lives = runs_living a.meaning task (resumed fresh task input s) h.sound
@@ -41,7 +41,7 @@ module _ {X : Type 0} {a : Added X} (task : ℕ) (fresh : Bool) (input : Input) 
   its_within : task < next_task s.loop.parts
   its_within = let it = task_there s.loop.parts task its_lives in get_within s.loop.parts.tasks task it.0 it.1
 
-  its_stood : StandsFor s.program body.code (generator_of task s).coroutine (generator_of task s).arguments (generator_of task s).tape before
+  its_stood : GenStandsFor s.program body.code (generator_of task s).coroutine (generator_of task s).arguments (generator_of task s).tape before
   its_stood = stood c body s task before h.in_step.stands its_lives
 
   pub its_inside : task < length s.generators
@@ -50,7 +50,7 @@ module _ {X : Type 0} {a : Added X} (task : ℕ) (fresh : Bool) (input : Input) 
   -- what the coroutine says
   pub says_out : (out : Saying)
       → ((program : Program) (coroutine : ℕ) (arguments : List Value) (tape : Tape) → IsCodeOf program body.code
-      → StandsFor program body.code coroutine arguments tape before
+      → GenStandsFor program body.code coroutine arguments tape before
       → says program coroutine arguments (tape ++ record { input = input; fresh = fresh } ∷ []) ≡ out)
       → says_of step_limit a.meaning task (resumed fresh task input s) ≡ out
   says_out out said =
@@ -63,8 +63,8 @@ module _ {X : Type 0} {a : Added X} (task : ℕ) (fresh : Bool) (input : Input) 
   pub asks_out : (now : Gen) (request : Request)
       → says_of step_limit a.meaning task (resumed fresh task input s) ≡ Asks request
       → ((program : Program) (coroutine : ℕ) (arguments : List Value) (tape : Tape) → IsCodeOf program body.code
-      → StandsFor program body.code coroutine arguments tape before
-      → StandsFor program body.code coroutine arguments (tape ++ record { input = input; fresh = fresh } ∷ []) now)
+      → GenStandsFor program body.code coroutine arguments tape before
+      → GenStandsFor program body.code coroutine arguments (tape ++ record { input = input; fresh = fresh } ∷ []) now)
       → IsAskingFor task request (holding now c) body (resumed fresh task input s)
   asks_out now request asks goes = record {
     going = record {
@@ -89,7 +89,7 @@ module _ {X : Type 0} {a : Added X} (task : ℕ) (fresh : Bool) (input : Input) 
       → parts v ≡ finish task end (parts body.parts) → Appended body.parts.queue v.queue
       → v ≡ record body.parts { queue = v.queue; futures = v.futures; tasks = v.tasks; running = None }
       → EndsAt c (record body { parts = v }) (serves_once a.meaning task (resumed fresh task input s))
-  ends_out end v goes sound became appended beside = record {
+  ends_out end v goes sound became appended frame = record {
     now = unbooked_in (finish task end) (resumed fresh task input s);
     between = record {
       stands =
@@ -98,18 +98,18 @@ module _ {X : Type 0} {a : Added X} (task : ℕ) (fresh : Bool) (input : Input) 
           })
           (stands_over c (record body { parts = v }) (unbooked_in (finish task end) s) task before
           (stands_on None (Some task) (holding before c) body s v (in_parts (finish task end)) h.in_step.stands
-          (kept_finish h.in_step.stands.ties body.parts v s.loop.parts h.in_step.stands.keeps task end (record {
+          (kept_finish h.in_step.stands.name_map body.parts v s.loop.parts h.in_step.stands.keeps task end (record {
             parts = became;
             queue = appended;
-            time = ap (λ (x : View). x.time) beside;
-            schedule = ap (λ (x : View). x.schedule) beside;
+            time = ap (λ (x : View). x.time) frame;
+            schedule = ap (λ (x : View). x.schedule) frame;
           }))
           (leaves_finish task end s.loop.parts) (spares_none s.loop.parts (named_in a s)) (refl, refl) (below_appended body.parts.queue v.queue appended)
-          (ap (λ (x : View). x.profile) beside))
+          (ap (λ (x : View). x.profile) frame))
           (finish_done task end s.loop.parts))
           (finish_done task end s.loop.parts);
-      called = ap (λ (x : View). x.called) beside ∙ h.in_step.called;
-      running = ap (λ (x : View). x.running) beside;
+      called = ap (λ (x : View). x.called) frame ∙ h.in_step.called;
+      running = ap (λ (x : View). x.running) frame;
       sound = sound;
     };
     goes = goes;

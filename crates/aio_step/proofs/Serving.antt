@@ -14,13 +14,13 @@ use Rattle.model_machine.specs.State.{State, generator_of}
 use Rattle.model_machine.specs.Step.{most_answers, says_of, serve, serve_all, served, taken_as}
 use Rattle.model_machine.specs.Went.{Went}
 use Rattle.aio_extra.specs.Added.{Added}
-use Rattle.aio_body.specs.declared.body.Body.{Body}
+use Rattle.aio_body.specs.declared.run_state.RunState.{RunState}
 use Rattle.aio_gen.specs.declared.generator.Gen.{Gen}
 use Rattle.aio_body.specs.declared.reply.RequestReply.{RequestReply}
 use Rattle.aio_body.specs.declared.reply.RequestReply.TheVariants as said
 use Rattle.aio_body.specs.Asked.{Says}
 use Rattle.aio_body.specs.Asking.{ReplyBegins, WentBegins}
-use Rattle.aio_body.specs.Stands.{Setting, holding}
+use Rattle.aio_body.specs.Stands.{Context, holding}
 use Rattle.aio_step.specs.Serving.{GoesOnWith, LeadsOn, OnwardBegins, halted, serves_once, served_of}
 use Rattle.law_runs.proofs.Kept.{IsKeptInAnswer, reply_state, reply-keeps}
 use Rattle.law_replies.specs.InStep.{RepliesInStep}
@@ -33,7 +33,7 @@ ServedAs {S} added task s machine =
     (go_on : State S → Went S) → served step_limit added (says_of step_limit added task s) task go_on s ≡ machine go_on
 
 -- What a reply makes of the step: `s` is the state in which it was asked.
-abbrev pub GoesOnBy : {X : Type 0} {a : Added X} → ℕ → Setting a → Body X → Gen → RequestReply → State a.Kept → Type 0
+abbrev pub GoesOnBy : {X : Type 0} {a : Added X} → ℕ → Context a → RunState X → Gen → RequestReply → State a.Kept → Type 0
 GoesOnBy {a = a} task c body coroutine it s = LeadsOn task c body coroutine (served_of it) (serves_once a.meaning task s)
 
 -- after so many answers the step goes on here
@@ -107,7 +107,7 @@ halts_so added task s request asks how last e =
     ap (λ saying. served step_limit added saying task go_on s) asks ∙ ap (λ it. taken_as it false task go_on) e)
 
 module _ {X : Type 0} {a : Added X} where
-  pub answered : (task : ℕ) (c : Setting a) (body : Body X) (coroutine : Gen) (it : RequestReply) (s : State a.Kept) (request : Request)
+  pub answered : (task : ℕ) (c : Context a) (body : RunState X) (coroutine : Gen) (it : RequestReply) (s : State a.Kept) (request : Request)
       → task < length s.generators → says_of step_limit a.meaning task s ≡ Asks request
       → Says task (holding coroutine c) body it (reply a.meaning task request s)
       → RepliesInStep a.meaning false task (reply a.meaning task request s)
@@ -133,19 +133,19 @@ module _ {X : Type 0} {a : Added X} where
             serving = record { in_step = h.1; sound = sound };
             goes = goes;
           })
-      at said.Rests (plain.Rests now) kept goes h sound = record {
+      at said.Suspends (plain.Suspends now) kept goes h sound = record {
         now = now;
-        rested = h;
+        suspended = h;
         made = let more = kept.generators in omega (arith, made, more);
         sound = sound;
         goes = goes;
       }
       at (said.Answers value) (plain.Raises f now) kept goes h sound = absurd h
-      at (said.Answers value) (plain.Rests now) kept goes h sound = absurd h
+      at (said.Answers value) (plain.Suspends now) kept goes h sound = absurd h
       at (said.Answers value) (plain.Halts e last) kept goes h sound = absurd h
       at (said.Raises fault) (plain.Answers v now) kept goes h sound = absurd h
-      at (said.Raises fault) (plain.Rests now) kept goes h sound = absurd h
+      at (said.Raises fault) (plain.Suspends now) kept goes h sound = absurd h
       at (said.Raises fault) (plain.Halts e last) kept goes h sound = absurd h
-      at said.Rests (plain.Answers v now) kept goes h sound = absurd h
-      at said.Rests (plain.Raises f now) kept goes h sound = absurd h
-      at said.Rests (plain.Halts e last) kept goes h sound = absurd h
+      at said.Suspends (plain.Answers v now) kept goes h sound = absurd h
+      at said.Suspends (plain.Raises f now) kept goes h sound = absurd h
+      at said.Suspends (plain.Halts e last) kept goes h sound = absurd h

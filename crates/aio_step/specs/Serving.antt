@@ -12,15 +12,15 @@ use Rattle.model_machine.specs.Step.{says_of, served}
 use Rattle.model_machine.specs.Went.{Went, Goes, Stops}
 use Rattle.aio_gen.specs.declared.generator.Gen.{Gen}
 use Rattle.aio_extra.specs.Added.{Added}
-use Rattle.aio_body.specs.declared.body.Body.{Body}
+use Rattle.aio_body.specs.declared.run_state.RunState.{RunState}
 use Rattle.model_value.specs.declared.input.Input.TheVariants.{Send, Throw}
 use Rattle.aio_body.specs.declared.reply.RequestReply.{RequestReply}
 use Rattle.aio_body.specs.declared.reply.RequestReply.TheVariants as said
-use Rattle.aio_body.specs.Asked.{HasRested}
+use Rattle.aio_body.specs.Asked.{HasSuspended}
 use Rattle.aio_body.specs.Asking.{Piece, WentBegins}
-use Rattle.aio_body.specs.Stands.{Setting, IsBetween, holding}
+use Rattle.aio_body.specs.Stands.{Context, IsBetween, holding}
 use Rattle.aio_step.specs.declared.steps.Served.{Served}
-use Rattle.aio_step.specs.declared.steps.Served.TheVariants.{Answered, Rests, Ended}
+use Rattle.aio_step.specs.declared.steps.Served.TheVariants.{Answered, Suspends, Ended}
 use Rattle.aio_step.specs.declared.steps.Stepped.TheVariants as went
 use Rattle.aio_step.specs.Stepping.{IsServing}
 
@@ -28,32 +28,32 @@ use Rattle.aio_step.specs.Stepping.{IsServing}
 abbrev pub Onward : Type 0 → Type 0
 Onward S = (State S → Went S) → Went S
 
-pub record GoesOnWith {X : Type 0} {a : Added X} (task : ℕ) (next : Input) (c : Setting a) (body : Body X) (coroutine : Gen)
+pub record GoesOnWith {X : Type 0} {a : Added X} (task : ℕ) (next : Input) (c : Context a) (body : RunState X) (coroutine : Gen)
     (machine : Onward a.Kept) : Type 0 where
   pub now : State a.Kept
   pub serving : IsServing task false next coroutine c body now
   pub goes : (go_on : State a.Kept → Went a.Kept) → machine go_on ≡ go_on (resumed false task next now)
 
-pub record RestsAt {X : Type 0} {a : Added X} (task : ℕ) (c : Setting a) (body : Body X) (coroutine : Gen) (machine : Onward a.Kept) : Type 0 where
+pub record SuspendsAt {X : Type 0} {a : Added X} (task : ℕ) (c : Context a) (body : RunState X) (coroutine : Gen) (machine : Onward a.Kept) : Type 0 where
   pub now : State a.Kept
-  pub rested : HasRested task (holding coroutine c) body now
+  pub suspended : HasSuspended task (holding coroutine c) body now
   pub made : task < length now.generators
   pub sound : IsStateSound a.meaning now
   pub goes : (go_on : State a.Kept → Went a.Kept) → machine go_on ≡ Goes now
 
-pub record EndsAt {X : Type 0} {a : Added X} (c : Setting a) (body : Body X) (machine : Onward a.Kept) : Type 0 where
+pub record EndsAt {X : Type 0} {a : Added X} (c : Context a) (body : RunState X) (machine : Onward a.Kept) : Type 0 where
   pub now : State a.Kept
   pub between : IsBetween c body now
   pub goes : (go_on : State a.Kept → Went a.Kept) → machine go_on ≡ Goes now
 
-pub record RunsAway {X : Type 0} {a : Added X} (task : ℕ) (c : Setting a) (body : Body X) (machine : Onward a.Kept) : Type 0 where
+pub record RunsAway {X : Type 0} {a : Added X} (task : ℕ) (c : Context a) (body : RunState X) (machine : Onward a.Kept) : Type 0 where
   pub last : State a.Kept
   pub told : last.events ≡ c.past ++ body.events.events
   pub goes : (go_on : State a.Kept → Went a.Kept) → machine go_on ≡ Stops (end.Runaway task) last
 
-abbrev pub LeadsOn : {X : Type 0} {a : Added X} → ℕ → Setting a → Body X → Gen → Served → Onward a.Kept → Type 0
+abbrev pub LeadsOn : {X : Type 0} {a : Added X} → ℕ → Context a → RunState X → Gen → Served → Onward a.Kept → Type 0
 LeadsOn task c body coroutine (Answered next) machine = GoesOnWith task next c body coroutine machine
-LeadsOn task c body coroutine Rests machine = RestsAt task c body coroutine machine
+LeadsOn task c body coroutine Suspends machine = SuspendsAt task c body coroutine machine
 LeadsOn task c body coroutine (Ended went.Goes) machine = EndsAt c body machine
 LeadsOn task c body coroutine (Ended (went.Runaway other)) machine = (other ≡ task) × RunsAway task c body machine
 
@@ -69,7 +69,7 @@ abbrev pub OnwardBegins : {S : Type 0} → List Event → Onward S → Type 0
 OnwardBegins {S} events machine =
     (go_on : State S → Went S) → ((s : State S) → WentBegins s.events (go_on s)) → WentBegins events (machine go_on)
 
-abbrev pub serving_once : {X : Type 0} → (a : Added X) → (task : ℕ) (fresh : Bool) (input : Input) (coroutine after : Gen) (old new : Body X)
+abbrev pub serving_once : {X : Type 0} → (a : Added X) → (task : ℕ) (fresh : Bool) (input : Input) (coroutine after : Gen) (old new : RunState X)
     → Piece a (State a.Kept) (Onward a.Kept) Served
 serving_once a task fresh input coroutine after old new =
     record {
@@ -84,4 +84,4 @@ serving_once a task fresh input coroutine after old new =
 abbrev pub served_of : RequestReply → Served
 served_of (said.Answers value) = Answered (Send value)
 served_of (said.Raises fault) = Answered (Throw fault)
-served_of said.Rests = Rests
+served_of said.Suspends = Suspends

@@ -17,29 +17,29 @@ use Rattle.model_machine.specs.Went.{Went, Goes, Stops}
 use Rattle.aio_gen.specs.declared.generator.Gen.{Gen}
 use Rattle.aio_transports.specs.Readers.{reader_as}
 use Rattle.aio_extra.specs.Added.{Added}
-use Rattle.aio_body.specs.declared.body.Body.{Body}
-use Rattle.aio_body.specs.declared.standing.Standing.{Standing}
-use Rattle.aio_body.specs.declared.standing.Standing.TheVariants as standing
+use Rattle.aio_body.specs.declared.run_state.RunState.{RunState}
+use Rattle.aio_body.specs.declared.resume_point.ResumePoint.{ResumePoint}
+use Rattle.aio_body.specs.declared.resume_point.ResumePoint.TheVariants as resume_point
 use Rattle.aio_step.specs.declared.steps.Started.{Started}
 use Rattle.aio_step.specs.declared.steps.Stepped as stepped
 use Rattle.aio_step.specs.declared.steps.Stepped.TheVariants as went
 use Rattle.aio_body.specs.declared.reply.RequestReply.{RequestReply}
 use Rattle.aio_body.specs.Asked.{IsInStep, IsDeciding, Says}
 use Rattle.aio_body.specs.Asking.{Piece, ReplyBegins, WentBegins}
-use Rattle.aio_body.specs.Stands.{Setting, Stands, IsBetween, holding}
+use Rattle.aio_body.specs.Stands.{Context, Stands, IsBetween, holding}
 use Rattle.law_replies.specs.InStep.{IsStepSound}
 
 -- ---- what a step comes to
 -- it goes on, or the task ran away and what happened is told
-abbrev pub Steps : {X : Type 0} {a : Added X} → Setting a → Body X → stepped.Stepped → Went a.Kept → Type 0
-Steps c body went.Goes (Goes now) = IsBetween c body now
-Steps c body (went.Runaway task) (Stops it last) =
+abbrev pub TaskSteps : {X : Type 0} {a : Added X} → Context a → RunState X → stepped.Stepped → Went a.Kept → Type 0
+TaskSteps c body went.Goes (Goes now) = IsBetween c body now
+TaskSteps c body (went.Runaway task) (Stops it last) =
     (it ≡ end.Runaway task) × (last.events ≡ c.past ++ body.events.events)
-Steps c body _ _ = ⊥
+TaskSteps c body _ _ = ⊥
 
 -- ---- how it begins
 -- The task's handle was taken from the queue, and it was noted that it runs; the step hasn't begun.
-pub record IsCalled {X : Type 0} {a : Added X} (task : ℕ) (c : Setting a) (body : Body X) (s : State a.Kept) : Type 0 where
+pub record IsCalled {X : Type 0} {a : Added X} (task : ℕ) (c : Context a) (body : RunState X) (s : State a.Kept) : Type 0 where
   pub before : State a.Kept
   pub handle : Handle
   pub rest : List Handle
@@ -53,60 +53,60 @@ pub record IsCalled {X : Type 0} {a : Added X} (task : ℕ) (c : Setting a) (bod
   pub running : body.parts.running ≡ None
 
 -- the tasks that an input names were made
-abbrev pub HearsMade : {X : Type 0} → Input → Body X → Type 0
+abbrev pub HearsMade : {X : Type 0} → Input → RunState X → Type 0
 HearsMade input body = sends_made (length body.slots.items) input ≡ true
 
 -- the machine's step, as it has begun
 abbrev pub begun_by : {S : Type 0} → ℕ → Input → State S → Begun
-begun_by task input s = begin_step task input (given_up (generator_of task s).standing s.loop.parts)
+begun_by task input s = begin_step task input (given_up (generator_of task s).resume_point s.loop.parts)
 
 abbrev pub begun_in : {S : Type 0} → ℕ → Input → State S → State S
 begun_in task input s = stands plain.Asked task (unbooked_in (λ p. (begun_by task input s).parts) s)
 
 -- what a step begins at decides the same in code
-abbrev pub DecidesAs : Standing → plain.Standing → Type 0
-DecidesAs standing.Asked plain.Asked = Unit {0}
-DecidesAs (standing.Sleeping timer future) (plain.Sleeping tag) = Unit {0}
-DecidesAs (standing.Leaving group) (plain.Leaving id) = group ≡ id
-DecidesAs (standing.Serving key) (plain.Serving kept) = key ≡ kept
-DecidesAs (standing.Connecting conn future) (plain.Connecting id) = conn ≡ id
-DecidesAs (standing.Yielding whom) (plain.Yielding drained) = whom ≡ drained
-DecidesAs (standing.Reading from op on) (plain.Reading source asked future) =
+abbrev pub DecidesAs : ResumePoint → plain.ResumePoint → Type 0
+DecidesAs resume_point.Asked plain.Asked = Unit {0}
+DecidesAs (resume_point.Sleeping timer future) (plain.Sleeping tag) = Unit {0}
+DecidesAs (resume_point.Leaving group) (plain.Leaving id) = group ≡ id
+DecidesAs (resume_point.Serving key) (plain.Serving kept) = key ≡ kept
+DecidesAs (resume_point.Connecting conn future) (plain.Connecting id) = conn ≡ id
+DecidesAs (resume_point.Yielding whom) (plain.Yielding drained) = whom ≡ drained
+DecidesAs (resume_point.Reading from op on) (plain.Reading source asked future) =
     (reader_as from ≡ source) × (op ≡ asked) × (on ≡ future)
-DecidesAs (standing.ReadingAll from taken on) (plain.ReadingAll source had future) =
+DecidesAs (resume_point.ReadingAll from taken on) (plain.ReadingAll source had future) =
     (reader_as from ≡ source) × (taken ≡ had) × (on ≡ future)
 DecidesAs _ _ = ⊥
 
-abbrev pub IsDecidingAs : {X : Type 0} {a : Added X} → ℕ → Standing → Setting a → Body X → State a.Kept → Type 0
-IsDecidingAs task code c body s = (stood : plain.Standing) × (DecidesAs code stood × IsDeciding task stood c body s)
+abbrev pub IsDecidingAs : {X : Type 0} {a : Added X} → ℕ → ResumePoint → Context a → RunState X → State a.Kept → Type 0
+IsDecidingAs task code c body s = (stood : plain.ResumePoint) × (DecidesAs code stood × IsDeciding task stood c body s)
 
-pub record HasBegun {X : Type 0} {a : Added X} (task : ℕ) (input : Input) (c : Setting a) (s : State a.Kept) (started : Started)
-    (body : Body X) : Type 0 where
-  pub deciding : IsDeciding task (generator_of task s).standing (holding started.coroutine c) body (begun_in task input s)
+pub record HasBegun {X : Type 0} {a : Added X} (task : ℕ) (input : Input) (c : Context a) (s : State a.Kept) (started : Started)
+    (body : RunState X) : Type 0 where
+  pub deciding : IsDeciding task (generator_of task s).resume_point (holding started.coroutine c) body (begun_in task input s)
   pub heard : started.input ≡ (begun_by task input s).input
-  pub decides : DecidesAs started.standing (generator_of task s).standing
+  pub decides : DecidesAs started.resume_point (generator_of task s).resume_point
 
 -- ---- how it goes on
 -- the coroutine is to be resumed with this
-pub record IsServing {X : Type 0} {a : Added X} (task : ℕ) (fresh : Bool) (input : Input) (coroutine : Gen) (c : Setting a)
-    (body : Body X) (s : State a.Kept) : Type 0 where
+pub record IsServing {X : Type 0} {a : Added X} (task : ℕ) (fresh : Bool) (input : Input) (coroutine : Gen) (c : Context a)
+    (body : RunState X) (s : State a.Kept) : Type 0 where
   pub in_step : IsInStep task (holding coroutine c) body s
   pub sound : IsStepSound a.meaning task (resumed fresh task input s)
 
 -- ---- as pieces of the machine
-abbrev pub stepping : {X : Type 0} → (a : Added X) → ℕ → Input → (old new : Body X) → Piece a (State a.Kept) (Went a.Kept) stepped.Stepped
+abbrev pub stepping : {X : Type 0} → (a : Added X) → ℕ → Input → (old new : RunState X) → Piece a (State a.Kept) (Went a.Kept) stepped.Stepped
 stepping a task input old new =
     record {
       from = λ c s. IsCalled task c old s;
       does = step step_limit a.meaning task input;
       ends = Stops;
-      says = λ c went it. Steps c new went it;
+      says = λ c went it. TaskSteps c new went it;
       begins = WentBegins;
     }
 
 -- from a state, and the request at which the task stood
-abbrev pub deciding : {X : Type 0} → (a : Added X) → ℕ → Standing → Input → (old new : Body X)
-    → Piece a (State a.Kept × plain.Standing) (reply.RequestReply a.Kept) RequestReply
+abbrev pub deciding : {X : Type 0} → (a : Added X) → ℕ → ResumePoint → Input → (old new : RunState X)
+    → Piece a (State a.Kept × plain.ResumePoint) (reply.RequestReply a.Kept) RequestReply
 deciding a task code input old new =
     record {
       from = λ c at. IsDeciding task at.1 c old at.0 × DecidesAs code at.1;
@@ -116,12 +116,12 @@ deciding a task code input old new =
       begins = ReplyBegins;
     }
 
-abbrev pub serving_on : {X : Type 0} → (a : Added X) → ℕ → Input → Gen → (old new : Body X) → Piece a (State a.Kept) (Went a.Kept) stepped.Stepped
+abbrev pub serving_on : {X : Type 0} → (a : Added X) → ℕ → Input → Gen → (old new : RunState X) → Piece a (State a.Kept) (Went a.Kept) stepped.Stepped
 serving_on a task input coroutine old new =
     record {
       from = λ c s. IsServing task true input coroutine c old s;
       does = λ s. serve_all step_limit a.meaning task (resumed true task input s);
       ends = Stops;
-      says = λ c went it. Steps c new went it;
+      says = λ c went it. TaskSteps c new went it;
       begins = WentBegins;
     }

@@ -3,13 +3,13 @@ ghost use Rattle.std.specs.Prelude.{◌≡◌, true};
 ghost use Rattle.model_machine.specs.State.{State};
 ghost use Rattle.aio_wire.specs.Port.{ported};
 ghost use Rattle.aio_body.specs.Asking.{Comes};
-ghost use Rattle.aio_body.specs.Stands.{Setting, Possible};
+ghost use Rattle.aio_body.specs.Stands.{Context, Possible};
 ghost use Rattle.aio_step.specs.Serving.{served_of, serving_once};
 ghost use Rattle.aio_step.specs.Stepping.{HasBegun, HearsMade, IsCalled, IsDecidingAs, IsServing};
 ghost use Rattle.aio_step.specs.Stepping.{deciding, serving_on, stepping};
 
 use aio_base::{Input, Memory};
-use aio_body::{Body, RequestReply, Slot, Standing, reply_of};
+use aio_body::{RequestReply, ResumePoint, RunState, Slot, reply_of};
 use aio_extra::Extra;
 use aio_gen::{Gen, GenOut};
 use aio_serve::{leave_group, or_stop, reply, wake};
@@ -30,7 +30,7 @@ pub enum Stepped {
 #[derive(Drop)]
 pub enum Served {
     Answered(Input),
-    Rests,
+    Suspends,
     Ended(Stepped),
 }
 
@@ -38,13 +38,13 @@ pub enum Served {
 #[derive(Drop)]
 pub struct Started {
     pub coroutine: Gen,
-    pub standing: Standing,
+    pub resume_point: ResumePoint,
     pub input: Input,
 }
 
 /// A step of a task, by the handle whose memory the ticket is. It may ask the outside.
 pub fn step<W: Wire, X: Extra>(
-    body: &mut Body<X>,
+    body: &mut RunState<X>,
     alloc: Global,
     wire: &mut W,
     task: u32,
@@ -58,17 +58,17 @@ pub fn step<W: Wire, X: Extra>(
 {
     let Started {
         coroutine,
-        standing,
+        resume_point,
         input,
     } = begin(body, task, ticket, input);
-    match decide(body, alloc, wire, task, standing, input) {
+    match decide(body, alloc, wire, task, resume_point, input) {
         Ok(RequestReply::Answers(value)) => {
             serve(body, alloc, wire, task, coroutine, Input::Send(value))
         }
         Ok(RequestReply::Raises(fault)) => {
             serve(body, alloc, wire, task, coroutine, Input::Throw(fault))
         }
-        Ok(RequestReply::Rests) => {
+        Ok(RequestReply::Suspends) => {
             body.put_back(task, coroutine);
             Ok(Stepped::Goes)
         }
@@ -83,56 +83,56 @@ pub fn step<W: Wire, X: Extra>(
 fn forget_coroutine(_coroutine: Gen) {}
 
 // The step begins, and what the task runs is taken out.
-fn begin<X: Extra>(body: &mut Body<X>, task: u32, ticket: Ticket, input: Input) -> Started
+fn begin<X: Extra>(body: &mut RunState<X>, task: u32, ticket: Ticket, input: Input) -> Started
     requires { Possible X.added (IsCalled task) body.old }
-    ensures { (c : Setting X.added) (s : State X.added.Kept) → IsCalled task c body.old s
+    ensures { (c : Context X.added) (s : State X.added.Kept) → IsCalled task c body.old s
         → HasBegun task input c s result body.new }
 {
     let input = body.parts.begin_step(task, ticket, input);
     let Slot {
         coroutine,
-        standing,
+        resume_point,
     } = body.take(task);
-    body.give_up(&standing);
+    body.give_up(&resume_point);
     let Some(coroutine) = coroutine else {
         unreachable!()
     };
     Started {
         coroutine,
-        standing,
+        resume_point,
         input,
     }
 }
 
 // What the request at which a task stood makes of the input that its step begins with.
 fn decide<W: Wire, X: Extra>(
-    body: &mut Body<X>,
+    body: &mut RunState<X>,
     alloc: Global,
     wire: &mut W,
     task: u32,
-    standing: Standing,
+    resume_point: ResumePoint,
     input: Input,
 ) -> Result<RequestReply, Stop>
-    requires { Possible X.added (IsDecidingAs task standing) body.old }
-    ensures { Comes W.outside (deciding X.added task standing input body.old body.new)
+    requires { Possible X.added (IsDecidingAs task resume_point) body.old }
+    ensures { Comes W.outside (deciding X.added task resume_point input body.old body.new)
         (ported wire.old body.old.events) (ported wire.new body.new.events) result }
 {
-    match standing {
-        Standing::Asked => Ok(reply_of(input)),
-        Standing::Sleeping {
+    match resume_point {
+        ResumePoint::Asked => Ok(reply_of(input)),
+        ResumePoint::Sleeping {
             timer: _,
             future: _,
         } => Ok(reply_of(input)),
-        Standing::Leaving(group) => or_stop(leave_group(body, alloc, task, group, input)),
-        Standing::Serving(key) => wake(body, alloc, wire, task, key, input),
-        Standing::Connecting { conn, future: _ } => {
+        ResumePoint::Leaving(group) => or_stop(leave_group(body, alloc, task, group, input)),
+        ResumePoint::Serving(key) => wake(body, alloc, wire, task, key, input),
+        ResumePoint::Connecting { conn, future: _ } => {
             connected(body, alloc, wire, task, conn, input)
         }
-        Standing::Yielding(whom) => or_stop(yielded(body, alloc, task, whom, input)),
-        Standing::Reading { from, op, on } => {
+        ResumePoint::Yielding(whom) => or_stop(yielded(body, alloc, task, whom, input)),
+        ResumePoint::Reading { from, op, on } => {
             or_stop(read_on(body, alloc, task, from, op, on, input))
         }
-        Standing::ReadingAll { from, taken, on } => {
+        ResumePoint::ReadingAll { from, taken, on } => {
             or_stop(read_all_on(body, alloc, task, from, taken, on, input))
         }
     }
@@ -140,7 +140,7 @@ fn decide<W: Wire, X: Extra>(
 
 // The coroutine is resumed, and what it says is served, until the step ends.
 fn serve<W: Wire, X: Extra>(
-    body: &mut Body<X>,
+    body: &mut RunState<X>,
     alloc: Global,
     wire: &mut W,
     task: u32,
@@ -157,7 +157,7 @@ fn serve<W: Wire, X: Extra>(
     for _answered in 0..u64::MAX {
         match serve_one(body, alloc, wire, task, &mut coroutine, input, fresh) {
             Ok(Served::Answered(next)) => input = next,
-            Ok(Served::Rests) => {
+            Ok(Served::Suspends) => {
                 body.put_back(task, coroutine);
                 return Ok(Stepped::Goes);
             }
@@ -182,7 +182,7 @@ fn forget_input(_input: Input) {}
 
 // The coroutine is resumed once, and what it says is served.
 fn serve_one<W: Wire, X: Extra>(
-    body: &mut Body<X>,
+    body: &mut RunState<X>,
     alloc: Global,
     wire: &mut W,
     task: u32,
@@ -220,6 +220,6 @@ fn onward(said: RequestReply) -> Served
     match said {
         RequestReply::Answers(value) => Served::Answered(Input::Send(value)),
         RequestReply::Raises(fault) => Served::Answered(Input::Throw(fault)),
-        RequestReply::Rests => Served::Rests,
+        RequestReply::Suspends => Served::Suspends,
     }
 }

@@ -28,7 +28,7 @@ use Rattle.aio_sender.specs.Owned.{futures_of}
 use Rattle.aio_connection.specs.Owned.{OwnsConnection}
 use Rattle.aio_stream.specs.Kept.{Kept}
 use Rattle.aio_stream.specs.Owned.{OwnsStreams}
-use Rattle.aio_stream.specs.Standing.{Answers, Becomes, Comes, StandsAfter, StandsFor, Told, ToldWith}
+use Rattle.aio_stream.specs.Standing.{Answers, Becomes, Comes, StandsAfter, StreamStandsFor, Told, ToldWith}
 
 -- ---- reads of a list
 pub at_place : {X : Type 0} (xs : List X) (id : ℕ) (x : X) → id < length xs → x ≡ slice_index_or xs id x → slice_get xs id ≡ Some x
@@ -80,7 +80,7 @@ module _ (k : Kept) (id : ℕ) (c after : Connection) (at : slice_get k.connecti
   abbrev put_in : Streams → Streams
   put_in s = record s { connections = slice_set s.connections id after }
 
-  stands_placed : (s : Streams) → StandsFor k s → StandsAfter placed s (put_in s)
+  stands_placed : (s : Streams) → StreamStandsFor k s → StandsAfter placed s (put_in s)
   stands_placed s h = (
     record {
       servers = h.servers;
@@ -91,7 +91,7 @@ module _ (k : Kept) (id : ℕ) (c after : Connection) (at : slice_get k.connecti
     refl,
   )
 
-  is_there : (s : Streams) → StandsFor k s → Some c ≡ slice_get s.connections id
+  is_there : (s : Streams) → StreamStandsFor k s → Some c ≡ slice_get s.connections id
   is_there s h = sym (ap (λ cs. slice_get cs id) h.connections ∙ at)
 
   abbrev on_by : (Connection → Doing Connection) → Streams → Option Connection → Doing Streams
@@ -153,7 +153,7 @@ module _ (k : Kept) (id : ℕ) (c after : Connection) (at : slice_get k.connecti
             follows_stopped o seen_changed (write_to id piece c) (λ it. Ends (record s { connections = slice_set s.connections id it.0 }, it.1)) why
             old new f
 
-    noted_so : (s : Streams) → StandsFor k s → (noting : List ℕ)
+    noted_so : (s : Streams) → StreamStandsFor k s → (noting : List ℕ)
         → Follows o seen_changed (write_unnoted (to.Conn id) piece (noted (to.Conn id) noting s)) old new
         (with_after (put_in (noted (to.Conn id) noting s)) result)
         × OnOk result (StandsAfter placed s (put_in (noted (to.Conn id) noting s)))
@@ -164,7 +164,7 @@ module _ (k : Kept) (id : ℕ) (c after : Connection) (at : slice_get k.connecti
         ok (Err why) = tt
     noted_so s h (byte ∷ bytes) =
         let it = noted (to.Conn id) (byte ∷ bytes) s in
-        let stands : StandsFor k it = record { servers = h.servers; connections = h.connections; opened = h.opened; most = h.most } in
+        let stands : StreamStandsFor k it = record { servers = h.servers; connections = h.connections; opened = h.opened; most = h.most } in
         (unnoted it (is_there it stands), ok result)
       where
         ok : (r : Result Wrote Stop) → OnOk r (StandsAfter placed s (put_in (noted (to.Conn id) (byte ∷ bytes) s)))
@@ -277,7 +277,7 @@ module _ (k : Kept) (id : ℕ) (c after : Connection) (at : slice_get k.connecti
 
 -- ---- on one that there isn't
 module _ (k : Kept) (id : ℕ) (past : slice_get k.connections id ≡ None) where
-  none_there : (s : Streams) → StandsFor k s → None ≡ slice_get s.connections id
+  none_there : (s : Streams) → StreamStandsFor k s → None ≡ slice_get s.connections id
   none_there s h = sym (ap (λ cs. slice_get cs id) h.connections ∙ past)
 
   pub given_absent : (on : ℕ) → Becomes (requests.give_up_read on (OfConn id)) k k

@@ -27,9 +27,9 @@ use Rattle.aio_task.specs.View.{parts, stepped}
 use Rattle.aio_transports.specs.Owned.{OwnsTransports}
 use Rattle.aio_transports.specs.Standing.{Comes as Changes}
 use Rattle.aio_extra.specs.Added.{Added}
-use Rattle.aio_body.specs.declared.body.Body.{Body}
+use Rattle.aio_body.specs.declared.run_state.RunState.{RunState}
 use Rattle.aio_body.specs.Asking.{Comes, Piece, before}
-use Rattle.aio_body.specs.Stands.{Possible, Setting}
+use Rattle.aio_body.specs.Stands.{Possible, Context}
 use Rattle.aio_body.specs.Taken.{IsTaken}
 use Rattle.aio_body.proofs.May.{same_prop}
 use Rattle.aio_body.proofs.Telling.{own_stays}
@@ -61,7 +61,7 @@ acts_by added (action.ChildItem child told) s of = refl
 acts_by added (action.LostChild child broken) s of = refl
 acts_by added (action.Made conn) s of = absurd (false≢true of)
 acts_by added (action.Step task) s of = absurd (false≢true of)
-acts_by added (action.StepInCircle task circle) s of = absurd (false≢true of)
+acts_by added (action.StepInCycle task cycle) s of = absurd (false≢true of)
 acts_by added (action.Wakeup task) s of = absurd (false≢true of)
 acts_by added (action.SleepDone task future) s of = absurd (false≢true of)
 acts_by added (action.GroupDone group task) s of = absurd (false≢true of)
@@ -73,12 +73,12 @@ acts_by added (action.Extra key) s of = absurd (false≢true of)
 -- it steps no task
 steps_none : (it : Action) → is_of_streams it ≡ true → stepped it ≡ None
 steps_none (action.Step task) of = absurd (false≢true of)
-steps_none (action.StepInCircle task circle) of = absurd (false≢true of)
+steps_none (action.StepInCycle task cycle) of = absurd (false≢true of)
 steps_none (action.Wakeup task) of = absurd (false≢true of)
 steps_none _ of = refl
 
-module _ {X : Type 0} {a : Added X} (it : Action) (old : Body X) where
-  may : (c : Setting a) (s : State a.Kept) → IsTaken it c old s → MayCall None c old s
+module _ {X : Type 0} {a : Added X} (it : Action) (old : RunState X) where
+  may : (c : Context a) (s : State a.Kept) → IsTaken it c old s → MayCall None c old s
   may c s h = may_taken c old s it h
 
   -- ---- what the call requires before it
@@ -96,18 +96,18 @@ module _ {X : Type 0} {a : Added X} (it : Action) (old : Body X) where
     acting_idle of = taken_idle (steps_none it of)
 
   -- ---- how the task of a handler ended
-  returned_read : (c : Setting a) (s : State a.Kept) → IsTaken it c old s → (action : Action)
+  returned_read : (c : Context a) (s : State a.Kept) → IsTaken it c old s → (action : Action)
       → returned_in (parts old.parts) action ≡ returned_in s.loop.parts action
   returned_read c s h (action.HandlerDone conn task) =
       let m = may c s h in
       ap (λ id. is_returned (future_outcome (parts old.parts) id))
-      (future_of_kept m.stands.ties old.parts s.loop.parts m.stands.keeps task)
-      ∙ ap is_returned (outcome_kept m.stands.ties old.parts s.loop.parts m.stands.keeps (future_of s.loop.parts task)
+      (future_of_kept m.stands.name_map old.parts s.loop.parts m.stands.keeps task)
+      ∙ ap is_returned (outcome_kept m.stands.name_map old.parts s.loop.parts m.stands.keeps (future_of s.loop.parts task)
       (own_stays None c old s m.stands m.owns task))
   returned_read c s h _ = refl
 
   -- ---- what comes of it
-  module _ {W : Type 0} (o : Outside W) (returned : Bool) (new : Body X) (wire after : W)
+  module _ {W : Type 0} (o : Outside W) (returned : Bool) (new : RunState X) (wire after : W)
       (possible : Possible a (IsTaken it) old) (of : is_of_streams it ≡ true)
       (read : returned ≡ returned_in (parts old.parts) it) where
     abbrev piece : Piece a (State a.Kept) (Went a.Kept) (Unit {0})
@@ -116,7 +116,7 @@ module _ {X : Type 0} {a : Added X} (it : Action) (old : Body X) where
     abbrev tree : ℕ → Streams → Doing Streams
     tree next = streams.act next returned it
 
-    means : (c : Setting a) (s : State a.Kept) → IsTaken it c old s
+    means : (c : Context a) (s : State a.Kept) → IsTaken it c old s
         → effect step_limit a.meaning it s
         ≡ does Stops (tree (next_future s.loop.parts) s.streams) (λ streams now. Goes (with_streams streams now)) s
     means c s h =
@@ -128,13 +128,13 @@ module _ {X : Type 0} {a : Added X} (it : Action) (old : Body X) where
         (reach new.parts after new.events) result
         → new ≡ record old { parts = new.parts; events = new.events; transports = new.transports }
         → Comes o piece (ported wire old.events) (ported after new.events) result
-    acts_so (Err why) call beside =
+    acts_so (Err why) call frame =
         change_fails o piece None old new wire after may (taken_streams possible) tree Goes means (Unit {0})
         (went_leaves piece.from piece.does piece.says) (λ t. goes_on_same t.events)
         (act_forgets (length old.parts.futures) returned it) why call
-    acts_so (Ok said) call beside =
+    acts_so (Ok said) call frame =
         let come = change_goes o piece None old new wire after may (taken_streams possible) tree Goes means said call
-        (λ s kept. acts (is_plain s.loop.parts) (next_future s.loop.parts) returned it s.streams kept) beside in
+        (λ s kept. acts (is_plain s.loop.parts) (next_future s.loop.parts) returned it s.streams kept) frame in
         gone_ends o piece None old new wire after (λ first now. Unit {0}) Goes come new said refl
         (λ c s began g.
         callback_so it (before come.0 c) c old new s began (steps_none it of) (λ first now. Unit {0}) (piece.does s) Goes g)

@@ -32,24 +32,24 @@ use Rattle.law_steps.proofs.CancelSound.{plain_within}
 use Rattle.law_cases.specs.Trees.{AnswersStreams, IsMade, Keeping}
 use Rattle.law_cases.proofs.Fits.{asked_kept, kept_nowhere}
 use Rattle.law_cases.proofs.Opening.{connects}
-use Rattle.aio_transports.specs.Standing.{Answers as AnswersTree, StandsAfter, StandsFor as AreTransports}
-use Rattle.aio_task.specs.Keeps.{Ties}
+use Rattle.aio_transports.specs.Standing.{Answers as AnswersTree, StandsAfter, TransportsStandFor as AreTransports}
+use Rattle.aio_task.specs.Keeps.{NameMap}
 use Rattle.aio_extra.specs.Added.{Added, named_in}
-use Rattle.aio_body.specs.declared.body.Body.{Body}
+use Rattle.aio_body.specs.declared.run_state.RunState.{RunState}
 use Rattle.aio_body.specs.declared.reply.RequestReply.{RequestReply}
 use Rattle.aio_body.specs.declared.reply.RequestReply.TheVariants as said
-use Rattle.aio_body.specs.declared.standing.Standing.TheVariants as code
+use Rattle.aio_body.specs.declared.resume_point.ResumePoint.TheVariants as code
 use Rattle.aio_body.specs.Asked.{IsAskingFor}
 use Rattle.aio_body.specs.Asking.{Comes, or_stop, serving}
-use Rattle.aio_body.specs.Slots.{standing_at}
-use Rattle.aio_body.specs.Stands.{Possible, Setting, Stands, StandsAt}
+use Rattle.aio_body.specs.Slots.{resume_point_at}
+use Rattle.aio_body.specs.Stands.{Possible, Context, Stands, StandsAt}
 use Rattle.aio_body.proofs.Asking.{HasCome}
 use Rattle.aio_body.specs.Answers.{with_answers, with_rest}
 use Rattle.aio_body.proofs.Answering.{asking_again}
 use Rattle.aio_change.specs.Seen.{seen_changed}
 use Rattle.aio_body.proofs.May.{going_of, running_of}
 use Rattle.aio_body.proofs.Sound.{plain_named}
-use Rattle.refine_streams.specs.Went.{BegunWaits, HasGone, MayCall, Suspends}
+use Rattle.refine_streams.specs.Went.{BegunWaits, HasGone, MayCall, CallsSuspend}
 use Rattle.refine_streams.proofs.Forgetting.{connect_forgets}
 use Rattle.refine_streams.proofs.May.{may_asking}
 use Rattle.refine_streams.proofs.Nexts.{connects_add}
@@ -103,9 +103,9 @@ none_asked next s none =
     let other : one_time (next + 1) (Some next) ≡ 0 = ap (λ b. cond b 1 0) (ne_eqb (next + 1) next (λ e. omega (arith, e))) in
     omega (arith, more, other, none)
 
-module _ {X W : Type 0} {a : Added X} (task number : ℕ) (request : Request) (old : Body X) (o : Outside W)
-    (possible : Possible a (IsAskingFor task request) old) (new : Body X) (wire after : W)
-    (means : (c : Setting a) (s : State a.Kept) → IsAskingFor task request c old s
+module _ {X W : Type 0} {a : Added X} (task number : ℕ) (request : Request) (old : RunState X) (o : Outside W)
+    (possible : Possible a (IsAskingFor task request) old) (new : RunState X) (wire after : W)
+    (means : (c : Context a) (s : State a.Kept) → IsAskingFor task request c old s
     → reply a.meaning task request s ≡ streams_do (connect number (next_future s.loop.parts) s.streams) (connects_as task) s) where
   abbrev Says : Result (Option (ℕ × ℕ)) Stop → Type 0
   Says result =
@@ -127,33 +127,33 @@ module _ {X W : Type 0} {a : Added X} (task number : ℕ) (request : Request) (o
       (connect_forgets number (length old.parts.futures)) why call
 
   module _ (it : Option (ℕ × ℕ)) (call : Says (Ok it))
-      (beside : new ≡ record old { parts = new.parts; events = new.events; transports = new.transports }) where
+      (frame : new ≡ record old { parts = new.parts; events = new.events; transports = new.transports }) where
     -- it was refused
     pub connect_raises : it ≡ None → (result : Result RequestReply Memory) → IfOk result (λ it_. it_ ≡ said.Raises connect_refused)
         → Comes o (serving a task request old new) (ported wire old.events) (ported after new.events) (or_stop result)
     connect_raises none (Ok reply_) is =
         subst (λ r. Comes o (serving a task request old new) (ported wire old.events) (ported after new.events) (Ok r)) (sym is)
-        (serving_raises task request old o possible new wire after (connect number) (connects_as task) means BegunWaits it call keeping beside
+        (serving_raises task request old o possible new wire after (connect number) (connects_as task) means BegunWaits it call keeping frame
         connect_refused (λ t. ap (λ k. connects_as task k t) none))
     connect_raises none (Err memory) is =
-        serving_starves task request old o possible new wire after (connect number) (connects_as task) means BegunWaits it call keeping beside new
+        serving_starves task request old o possible new wire after (connect number) (connects_as task) means BegunWaits it call keeping frame new
         (connects_add task it)
 
     module _ (begun : ℕ × ℕ) (is : it ≡ Some begun) where
       made_it : (first now : ℕ) → BegunWaits (IsMade first now) it → IsMade first now begun.1
       made_it first now waits = subst (BegunWaits (IsMade first now)) is waits
 
-      come : (had : List Exchange) × HasCome {a = a} o (λ (c : Setting a) (s : State a.Kept). IsAskingFor task request c old s) had
+      come : (had : List Exchange) × HasCome {a = a} o (λ (c : Context a) (s : State a.Kept). IsAskingFor task request c old s) had
           (ported wire old.events) (ported after new.events)
-          (λ (c : Setting a) (s : State a.Kept).
+          (λ (c : Context a) (s : State a.Kept).
           HasGone (Some task) (λ first now. BegunWaits (IsMade first now) it) (reply a.meaning task request s) (connects_as task it) c old new s)
       come =
-          serving_goes task request old o possible new wire after (connect number) (connects_as task) means BegunWaits it call keeping beside
+          serving_goes task request old o possible new wire after (connect number) (connects_as task) means BegunWaits it call keeping frame
 
-      may : (c : Setting a) (s : State a.Kept) → IsAskingFor task request c old s → MayCall (Some task) c old s
+      may : (c : Context a) (s : State a.Kept) → IsAskingFor task request c old s → MayCall (Some task) c old s
       may c s from = may_asking c old s task request from
 
-      again : (answers : List Entry) (c : Setting a) (s : State a.Kept) → IsAskingFor task request c old s
+      again : (answers : List Entry) (c : Context a) (s : State a.Kept) → IsAskingFor task request c old s
           → (t : State a.Kept) × IsAskingFor task request (with_rest answers c) old t
       again answers c s from = (with_answers answers s, asking_again answers c old s task request from)
 
@@ -176,10 +176,10 @@ module _ {X W : Type 0} {a : Added X} (task number : ℕ) (request : Request) (o
 
       pub connect_there : task < length new.slots.items
       connect_there =
-          subst (λ (b : Body X). task < length b.slots.items) (sym beside) (slot_there task old (going_of task request old possible))
+          subst (λ (b : RunState X). task < length b.slots.items) (sym frame) (slot_there task old (going_of task request old possible))
 
       -- its own future, which nobody else waits for
-      none : (d : Setting a) (s : State a.Kept) → IsAskingFor task request d old s → (now : Streams) → AreTransports new.transports now
+      none : (d : Context a) (s : State a.Kept) → IsAskingFor task request d old s → (now : Streams) → AreTransports new.transports now
           → times_asked begun.1 now ≡ 0
       none d s from now transports =
           subst (λ n. times_asked n now ≡ 0) (sym left.1)
@@ -206,7 +206,7 @@ module _ {X W : Type 0} {a : Added X} (task number : ℕ) (request : Request) (o
           before : times_asked (next + 1) s.streams ≡ 0
           before =
               let most = asked_kept (next + 1) s.streams in
-              let made = next_kept stands.ties old.parts s.loop.parts stands.keeps in
+              let made = next_kept stands.name_map old.parts s.loop.parts stands.keeps in
               let nowhere =
               kept_nowhere (λ future. is_plain s.loop.parts future ≡ true) (next + 1) (λ plain.
               let within = (plain_within s.loop.parts (next + 1) plain).1 in omega (arith, within, made)) s.streams from.going.sound.others.streams in
@@ -220,9 +220,9 @@ module _ {X W : Type 0} {a : Added X} (task number : ℕ) (request : Request) (o
               (transports.children.children ∙ sym called.1.1.0.children.children)
               ∙ ap (times_asked (next + 1)) left.0
 
-      alone : (c d : Setting a) (s : State a.Kept) → IsAskingFor task request d old s
+      alone : (c d : Context a) (s : State a.Kept) → IsAskingFor task request d old s
           → (g : HasGone (Some task) (λ first now. BegunWaits (IsMade first now) it) (reply a.meaning task request s) (connects_as task it) c old new s)
-          → (t : Ties) → StandsAt t (waits task begun.1 g.now).loop.parts (named_in a (waits task begun.1 g.now)) task
+          → (t : NameMap) → StandsAt t (waits task begun.1 g.now).loop.parts (named_in a (waits task begun.1 g.now)) task
           (code.Connecting begun.0 begun.1) (state.Connecting begun.0)
       alone c d s from g t = (
         refl,
@@ -232,22 +232,22 @@ module _ {X W : Type 0} {a : Added X} (task number : ℕ) (request : Request) (o
         }),
       )
 
-      rests : (last : Body X) → Suspends task begun.1 new.parts last.parts → last ≡ record new { parts = last.parts; slots = last.slots }
-          → last.slots.items ≡ standing_at task (code.Connecting begun.0 begun.1) new.slots.items
-          → Comes o (serving a task request old last) (ported wire old.events) (ported after last.events) (Ok said.Rests)
+      rests : (last : RunState X) → CallsSuspend task begun.1 new.parts last.parts → last ≡ record new { parts = last.parts; slots = last.slots }
+          → last.slots.items ≡ resume_point_at task (code.Connecting begun.0 begun.1) new.slots.items
+          → Comes o (serving a task request old last) (ported wire old.events) (ported after last.events) (Ok said.Suspends)
       rests last suspends same items =
-          serving_stands task request old o possible new wire after (connect number) (connects_as task) means BegunWaits it call keeping beside last
+          serving_stands task request old o possible new wire after (connect number) (connects_as task) means BegunWaits it call keeping frame last
           begun.1 last.parts (code.Connecting begun.0 begun.1) (state.Connecting begun.0) same items connect_there alone suspends made_it
           (λ t. ap (λ k. connects_as task k t) is)
 
       -- or memory is refused after it
-      pub connect_stands : (last : Body X) (result : Result RequestReply Memory) → IfOk result (λ it_. it_ ≡ said.Rests)
-          → Suspends task begun.1 new.parts last.parts → last ≡ record new { parts = last.parts; slots = last.slots }
-          → OnOk result (last.slots.items ≡ standing_at task (code.Connecting begun.0 begun.1) new.slots.items)
+      pub connect_stands : (last : RunState X) (result : Result RequestReply Memory) → IfOk result (λ it_. it_ ≡ said.Suspends)
+          → CallsSuspend task begun.1 new.parts last.parts → last ≡ record new { parts = last.parts; slots = last.slots }
+          → OnOk result (last.slots.items ≡ resume_point_at task (code.Connecting begun.0 begun.1) new.slots.items)
           → Comes o (serving a task request old last) (ported wire old.events) (ported after last.events) (or_stop result)
       connect_stands last (Ok reply_) answer suspends same items =
           subst (λ r. Comes o (serving a task request old last) (ported wire old.events) (ported after last.events) (Ok r)) (sym answer)
           (rests last suspends same items)
       connect_stands last (Err memory) answer suspends same items =
-          serving_starves task request old o possible new wire after (connect number) (connects_as task) means BegunWaits it call keeping beside last
+          serving_starves task request old o possible new wire after (connect number) (connects_as task) means BegunWaits it call keeping frame last
           (connects_add task it)

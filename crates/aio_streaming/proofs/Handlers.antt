@@ -31,12 +31,12 @@ use Rattle.aio_future.specs.Settled.{registered, soon_at, soon_if_done, soon_unt
 use Rattle.aio_task.specs.Keeps.{Kept}
 use Rattle.aio_task.specs.View.{View, parts}
 use Rattle.aio_group.specs.Held.{Held}
-use Rattle.aio_transports.specs.Standing.{StandsFor as AreTransports, Told}
+use Rattle.aio_transports.specs.Standing.{TransportsStandFor as AreTransports, Told}
 use Rattle.aio_extra.specs.Added.{Added, named_in}
-use Rattle.aio_body.specs.declared.body.Body.{Body}
+use Rattle.aio_body.specs.declared.run_state.RunState.{RunState}
 use Rattle.aio_body.specs.Asking.{Piece}
 use Rattle.aio_body.specs.Slots.{HoldsMore}
-use Rattle.aio_body.specs.Stands.{AreBlocks, Possible, Setting, Stands}
+use Rattle.aio_body.specs.Stands.{AreBlocks, Possible, Context, Stands}
 use Rattle.aio_body.specs.Taken.{IsTaken}
 use Rattle.aio_body.proofs.Blocks.{blocks_on}
 use Rattle.aio_body.proofs.Lasting.{spares_none, stands_on}
@@ -46,7 +46,7 @@ use Rattle.refine_streams.specs.Went.{MayCall}
 use Rattle.refine_streams.proofs.Answering.{callback_so}
 use Rattle.refine_streams.proofs.May.{may_taken}
 use Rattle.refine_streams.proofs.Requests.{change_tells}
-use Rattle.aio_streaming.specs.Acting.{GoesOn, acting}
+use Rattle.aio_streaming.specs.Acting.{CallbackGoesOn, acting}
 use Rattle.aio_streaming.proofs.Callbacks.{taken_streams}
 
 -- a callback that is registered comes after the bar
@@ -73,70 +73,70 @@ made_means : {S : Type 0} (added : Extra S) (conn : ℕ) (s : State S)
 unfolding effect
 made_means added conn s = refl
 
-module _ {X : Type 0} (a : Added X) (conn : ℕ) (old : Body X) where
+module _ {X : Type 0} (a : Added X) (conn : ℕ) (old : RunState X) where
   abbrev made : Action
   made = action.Made conn
 
   abbrev does_ : State a.Kept → Went a.Kept
   does_ s = effect step_limit a.meaning made s
 
-  may : (c : Setting a) (s : State a.Kept) → IsTaken made c old s → MayCall None c old s
+  may : (c : Context a) (s : State a.Kept) → IsTaken made c old s → MayCall None c old s
   may c s h = may_taken c old s made h
 
   -- the handler that code finds
   abbrev pub Finds : Option ℕ → Type 0
   Finds found = (s : Streams) → AreTransports old.transports s → found ≡ handler_of conn s
 
-  by_handler : (found : Option ℕ) → Finds found → (c : Setting a) (s : State a.Kept) → IsTaken made c old s
+  by_handler : (found : Option ℕ) → Finds found → (c : Context a) (s : State a.Kept) → IsTaken made c old s
       → does_ s ≡ made_by found conn s
   by_handler found finds c s h =
       made_means a.meaning conn s ∙ ap (λ o. made_by o conn s) (sym (finds s.streams h.stands.transports))
 
   -- ---- it has none
-  pub handles_none : Finds None → (c : Setting a) (s : State a.Kept) → IsTaken made c old s → GoesOn c old (does_ s)
+  pub handles_none : Finds None → (c : Context a) (s : State a.Kept) → IsTaken made c old s → CallbackGoesOn c old (does_ s)
   handles_none finds c s h =
-      subst (GoesOn c old) (sym (by_handler None finds c s h))
+      subst (CallbackGoesOn c old) (sym (by_handler None finds c s h))
       (record { stands = h.stands; called = h.called; running = h.running })
 
   module _ (coroutine : ℕ) (finds : Finds (Some coroutine)) where
-    by_room : (b : Bool) (c : Setting a) (s : State a.Kept) → IsTaken made c old s → nat_lt (next_task s.loop.parts) most_ids ≡ b
+    by_room : (b : Bool) (c : Context a) (s : State a.Kept) → IsTaken made c old s → nat_lt (next_task s.loop.parts) most_ids ≡ b
         → does_ s ≡ handled_if b coroutine conn s
     by_room b c s h e = by_handler (Some coroutine) finds c s h ∙ ap (λ b. handled_if b coroutine conn s) e
 
     -- ---- no more tasks can be numbered
-    module _ (new : Body X) (possible : Possible a (IsTaken made) old) (many : most_ids ≤ length old.slots.items)
-        (beside : new ≡ record old { parts = new.parts; transports = new.transports }) where
+    module _ (new : RunState X) (possible : Possible a (IsTaken made) old) (many : most_ids ≤ length old.slots.items)
+        (frame : new ≡ record old { parts = new.parts; transports = new.transports }) where
       abbrev piece : Piece a (State a.Kept) (Went a.Kept) (Unit {0})
       piece = acting a made old new
 
       abbrev tree : ℕ → Streams → Doing Streams
       tree next = close (to.Conn conn)
 
-      means : (c : Setting a) (s : State a.Kept) → IsTaken made c old s
+      means : (c : Context a) (s : State a.Kept) → IsTaken made c old s
           → does_ s ≡ does Stops (tree (next_future s.loop.parts) s.streams) (λ streams now. Goes (with_streams streams now)) s
       means c s h =
           let slots = h.stands.made in
           by_room false c s h (le-ltb (next_task s.loop.parts) most_ids (omega (arith, many, slots)))
 
       events : new.events ≡ old.events
-      events = ap (λ (b : Body X). b.events) beside
+      events = ap (λ (b : RunState X). b.events) frame
 
       pub closes_so : Told (close (to.Conn conn)) old.transports new.transports old.parts new.parts
-          → (c : Setting a) (s : State a.Kept) → IsTaken made c old s → GoesOn c new (does_ s)
+          → (c : Context a) (s : State a.Kept) → IsTaken made c old s → CallbackGoesOn c new (does_ s)
       closes_so told c s h =
           let g = change_tells piece None old new may (taken_streams made old possible) events
-          (beside ∙ ap (λ es. record old { parts = new.parts; events = es; transports = new.transports }) (sym events))
+          (frame ∙ ap (λ es. record old { parts = new.parts; events = es; transports = new.transports }) (sym events))
           tree Goes means told
           (λ s kept. closes (is_plain s.loop.parts) (next_future s.loop.parts) (to.Conn conn) s.streams kept) c s h in
-          subst (GoesOn c new) (sym g.does) (callback_so made c c old new s h refl (λ first now. Unit {0}) (does_ s) Goes g)
+          subst (CallbackGoesOn c new) (sym g.does) (callback_so made c c old new s h refl (λ first now. Unit {0}) (does_ s) Goes g)
 
     -- ---- its task is made
     module _ (arguments : List Value) (with_conn : arguments ≡ Conn conn ∷ []) (few : length old.slots.items < most_ids)
-        (held : Body X) (takes : HoldsMore coroutine arguments old held) (ticketed v w : View) (task own : ℕ)
+        (held : RunState X) (takes : HoldsMore coroutine arguments old held) (ticketed v w : View) (task own : ℕ)
         (ticket : ticketed ≡ held.parts)
         (number : task ≡ length ticketed.tasks) (after : parts v ≡ spawn (parts ticketed))
         (queued : v.queue ≡ queue.soon (action.Step (length ticketed.tasks)) ticketed.queue)
-        (beside : v ≡ record ticketed { queue = v.queue; futures = v.futures; tasks = v.tasks })
+        (frame : v ≡ record ticketed { queue = v.queue; futures = v.futures; tasks = v.tasks })
         (is_own : own ≡ future_of (parts v) task)
         (told : w ≡ record v {
           futures = registered own (action.HandlerDone conn task) v.futures;
@@ -146,9 +146,9 @@ module _ {X : Type 0} (a : Added X) (conn : ℕ) (old : Body X) where
       holds = subst (λ xs. HoldsMore coroutine xs old held) with_conn takes
 
       same : ticketed ≡ old.parts
-      same = ticket ∙ ap (λ (b : Body X). b.parts) holds.beside
+      same = ticket ∙ ap (λ (b : RunState X). b.parts) holds.frame
 
-      module _ (c : Setting a) (s : State a.Kept) (h : IsTaken made c old s) where
+      module _ (c : Context a) (s : State a.Kept) (h : IsTaken made c old s) where
         abbrev p : Parts
         p = s.loop.parts
 
@@ -164,45 +164,45 @@ module _ {X : Type 0} (a : Added X) (conn : ℕ) (old : Body X) where
         abbrev registered_ : View
         registered_ = record v { futures = registered id done v.futures; queue = soon_if_done id done v.futures v.queue }
 
-        spawned : Kept h.stands.ties p v (spawn p)
-        spawned = kept_spawn h.stands.ties old.parts v p h.stands.keeps (record {
+        spawned : Kept h.stands.name_map p v (spawn p)
+        spawned = kept_spawn h.stands.name_map old.parts v p h.stands.keeps (record {
           parts = after ∙ ap (λ x. spawn (parts x)) same;
           queue = (
             action.Step (length ticketed.tasks) ∷ [],
             queued ∙ ap (λ (x : View). queue.soon (action.Step (length ticketed.tasks)) x.queue) same,
           );
-          time = ap (λ (x : View). x.time) beside ∙ ap (λ (x : View). x.time) same;
-          schedule = ap (λ (x : View). x.schedule) beside ∙ ap (λ (x : View). x.schedule) same;
+          time = ap (λ (x : View). x.time) frame ∙ ap (λ (x : View). x.time) same;
+          schedule = ap (λ (x : View). x.schedule) frame ∙ ap (λ (x : View). x.schedule) same;
         })
 
         more : LeavesMore p (spawn p)
         more = leaves_spawn p (own_there p (may c s h).owns)
 
-        blocks : AreBlocks spawned.ties old.timeouts held.groups (in_parts spawn s.loop)
+        blocks : AreBlocks spawned.name_map old.timeouts held.groups (in_parts spawn s.loop)
         blocks =
-            subst (λ (groups : List Held). AreBlocks spawned.ties old.timeouts groups (in_parts spawn s.loop))
-            (sym (ap (λ (b : Body X). b.groups) holds.beside))
-            (blocks_on h.stands.ties spawned.ties old.timeouts old.groups s.loop (in_parts spawn s.loop) spawned.extends
+            subst (λ (groups : List Held). AreBlocks spawned.name_map old.timeouts groups (in_parts spawn s.loop))
+            (sym (ap (λ (b : RunState X). b.groups) holds.frame))
+            (blocks_on h.stands.name_map spawned.name_map old.timeouts old.groups s.loop (in_parts spawn s.loop) spawned.extends
             more.goes_on refl refl h.stands.blocks)
 
         begins : Stands None c (record held { parts = v; groups = held.groups }) begun
         begins =
             stands_made None c old held s v held.groups (in_parts spawn) coroutine (Conn conn ∷ []) h.stands spawned more blocks
             (ap (λ (q : queue.Queue). length q.below) queued ∙ ap (λ (x : View). length x.queue.below) same) holds
-            (omega (arith, few)) (ap (λ (x : View). x.profile) beside ∙ ap (λ (x : View). x.profile) same) refl
+            (omega (arith, few)) (ap (λ (x : View). x.profile) frame ∙ ap (λ (x : View). x.profile) same) refl
 
         -- its end will be told
         awaits : Stands None c (record held { parts = registered_ }) (unbooked_in (register id done) begun)
         awaits =
             stands_on None None c (record held { parts = v }) begun registered_ (in_parts (register id done)) begins
-            (kept_register begins.ties v (spawn p) begins.keeps id done) (leaves_register id done (spawn p) refl)
+            (kept_register begins.name_map v (spawn p) begins.keeps id done) (leaves_register id done (spawn p) refl)
             (spares_none (spawn p) (named_in a begun)) (refl, refl) (ap length (below_registered id done v.futures v.queue)) refl
 
         task_is : task ≡ next_task p
         task_is = number ∙ ap (λ (x : View). length x.tasks) same ∙ ap length h.stands.keeps.tasks
 
         own_is : own ≡ id
-        own_is = is_own ∙ ap (future_of (parts v)) task_is ∙ future_of_kept spawned.ties v (spawn p) spawned.keeps (next_task p)
+        own_is = is_own ∙ ap (future_of (parts v)) task_is ∙ future_of_kept spawned.name_map v (spawn p) spawned.keeps (next_task p)
 
         told_so : w ≡ registered_
         told_so =
@@ -216,13 +216,13 @@ module _ {X : Type 0} (a : Added X) (conn : ℕ) (old : Body X) where
               queue = soon_if_done id (action.HandlerDone conn n) v.futures v.queue;
             }) task_is
 
-        pub handles_so : (new : Body X) → new ≡ record held { parts = w } → GoesOn c new (does_ s)
+        pub handles_so : (new : RunState X) → new ≡ record held { parts = w } → CallbackGoesOn c new (does_ s)
         handles_so new is =
             let slots = h.stands.made in
-            subst (λ (b : Body X). GoesOn c b (does_ s)) (sym (is ∙ ap (λ x. record held { parts = x }) told_so))
-            (subst (GoesOn c (record held { parts = registered_ }))
+            subst (λ (b : RunState X). CallbackGoesOn c b (does_ s)) (sym (is ∙ ap (λ x. record held { parts = x }) told_so))
+            (subst (CallbackGoesOn c (record held { parts = registered_ }))
             (sym (by_room true c s h (lt-ltb (next_task p) most_ids (omega (arith, few, slots))))) (record {
               stands = awaits;
-              called = ap (λ (x : View). x.called) beside ∙ ap (λ (x : View). x.called) same ∙ h.called;
-              running = ap (λ (x : View). x.running) beside ∙ ap (λ (x : View). x.running) same ∙ h.running;
+              called = ap (λ (x : View). x.called) frame ∙ ap (λ (x : View). x.called) same ∙ h.called;
+              running = ap (λ (x : View). x.running) frame ∙ ap (λ (x : View). x.running) same ∙ h.running;
             }))

@@ -33,16 +33,16 @@ use Rattle.aio_transports.specs.Readers.{reader_as}
 use Rattle.aio_transports.specs.Standing.{ToldWith}
 use Rattle.aio_base.specs.declared.memory.Memory.{Memory}
 use Rattle.aio_extra.specs.Added.{Added}
-use Rattle.aio_body.specs.declared.body.Body.{Body}
+use Rattle.aio_body.specs.declared.run_state.RunState.{RunState}
 use Rattle.aio_body.specs.declared.reply.RequestReply.{RequestReply}
 use Rattle.aio_body.specs.declared.reply.RequestReply.TheVariants as said
-use Rattle.aio_body.specs.declared.standing.Standing.TheVariants as code
+use Rattle.aio_body.specs.declared.resume_point.ResumePoint.TheVariants as code
 use Rattle.aio_body.specs.Asked.{IsAskingFor, IsInStep, Says, Serves}
-use Rattle.aio_body.specs.Slots.{standing_at}
-use Rattle.aio_body.specs.Stands.{Possible, Setting}
+use Rattle.aio_body.specs.Slots.{resume_point_at}
+use Rattle.aio_body.specs.Stands.{Possible, Context}
 use Rattle.aio_body.proofs.May.{same_prop}
 use Rattle.refine_streams.specs.Streams.{HasStreams}
-use Rattle.refine_streams.specs.Went.{MayCall, Suspends}
+use Rattle.refine_streams.specs.Went.{MayCall, CallsSuspend}
 use Rattle.refine_streams.proofs.Meaning.{read_all_means, read_means}
 use Rattle.refine_streams.proofs.Possible.{has_streams, transports_owned}
 use Rattle.refine_streams.proofs.Unasking.{tells_answers, tells_pending, tells_raises, tells_running, tells_stands}
@@ -64,11 +64,11 @@ module _ {S : Type 0} (added : Extra S) (task : ℕ) (s : State S) (stream count
   read_whole (negsuc n) is same = read_all_means added task s stream count from n of is
 
 module _ {X : Type 0} {a : Added X} (task : ℕ) where
-  pub may_on : (c : Setting a) (body : Body X) (s : State a.Kept) → RunsOn task c body s → MayCall (Some task) c body s
+  pub may_on : (c : Context a) (body : RunState X) (s : State a.Kept) → RunsOn task c body s → MayCall (Some task) c body s
   may_on c body s h = record { stands = h.in_step.stands; streams = h.streams; owns = h.sound.parts.owns }
 
   -- as a request begins
-  pub on_asking : (request : Request) (c : Setting a) (body : Body X) (s : State a.Kept) → IsAskingFor task request c body s
+  pub on_asking : (request : Request) (c : Context a) (body : RunState X) (s : State a.Kept) → IsAskingFor task request c body s
       → RunsOn task c body s
   on_asking request c body s h = record {
     in_step = h.going.in_step;
@@ -76,20 +76,20 @@ module _ {X : Type 0} {a : Added X} (task : ℕ) where
     streams = h.going.sound.others.streams;
   }
 
-  pub possible_asking : (request : Request) (body : Body X) → Possible a (IsAskingFor task request) body
+  pub possible_asking : (request : Request) (body : RunState X) → Possible a (IsAskingFor task request) body
       → Possible a (RunsOn task) body
   possible_asking request body m = ∥∥₁_map m (λ w. (w.0, (w.1.0, on_asking request w.0 body w.1.0 w.1.1)))
 
   -- it is served by what goes on so
-  pub serves_on : (request : Request) (old new : Body X) (machine : State a.Kept → plain.RequestReply a.Kept)
-      → ((c : Setting a) (s : State a.Kept) → IsAskingFor task request c old s → reply a.meaning task request s ≡ machine s)
+  pub serves_on : (request : Request) (old new : RunState X) (machine : State a.Kept → plain.RequestReply a.Kept)
+      → ((c : Context a) (s : State a.Kept) → IsAskingFor task request c old s → reply a.meaning task request s ≡ machine s)
       → (result : Result RequestReply Memory) → RepliesOn a task machine old new result → Serves a task request old new result
   serves_on request old new machine means (Ok it) goes =
       λ c s h. subst (Says task c new it) (sym (means c s h)) (goes c s (on_asking request c old s h))
   serves_on request old new machine means (Err why) goes = tt
 
   -- what is answered may be made by a call
-  pub answers_on : (old new : Body X) (machine : State a.Kept → plain.RequestReply a.Kept) (value : Value)
+  pub answers_on : (old new : RunState X) (machine : State a.Kept → plain.RequestReply a.Kept) (value : Value)
       → RepliesOn a task machine old new (Ok (said.Answers value)) → (result : Result RequestReply Memory)
       → IfOk result (λ it. it ≡ said.Answers value) → RepliesOn a task machine old new result
   answers_on old new machine value goes (Ok it) is =
@@ -97,11 +97,11 @@ module _ {X : Type 0} {a : Added X} (task : ℕ) where
   answers_on old new machine value goes (Err why) is = tt
 
   -- ---- what a look requires
-  module _ (old : Body X) (possible : Possible a (RunsOn task) old) where
-    in_step : (c : Setting a) (s : State a.Kept) → RunsOn task c old s → IsInStep task c old s
+  module _ (old : RunState X) (possible : Possible a (RunsOn task) old) where
+    in_step : (c : Context a) (s : State a.Kept) → RunsOn task c old s → IsInStep task c old s
     in_step c s h = h.in_step
 
-    may : (c : Setting a) (s : State a.Kept) → RunsOn task c old s → MayCall (Some task) c old s
+    may : (c : Context a) (s : State a.Kept) → RunsOn task c old s → MayCall (Some task) c old s
     may c s h = may_on c old s h
 
     on_streams : HasStreams old.transports
@@ -122,7 +122,7 @@ module _ {X : Type 0} {a : Added X} (task : ℕ) where
 
     -- ---- one look
     module _ (from : StreamReader) (v : View) (k : Transports) where
-      abbrev looked : Body X
+      abbrev looked : RunState X
       looked = record old { parts = v; transports = k }
 
       module _ (op : ReadOp) (it : StreamGot)
@@ -166,10 +166,10 @@ module _ {X : Type 0} {a : Added X} (task : ℕ) where
               possible on
               (λ first now made. subst (ReadWaits (IsMade first now)) is made)
 
-          pub read_rests : (last : Body X) (w : View) → last ≡ record looked { parts = w; slots = last.slots }
-              → last.slots.items ≡ standing_at task (code.Reading from op on) old.slots.items → Suspends task on v w
-              → RepliesOn a task machine old last (Ok said.Rests)
-          read_rests last w whole items suspends =
+          pub read_suspends : (last : RunState X) (w : View) → last ≡ record looked { parts = w; slots = last.slots }
+              → last.slots.items ≡ resume_point_at task (code.Reading from op on) old.slots.items → CallsSuspend task on v w
+              → RepliesOn a task machine old last (Ok said.Suspends)
+          read_suspends last w whole items suspends =
               tells_stands task old looked (λ c s. RunsOn task c old s) machine may in_step on_streams refl refl
               (λ n. read n op (reader_as from))
               (reads_as task op (reader_as from)) (λ c s h. refl) ReadWaits it told
@@ -225,11 +225,11 @@ module _ {X : Type 0} {a : Added X} (task : ℕ) where
               possible on
               (λ first now made. subst (ReadWaits (IsMade first now)) is made)
 
-          pub all_rests : (last : Body X) (w : View) → last ≡ record looked { parts = w; slots = last.slots }
-              → last.slots.items ≡ standing_at task (code.ReadingAll from (taken ++ it.taken) on) old.slots.items
-              → Suspends task on v w
-              → RepliesOn a task joins old last (Ok said.Rests)
-          all_rests last w whole items suspends =
+          pub all_suspends : (last : RunState X) (w : View) → last ≡ record looked { parts = w; slots = last.slots }
+              → last.slots.items ≡ resume_point_at task (code.ReadingAll from (taken ++ it.taken) on) old.slots.items
+              → CallsSuspend task on v w
+              → RepliesOn a task joins old last (Ok said.Suspends)
+          all_suspends last w whole items suspends =
               tells_stands task old looked (λ c s. RunsOn task c old s) joins may in_step on_streams refl refl
               (λ n. read_all n (reader_as from)) next
               (λ c s h. refl) AllWaits it told

@@ -23,12 +23,12 @@ use Rattle.aio_transports.specs.Owned.{OwnsTransports}
 use Rattle.aio_transports.specs.Standing.{Becomes, Comes as Changes}
 use Rattle.aio_base.specs.declared.memory.Memory.{Memory}
 use Rattle.aio_extra.specs.Added.{Added}
-use Rattle.aio_body.specs.declared.body.Body.{Body}
+use Rattle.aio_body.specs.declared.run_state.RunState.{RunState}
 use Rattle.aio_body.specs.declared.reply.RequestReply.{RequestReply}
 use Rattle.aio_body.specs.declared.reply.RequestReply.TheVariants as said
 use Rattle.aio_body.specs.Asked.{IsDeciding, IsInStep, Says}
 use Rattle.aio_body.specs.Asking.{Comes}
-use Rattle.aio_body.specs.Stands.{Possible, Setting}
+use Rattle.aio_body.specs.Stands.{Possible, Context}
 use Rattle.aio_body.proofs.Asking.{come_none, comes_ends}
 use Rattle.aio_body.proofs.May.{same_prop}
 use Rattle.refine_streams.specs.Streams.{HasStreams}
@@ -59,21 +59,21 @@ hears_fault (Throw it) next s fault e = same it e
     same : (one : Exc) → Some one ≡ Some fault → plain.Raises one s ≡ plain.Raises fault s
     same one e = let is : one ≡ fault = cc in ap (λ x. plain.Raises x s) is
 
-module _ {X : Type 0} (a : Added X) (task : ℕ) (stood : state.Standing) (old : Body X) where
-  may : (c : Setting a) (s : State a.Kept) → IsDeciding task stood c old s → MayCall (Some task) c old s
+module _ {X : Type 0} (a : Added X) (task : ℕ) (stood : state.ResumePoint) (old : RunState X) where
+  may : (c : Context a) (s : State a.Kept) → IsDeciding task stood c old s → MayCall (Some task) c old s
   may c s h = may_deciding c old s task stood h
 
-  in_step : (c : Setting a) (s : State a.Kept) → IsDeciding task stood c old s → IsInStep task c old s
+  in_step : (c : Context a) (s : State a.Kept) → IsDeciding task stood c old s → IsInStep task c old s
   in_step c s h = h.in_step
 
   -- ---- where nothing was changed yet
-  pub on_deciding : (c : Setting a) (s : State a.Kept) → IsDeciding task stood c old s → RunsOn task c old s
+  pub on_deciding : (c : Context a) (s : State a.Kept) → IsDeciding task stood c old s → RunsOn task c old s
   on_deciding c s h = record { in_step = h.in_step; sound = h.asked.others.loop; streams = h.asked.others.streams }
 
   pub possible_deciding : Possible a (IsDeciding task stood) old → Possible a (RunsOn task) old
   possible_deciding m = ∥∥₁_map m (λ w. (w.0, (w.1.0, on_deciding w.0 w.1.0 w.1.1)))
 
-  pub resumes_so : (input : Input) (new : Body X) (machine : State a.Kept → plain.RequestReply a.Kept)
+  pub resumes_so : (input : Input) (new : RunState X) (machine : State a.Kept → plain.RequestReply a.Kept)
       → ((s : State a.Kept) → decides a.meaning stood task input s ≡ machine s)
       → (result : Result RequestReply Memory) → RepliesOn a task machine old new result
       → Resumes a task stood input old new result
@@ -88,18 +88,18 @@ module _ {X : Type 0} (a : Added X) (task : ℕ) (stood : state.Standing) (old :
 
   -- ---- a read waits no more
   module _ (on : ℕ) (from : StreamReader) (k : Transports) (becomes : Becomes (give_up_read on from) old.transports k) where
-    abbrev left : Body X
+    abbrev left : RunState X
     left = record old { transports = k }
 
-    may_left : (c : Setting a) (s : State a.Kept) → IsDeciding task stood c old s
+    may_left : (c : Context a) (s : State a.Kept) → IsDeciding task stood c old s
         → MayCall (Some task) c left (waits_no_more on from s)
     may_left c s h = gives_up_so (Some task) c old left s on from (may c s h) becomes refl
 
-    in_step_left : (c : Setting a) (s : State a.Kept) → IsDeciding task stood c old s
+    in_step_left : (c : Context a) (s : State a.Kept) → IsDeciding task stood c old s
         → IsInStep task c left (waits_no_more on from s)
     in_step_left c s h = gives_up_in_step task c old left s (waits_no_more on from s) h.in_step refl (may_left c s h)
 
-    pub on_left : (c : Setting a) (s : State a.Kept) → IsDeciding task stood c old s
+    pub on_left : (c : Context a) (s : State a.Kept) → IsDeciding task stood c old s
         → RunsOn task c left (waits_no_more on from s)
     on_left c s h = record { in_step = in_step_left c s h; sound = h.asked.others.loop; streams = (may_left c s h).streams }
 
@@ -107,7 +107,7 @@ module _ {X : Type 0} (a : Added X) (task : ℕ) (stood : state.Standing) (old :
     possible_left m = ∥∥₁_map m (λ w. (w.0, (waits_no_more on from w.1.0, on_left w.0 w.1.0 w.1.1)))
 
     -- it goes on
-    pub resumes_left : (input : Input) (new : Body X) (machine : State a.Kept → plain.RequestReply a.Kept)
+    pub resumes_left : (input : Input) (new : RunState X) (machine : State a.Kept → plain.RequestReply a.Kept)
         → ((s : State a.Kept) → decides a.meaning stood task input s ≡ machine (waits_no_more on from s))
         → (result : Result RequestReply Memory) → RepliesOn a task machine left new result
         → Resumes a task stood input old new result
@@ -146,10 +146,10 @@ module _ {X : Type 0} (a : Added X) (task : ℕ) (stood : state.Standing) (old :
         (λ c s h. (told_none old.events.events, subst (Says task c old (said.Answers value)) (sym (means s)) (refl, h.in_step))))
 
     -- or an exception came, and the connection is dropped
-    module _ (possible : Possible a (IsDeciding task stood) old) (new : Body X) (wire after : W) (conn : ℕ) (fault : Exc)
+    module _ (possible : Possible a (IsDeciding task stood) old) (new : RunState X) (wire after : W) (conn : ℕ) (fault : Exc)
         (means : (s : State a.Kept)
         → decides a.meaning stood task (Throw fault) s ≡ plain.streams_change (drop_connect conn s.streams) (plain.Raises fault) s)
-        (beside : new ≡ record old { parts = new.parts; events = new.events; transports = new.transports }) where
+        (frame : new ≡ record old { parts = new.parts; events = new.events; transports = new.transports }) where
       pub connect_raises : {R : Type 0} (result : Result R Stop)
           → Changes o (drop_connect conn) old.transports new.transports (reach old.parts wire old.events) (reach new.parts after new.events) result
           → Comes o (resuming a task stood (Throw fault) old new) (ported wire old.events) (ported after new.events) (raised_as fault result)
@@ -160,7 +160,7 @@ module _ {X : Type 0} (a : Added X) (task : ℕ) (stood : state.Standing) (old :
           (changed_goes o task old new new wire after (λ c s. IsDeciding task stood c old s)
           (decides a.meaning stood task (Throw fault)) may in_step
           (λ n. drop_connect conn) (plain.Raises fault) (λ c s h. means s) (deciding_streams possible) it call
-          (λ s kept. drops (is_plain s.loop.parts) (next_future s.loop.parts) conn s.streams kept) beside)
+          (λ s kept. drops (is_plain s.loop.parts) (next_future s.loop.parts) conn s.streams kept) frame)
           refl fault (λ t. refl)
       connect_raises {R} (Err why) call =
           changed_fails o task old new new wire after (λ c s. IsDeciding task stood c old s)

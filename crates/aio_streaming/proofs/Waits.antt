@@ -31,12 +31,12 @@ use Rattle.refine_parts.proofs.Telling.{outcome_kept, pending_kept}
 use Rattle.aio_cancel.specs.Awaitables.{Appended}
 use Rattle.aio_task.specs.View.{View, parts}
 use Rattle.aio_extra.specs.Added.{Added}
-use Rattle.aio_body.specs.declared.body.Body.{Body}
+use Rattle.aio_body.specs.declared.run_state.RunState.{RunState}
 use Rattle.aio_body.specs.declared.reply.RequestReply.{RequestReply}
 use Rattle.aio_body.specs.declared.reply.RequestReply.TheVariants as said
 use Rattle.aio_body.specs.Asked.{IsAskingFor, IsInStep, Says}
 use Rattle.aio_body.specs.Outcomes.{RepliesAs, reply_of}
-use Rattle.aio_body.specs.Stands.{Possible, Setting}
+use Rattle.aio_body.specs.Stands.{Possible, Context}
 use Rattle.aio_body.proofs.Asleep.{asked_within}
 use Rattle.aio_body.proofs.May.{same_prop}
 use Rattle.aio_body.proofs.Rooms.{waits_so}
@@ -90,9 +90,9 @@ pending_at xs on within none =
     let there = slice_get-get_or xs on blank within in
     ap is_pending_at there ∙ ap is_none (sym (ap outcome_at there) ∙ none)
 
-module _ {X : Type 0} {a : Added X} (task on : ℕ) (body : Body X) where
+module _ {X : Type 0} {a : Added X} (task on : ℕ) (body : RunState X) where
   -- a request that was asked goes on in its step
-  pub keeps_asked : (request : Request) (c : Setting a) (s : State a.Kept) → IsAskingFor task request c body s
+  pub keeps_asked : (request : Request) (c : Context a) (s : State a.Kept) → IsAskingFor task request c body s
       → 0 < times_asked on s.streams
       → KeepsFuture task on c body s
   keeps_asked request c s h kept = record {
@@ -100,11 +100,11 @@ module _ {X : Type 0} {a : Added X} (task on : ℕ) (body : Body X) where
     kept = kept;
   }
 
-  outcome_is : (c : Setting a) (s : State a.Kept) → KeepsFuture task on c body s
+  outcome_is : (c : Context a) (s : State a.Kept) → KeepsFuture task on c body s
       → outcome_at (slice_get body.parts.futures on) ≡ outcome_at (slice_get s.loop.parts.futures on)
   outcome_is c s h =
       let stands = h.going.in_step.stands in
-      outcome_kept stands.ties body.parts s.loop.parts stands.keeps on (kept_stays (Some task) c body s stands on h.kept)
+      outcome_kept stands.name_map body.parts s.loop.parts stands.keeps on (kept_stays (Some task) c body s stands on h.kept)
 
   -- what it needs
   module _ (possible : Possible a (KeepsFuture task on) body) where
@@ -121,18 +121,18 @@ module _ {X : Type 0} {a : Added X} (task on : ℕ) (body : Body X) where
         let s = w.1.0 in
         let h = w.1.1 in
         let stands = h.going.in_step.stands in
-        pending_kept stands.ties body.parts s.loop.parts stands.keeps on
+        pending_kept stands.name_map body.parts s.loop.parts stands.keeps on
         ∙ pending_at s.loop.parts.futures on (asked_within s h.going.streams on h.kept) (sym (outcome_is w.0 s h) ∙ none))
 
   -- what is done is told as it ended
-  heard_so : (c : Setting a) (s : State a.Kept) (input : Input) → IsInStep task c body s
+  heard_so : (c : Context a) (s : State a.Kept) (input : Input) → IsInStep task c body s
       → Says task c body (reply_of input) (plain.replied input s)
   heard_so c s (Send value) h = (refl, h)
   heard_so c s (Throw fault) h = (refl, h)
 
   pub ended_so : (outcome : Outcome) → outcome_at (slice_get body.parts.futures on) ≡ Some outcome → (reply : RequestReply)
       → RepliesAs outcome reply
-      → (c : Setting a) (s : State a.Kept) → KeepsFuture task on c body s → Says task c body reply (awaits task on s)
+      → (c : Context a) (s : State a.Kept) → KeepsFuture task on c body s → Says task c body reply (awaits task on s)
   ended_so outcome is reply replies c s h =
       subst (Says task c body reply) (sym (ap (λ o. awaits_as o task on s) (sym (outcome_is c s h) ∙ is)))
       (subst (λ (r : RequestReply). Says task c body r (plain.replied (input_of outcome) s)) (sym replies)
@@ -143,9 +143,9 @@ module _ {X : Type 0} {a : Added X} (task on : ℕ) (body : Body X) where
       → parts v ≡ (suspend task on (parts body.parts)).parts
       → Appended body.parts.queue v.queue
       → v ≡ record body.parts { queue = v.queue; futures = v.futures; tasks = v.tasks; running = None }
-      → (c : Setting a) (s : State a.Kept) → KeepsFuture task on c body s
-      → Says task c (record body { parts = v }) said.Rests (awaits task on s)
-  awaits_so none v after appended beside c s h =
-      subst (Says task c (record body { parts = v }) said.Rests)
+      → (c : Context a) (s : State a.Kept) → KeepsFuture task on c body s
+      → Says task c (record body { parts = v }) said.Suspends (awaits task on s)
+  awaits_so none v after appended frame c s h =
+      subst (Says task c (record body { parts = v }) said.Suspends)
       (sym (ap (λ o. awaits_as o task on s) (sym (outcome_is c s h) ∙ none)))
-      (waits_so task on c body s v h.going.in_step (named_spares a s task on (inr (inr h.kept))) after appended beside)
+      (waits_so task on c body s v h.going.in_step (named_spares a s task on (inr (inr h.kept))) after appended frame)

@@ -9,30 +9,30 @@ use Rattle.model_machine.specs.Turn.{effect, has_returned}
 use Rattle.model_machine.specs.Went.{Went, Goes, Stops}
 use Rattle.aio_base.specs.declared.memory.Memory.{Memory}
 use Rattle.aio_extra.specs.Added.{Added}
-use Rattle.aio_body.specs.declared.body.Body.{Body}
+use Rattle.aio_body.specs.declared.run_state.RunState.{RunState}
 use Rattle.aio_body.specs.Asking.{Piece, WentBegins}
-use Rattle.aio_body.specs.Stands.{Setting}
+use Rattle.aio_body.specs.Stands.{Context}
 use Rattle.aio_body.specs.Taken.{IsTaken, IsAfterCallback}
 
 -- the run goes on
-abbrev pub GoesOn : {X : Type 0} {a : Added X} → Setting a → Body X → Went a.Kept → Type 0
-GoesOn c body (Goes now) = IsAfterCallback c body now
-GoesOn c body (Stops end last) = ⊥
+abbrev pub CallbackGoesOn : {X : Type 0} {a : Added X} → Context a → RunState X → Went a.Kept → Type 0
+CallbackGoesOn c body (Goes now) = IsAfterCallback c body now
+CallbackGoesOn c body (Stops end last) = ⊥
 
-abbrev pub acting : {X R : Type 0} → (a : Added X) → Action → (old new : Body X) → Piece a (State a.Kept) (Went a.Kept) R
+abbrev pub acting : {X R : Type 0} → (a : Added X) → Action → (old new : RunState X) → Piece a (State a.Kept) (Went a.Kept) R
 acting a it old new =
     record {
       from = λ c s. IsTaken it c old s;
       does = effect step_limit a.meaning it;
       ends = Stops;
-      says = λ c said machine. GoesOn c new machine;
+      says = λ c said machine. CallbackGoesOn c new machine;
       begins = WentBegins;
     }
 
 -- of one that asks nothing
-abbrev pub Acts : {X R : Type 0} → (a : Added X) → Action → (old new : Body X) → Result R Memory → Type 0
+abbrev pub Acts : {X R : Type 0} → (a : Added X) → Action → (old new : RunState X) → Result R Memory → Type 0
 Acts a it old new result =
-    OnOk result ((c : Setting a) (s : State a.Kept) → IsTaken it c old s → GoesOn c new (effect step_limit a.meaning it s))
+    OnOk result ((c : Context a) (s : State a.Kept) → IsTaken it c old s → CallbackGoesOn c new (effect step_limit a.meaning it s))
 
 -- which callbacks are of listeners, connections and children, but that a connection was made
 abbrev pub is_of_streams : Action → Bool
@@ -49,7 +49,7 @@ is_of_streams (action.ChildItem child told) = true
 is_of_streams (action.LostChild child broken) = true
 is_of_streams (action.Made conn) = false
 is_of_streams (action.Step task) = false
-is_of_streams (action.StepInCircle task circle) = false
+is_of_streams (action.StepInCycle task cycle) = false
 is_of_streams (action.Wakeup task) = false
 is_of_streams (action.SleepDone task future) = false
 is_of_streams (action.GroupDone group task) = false
@@ -73,7 +73,7 @@ returned_in p (action.ChildItem child told) = true
 returned_in p (action.LostChild child broken) = true
 returned_in p (action.Made conn) = true
 returned_in p (action.Step task) = true
-returned_in p (action.StepInCircle task circle) = true
+returned_in p (action.StepInCycle task cycle) = true
 returned_in p (action.Wakeup task) = true
 returned_in p (action.SleepDone task future) = true
 returned_in p (action.GroupDone group task) = true

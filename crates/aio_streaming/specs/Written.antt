@@ -11,11 +11,11 @@ use Rattle.model_machine.specs.Replies.{awaits}
 use Rattle.model_machine.specs.State.{State}
 use Rattle.aio_base.specs.declared.memory.Memory.{Memory}
 use Rattle.aio_extra.specs.Added.{Added}
-use Rattle.aio_body.specs.declared.body.Body.{Body}
+use Rattle.aio_body.specs.declared.run_state.RunState.{RunState}
 use Rattle.aio_body.specs.declared.reply.RequestReply.{RequestReply}
 use Rattle.aio_body.specs.declared.reply.RequestReply.TheVariants.{Answers, Raises}
 use Rattle.aio_body.specs.Asked.{Says}
-use Rattle.aio_body.specs.Stands.{Setting}
+use Rattle.aio_body.specs.Stands.{Context}
 use Rattle.aio_streaming.specs.Going.{RunsOn}
 
 -- marks that are refused
@@ -29,12 +29,12 @@ fault_in (Send value) = None
 fault_in (Throw fault) = Some fault
 
 -- a step goes on, and this is a future that streams keep
-pub record KeepsFuture {X : Type 0} {a : Added X} (task on : ℕ) (c : Setting a) (body : Body X) (s : State a.Kept) : Type 0 where
+pub record KeepsFuture {X : Type 0} {a : Added X} (task on : ℕ) (c : Context a) (body : RunState X) (s : State a.Kept) : Type 0 where
   pub going : RunsOn task c body s
   pub kept : 0 < times_asked on s.streams
 
 -- A call comes to an await of a future that streams keep.
-abbrev pub AwaitsKept : {X : Type 0} → (a : Added X) → (task on : ℕ) → (old new : Body X) → Result RequestReply Memory → Type 0
+abbrev pub AwaitsKept : {X : Type 0} → (a : Added X) → (task on : ℕ) → (old new : RunState X) → Result RequestReply Memory → Type 0
 AwaitsKept a task on old new result =
-    IfOk result (λ said. (c : Setting a) (s : State a.Kept) → KeepsFuture task on c old s
+    IfOk result (λ said. (c : Context a) (s : State a.Kept) → KeepsFuture task on c old s
     → Says task c new said (awaits task on s))

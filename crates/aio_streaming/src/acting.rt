@@ -15,7 +15,7 @@ ghost use Rattle.aio_body.specs.Taken.{IsTaken};
 ghost use Rattle.aio_streaming.specs.Acting.{Acts, acting, is_of_streams, returned_in};
 
 use aio_base::{Action, Memory, Outcome, Value, ValueList};
-use aio_body::{Body, MOST_IDS};
+use aio_body::{MOST_IDS, RunState};
 use aio_extra::Extra;
 use aio_task::Ticket;
 use aio_wire::{Port, Stop, Wire};
@@ -24,7 +24,7 @@ use std::alloc::Global;
 
 /// A callback but `made`. Of a handler that is done it goes by how its task ended.
 pub fn act<W: Wire, X: Extra>(
-    body: &mut Body<X>,
+    body: &mut RunState<X>,
     alloc: Global,
     wire: &mut W,
     action: &Action,
@@ -40,7 +40,7 @@ pub fn act<W: Wire, X: Extra>(
 
 // It runs, through a port on the wire and the body's events.
 fn run<W: Wire, X: Extra>(
-    body: &mut Body<X>,
+    body: &mut RunState<X>,
     alloc: Global,
     wire: &mut W,
     action: &Action,
@@ -48,7 +48,7 @@ fn run<W: Wire, X: Extra>(
 ) -> Result<(), Stop>
     requires idle { body.old.parts.called ≡ None }
     requires own { OwnsTransports body.old.parts body.old.transports }
-    ensures beside { body.new ≡ record body.old {
+    ensures frame { body.new ≡ record body.old {
       parts = body.new.parts;
       events = body.new.events;
       transports = body.new.transports;
@@ -66,7 +66,7 @@ fn run<W: Wire, X: Extra>(
 
 // What a callback goes by: of a handler that is done, whether its task neither failed nor was
 // cancelled.
-fn has_returned<X: Extra>(body: &Body<X>, action: &Action) -> bool
+fn has_returned<X: Extra>(body: &RunState<X>, action: &Action) -> bool
     ensures { result ≡ returned_in (parts body.now.parts) action.now }
 {
     match action {
@@ -74,7 +74,7 @@ fn has_returned<X: Extra>(body: &Body<X>, action: &Action) -> bool
             is_returned(body.parts.outcome(body.parts.future_of(*task)))
         }
         Action::Step(_)
-        | Action::StepInCircle { task: _, circle: _ }
+        | Action::StepInCycle { task: _, cycle: _ }
         | Action::Wakeup(_)
         | Action::SleepDone { task: _, future: _ }
         | Action::GroupDone { group: _, task: _ }
@@ -112,7 +112,7 @@ fn is_returned(outcome: Option<&Outcome>) -> bool
 
 /// `made`: the handler of a connection that was accepted is started, with the connection as its
 /// argument. Where no more tasks can be numbered, the connection is closed.
-pub fn made<X: Extra>(body: &mut Body<X>, alloc: Global, conn: u32) -> Result<(), Memory>
+pub fn made<X: Extra>(body: &mut RunState<X>, alloc: Global, conn: u32) -> Result<(), Memory>
     requires { Possible X.added (IsTaken (action.Made conn)) body.old }
     ensures { Acts X.added (action.Made conn) body.old body.new result }
 {

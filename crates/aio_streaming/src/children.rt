@@ -15,7 +15,7 @@ ghost use Rattle.aio_streaming.specs.Answered.{AnsweredAs, launched_as};
 
 use crate::answers::done;
 use aio_base::{Kind, Memory, Value};
-use aio_body::{Body, RequestReply, bad_argument, or_stop, out_of_range, raises};
+use aio_body::{RequestReply, RunState, bad_argument, or_stop, out_of_range, raises};
 use aio_extra::Extra;
 use aio_opened::{as_child, as_words};
 use aio_wire::{Port, Stop, Wire, WordList};
@@ -24,7 +24,7 @@ use std::alloc::Global;
 
 /// `launch(words)`.
 pub fn launch<W: Wire, X: Extra>(
-    body: &mut Body<X>,
+    body: &mut RunState<X>,
     alloc: Global,
     wire: &mut W,
     task: u32,
@@ -46,7 +46,7 @@ pub fn launch<W: Wire, X: Extra>(
 
 // It is launched, through a port on the wire and the body's events.
 fn launch_child<W: Wire, X: Extra>(
-    body: &mut Body<X>,
+    body: &mut RunState<X>,
     alloc: Global,
     wire: &mut W,
     words: WordList,
@@ -54,7 +54,7 @@ fn launch_child<W: Wire, X: Extra>(
     requires idle { body.old.parts.called ≡ None }
     requires own { OwnsTransports body.old.parts body.old.transports }
     requires room { length body.old.transports.children.children < 2 ^ 32 }
-    ensures beside { body.new ≡ record body.old {
+    ensures frame { body.new ≡ record body.old {
       parts = body.new.parts;
       events = body.new.events;
       transports = body.new.transports;
@@ -82,7 +82,7 @@ fn launched(alloc: Global, said: Result<Option<u32>, Stop>) -> Result<RequestRep
 
 /// `stderr(child)`.
 pub fn standard_error<X: Extra>(
-    body: &Body<X>,
+    body: &RunState<X>,
     alloc: Global,
     task: u32,
     child: &Value,
@@ -98,7 +98,7 @@ pub fn standard_error<X: Extra>(
 
 /// `wait(child)`.
 pub fn wait_child<X: Extra>(
-    body: &mut Body<X>,
+    body: &mut RunState<X>,
     alloc: Global,
     task: u32,
     child: &Value,
@@ -113,7 +113,7 @@ pub fn wait_child<X: Extra>(
         Ok(ChildWait::Code(code)) => Ok(RequestReply::Answers(Value::int(code))),
         Ok(ChildWait::Waits(on)) => {
             let _suspension = body.parts.suspend(task, on);
-            Ok(RequestReply::Rests)
+            Ok(RequestReply::Suspends)
         }
         Err(Memory) => Err(Memory),
     }
@@ -121,7 +121,7 @@ pub fn wait_child<X: Extra>(
 
 /// `returncode(child)`.
 pub fn returncode<X: Extra>(
-    body: &Body<X>,
+    body: &RunState<X>,
     alloc: Global,
     task: u32,
     child: &Value,
@@ -146,7 +146,7 @@ fn code_of(code: Option<i64>) -> Value
 
 /// `kill(child)`.
 pub fn kill<W: Wire, X: Extra>(
-    body: &mut Body<X>,
+    body: &mut RunState<X>,
     alloc: Global,
     wire: &mut W,
     task: u32,
@@ -165,12 +165,12 @@ pub fn kill<W: Wire, X: Extra>(
 
 // It is killed, through a port on the wire and the body's events.
 fn kill_child<W: Wire, X: Extra>(
-    body: &mut Body<X>,
+    body: &mut RunState<X>,
     alloc: Global,
     wire: &mut W,
     child: u32,
 ) -> Result<(), Stop>
-    ensures beside { body.new ≡ record body.old { events = body.new.events } }
+    ensures frame { body.new ≡ record body.old { events = body.new.events } }
     ensures comes { Changes W.outside (plain_kill child)
         body.old.transports body.new.transports
         (reach body.old.parts wire.old body.old.events)

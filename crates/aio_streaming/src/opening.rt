@@ -10,14 +10,16 @@ ghost use Rattle.aio_transports.specs.Owned.{OwnsTransports};
 ghost use Rattle.aio_transports.specs.Standing.{Answers as AnswersTree};
 ghost use Rattle.aio_body.specs.Asked.{IsAskingFor};
 ghost use Rattle.aio_body.specs.Asking.{Comes, serving};
-ghost use Rattle.aio_body.specs.Slots.{standing_at};
+ghost use Rattle.aio_body.specs.Slots.{resume_point_at};
 ghost use Rattle.aio_body.specs.Stands.{Possible};
-ghost use Rattle.refine_streams.specs.Went.{Suspends};
+ghost use Rattle.refine_streams.specs.Went.{CallsSuspend};
 ghost use Rattle.aio_streaming.specs.Answered.{AnsweredAs, listened_as};
 ghost use Rattle.aio_streaming.specs.Ports.{port_in};
 
 use aio_base::{Kind, Memory, Value};
-use aio_body::{Body, RequestReply, Standing, as_int, bad_argument, or_stop, out_of_range, raises};
+use aio_body::{
+    RequestReply, ResumePoint, RunState, as_int, bad_argument, or_stop, out_of_range, raises,
+};
 use aio_extra::Extra;
 use aio_listener::Connecting;
 use aio_wire::{Port, Stop, Wire};
@@ -25,7 +27,7 @@ use std::alloc::Global;
 
 /// `listen(port, coroutine)`.
 pub fn listen<W: Wire, X: Extra>(
-    body: &mut Body<X>,
+    body: &mut RunState<X>,
     alloc: Global,
     wire: &mut W,
     task: u32,
@@ -51,14 +53,14 @@ pub fn listen<W: Wire, X: Extra>(
 
 // It is listened, through a port on the wire and the body's events.
 fn listen_at<W: Wire, X: Extra>(
-    body: &mut Body<X>,
+    body: &mut RunState<X>,
     alloc: Global,
     wire: &mut W,
     number: u16,
     handler: u32,
 ) -> Result<Option<u32>, Stop>
     requires room { length body.old.transports.streams.servers < 2 ^ 32 }
-    ensures beside { body.new ≡ record body.old {
+    ensures frame { body.new ≡ record body.old {
       events = body.new.events;
       transports = body.new.transports;
     } }
@@ -84,7 +86,7 @@ fn listened(alloc: Global, said: Result<Option<u32>, Stop>) -> Result<RequestRep
 
 /// `connect(port)`.
 pub fn connect<W: Wire, X: Extra>(
-    body: &mut Body<X>,
+    body: &mut RunState<X>,
     alloc: Global,
     wire: &mut W,
     task: u32,
@@ -113,7 +115,7 @@ pub fn connect<W: Wire, X: Extra>(
 
 // A connection is begun.
 fn begun<W: Wire, X: Extra>(
-    body: &mut Body<X>,
+    body: &mut RunState<X>,
     alloc: Global,
     wire: &mut W,
     number: u16,
@@ -121,7 +123,7 @@ fn begun<W: Wire, X: Extra>(
     requires idle { body.old.parts.called ≡ None }
     requires own { OwnsTransports body.old.parts body.old.transports }
     requires room { length body.old.transports.streams.connections < 2 ^ 32 }
-    ensures beside { body.new ≡ record body.old {
+    ensures frame { body.new ≡ record body.old {
       parts = body.new.parts;
       events = body.new.events;
       transports = body.new.transports;
@@ -138,7 +140,7 @@ fn begun<W: Wire, X: Extra>(
 
 // The task waits till the connection stands.
 fn waits<X: Extra>(
-    body: &mut Body<X>,
+    body: &mut RunState<X>,
     task: u32,
     connecting: Connecting,
 ) -> Result<RequestReply, Memory>
@@ -146,21 +148,21 @@ fn waits<X: Extra>(
     requires running { body.old.parts.running ≡ Some task }
     requires pending { is_pending_at (slice_get body.old.parts.futures connecting.1) ≡ true }
     requires there { task < length body.old.slots.items }
-    ensures is { IfOk result (λ said. said ≡ RequestReply.Rests) }
-    ensures suspends { Suspends task connecting.1 body.old.parts body.new.parts }
-    ensures beside { body.new ≡ record body.old {
+    ensures is { IfOk result (λ said. said ≡ RequestReply.Suspends) }
+    ensures suspends { CallsSuspend task connecting.1 body.old.parts body.new.parts }
+    ensures frame { body.new ≡ record body.old {
       parts = body.new.parts;
       slots = body.new.slots;
     } }
     ensures slots { OnOk result (body.new.slots.items
-        ≡ standing_at task (Standing.Connecting connecting.0 connecting.1)
+        ≡ resume_point_at task (ResumePoint.Connecting connecting.0 connecting.1)
         body.old.slots.items) }
 {
     let conn = connecting.conn();
     let future = connecting.on();
     let _suspension = body.parts.suspend(task, future);
-    body.stand_far(task, Standing::Connecting { conn, future })?;
-    Ok(RequestReply::Rests)
+    body.stand_far(task, ResumePoint::Connecting { conn, future })?;
+    Ok(RequestReply::Suspends)
 }
 
 // A port is a number from 1 to 65,535.

@@ -10,7 +10,7 @@ ghost use Rattle.aio_streaming.specs.Counts.{natural_in};
 ghost use Rattle.aio_streaming.specs.Going.{RepliesOn, RunsOn};
 
 use aio_base::{Blob, Memory, Value};
-use aio_body::{Body, RequestReply, Standing, as_int, bad_argument};
+use aio_body::{RequestReply, ResumePoint, RunState, as_int, bad_argument};
 use aio_connection::{AllGot, StreamGot};
 use aio_extra::Extra;
 use aio_opened::{as_bytes, as_reader};
@@ -20,7 +20,7 @@ use std::alloc::Global;
 
 /// `read(stream, count)`. With a negative count it reads till the end.
 pub fn read<X: Extra>(
-    body: &mut Body<X>,
+    body: &mut RunState<X>,
     alloc: Global,
     task: u32,
     stream: &Value,
@@ -43,7 +43,7 @@ pub fn read<X: Extra>(
 
 /// `readexactly(stream, count)`.
 pub fn read_exactly<X: Extra>(
-    body: &mut Body<X>,
+    body: &mut RunState<X>,
     alloc: Global,
     task: u32,
     stream: &Value,
@@ -65,7 +65,7 @@ pub fn read_exactly<X: Extra>(
 
 /// `readuntil(stream, separator)`.
 pub fn read_until<X: Extra>(
-    body: &mut Body<X>,
+    body: &mut RunState<X>,
     alloc: Global,
     task: u32,
     stream: &Value,
@@ -90,7 +90,7 @@ pub fn read_until<X: Extra>(
 
 /// `readline(stream)`.
 pub fn read_line<X: Extra>(
-    body: &mut Body<X>,
+    body: &mut RunState<X>,
     alloc: Global,
     task: u32,
     stream: &Value,
@@ -106,7 +106,7 @@ pub fn read_line<X: Extra>(
 
 /// A read looks at what is held, as it begins and again at each waking.
 pub fn reads<X: Extra>(
-    body: &mut Body<X>,
+    body: &mut RunState<X>,
     alloc: Global,
     task: u32,
     from: StreamReader,
@@ -126,8 +126,8 @@ pub fn reads<X: Extra>(
         }
         Ok(StreamGot::Waits(on)) => {
             let _suspension = body.parts.suspend(task, on);
-            body.stand_far(task, Standing::Reading { from, op, on })?;
-            Ok(RequestReply::Rests)
+            body.stand_far(task, ResumePoint::Reading { from, op, on })?;
+            Ok(RequestReply::Suspends)
         }
         Err(Memory) => {
             forget_op(op);
@@ -138,7 +138,7 @@ pub fn reads<X: Extra>(
 
 /// The same with a negative count: what each look took is joined.
 pub fn reads_all<X: Extra>(
-    body: &mut Body<X>,
+    body: &mut RunState<X>,
     alloc: Global,
     task: u32,
     from: StreamReader,
@@ -165,8 +165,8 @@ pub fn reads_all<X: Extra>(
             StreamGot::Waits(on) => match joined(taken, more) {
                 Ok(taken) => {
                     let _suspension = body.parts.suspend(task, on);
-                    body.stand_far(task, Standing::ReadingAll { from, taken, on })?;
-                    Ok(RequestReply::Rests)
+                    body.stand_far(task, ResumePoint::ReadingAll { from, taken, on })?;
+                    Ok(RequestReply::Suspends)
                 }
                 Err(Memory) => Err(Memory),
             },

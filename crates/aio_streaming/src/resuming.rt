@@ -17,7 +17,7 @@ use crate::answers::fault_of;
 use crate::reading::{forget_blob, forget_op, reads, reads_all};
 use crate::writing::drains;
 use aio_base::{Blob, Exc, Input, Memory};
-use aio_body::{Body, RequestReply};
+use aio_body::{RequestReply, RunState};
 use aio_extra::Extra;
 use aio_task::FutureId;
 use aio_transports::StreamReader;
@@ -28,7 +28,7 @@ use std::alloc::Global;
 
 /// A connect: the connection stands, or an exception came and the connection is dropped.
 pub fn connected<W: Wire, X: Extra>(
-    body: &mut Body<X>,
+    body: &mut RunState<X>,
     alloc: Global,
     wire: &mut W,
     task: u32,
@@ -48,14 +48,14 @@ pub fn connected<W: Wire, X: Extra>(
 
 // The connection of a connect is dropped, through a port on the wire and the body's events.
 fn drop_made<W: Wire, X: Extra>(
-    body: &mut Body<X>,
+    body: &mut RunState<X>,
     alloc: Global,
     wire: &mut W,
     conn: u32,
 ) -> Result<(), Stop>
     requires idle { body.old.parts.called ≡ None }
     requires own { OwnsTransports body.old.parts body.old.transports }
-    ensures beside { body.new ≡ record body.old {
+    ensures frame { body.new ≡ record body.old {
       parts = body.new.parts;
       events = body.new.events;
       transports = body.new.transports;
@@ -87,7 +87,7 @@ fn forget_exc(_fault: Exc) {}
 
 /// The bare `yield` of a drain.
 pub fn yielded<X: Extra>(
-    body: &mut Body<X>,
+    body: &mut RunState<X>,
     alloc: Global,
     task: u32,
     whom: Handed,
@@ -104,7 +104,7 @@ pub fn yielded<X: Extra>(
 
 /// A read that waited on this future waits no more, and goes on.
 pub fn read_on<X: Extra>(
-    body: &mut Body<X>,
+    body: &mut RunState<X>,
     alloc: Global,
     task: u32,
     from: StreamReader,
@@ -128,7 +128,7 @@ pub fn read_on<X: Extra>(
 
 /// A read with a negative count that waited on this future waits no more, and goes on.
 pub fn read_all_on<X: Extra>(
-    body: &mut Body<X>,
+    body: &mut RunState<X>,
     alloc: Global,
     task: u32,
     from: StreamReader,

@@ -16,7 +16,7 @@ ghost use Rattle.aio_streaming.specs.Written.{AwaitsKept, KeepsFuture};
 
 use crate::answers::{done, limited, wrote};
 use aio_base::{Memory, Value};
-use aio_body::{Body, Near, RequestReply, as_delay, bad_argument, or_stop, replied};
+use aio_body::{Near, RequestReply, RunState, as_delay, bad_argument, or_stop, replied};
 use aio_connection::Drain;
 use aio_extra::Extra;
 use aio_opened::{Closable, as_bytes, as_closable, as_conn, as_writer};
@@ -28,7 +28,7 @@ use std::alloc::Global;
 
 /// `write(stream, bytes)`.
 pub fn write<W: Wire, X: Extra>(
-    body: &mut Body<X>,
+    body: &mut RunState<X>,
     alloc: Global,
     wire: &mut W,
     task: u32,
@@ -54,7 +54,7 @@ pub fn write<W: Wire, X: Extra>(
 
 // A piece is written, through a port on the wire and the body's events.
 fn write_piece<W: Wire, X: Extra>(
-    body: &mut Body<X>,
+    body: &mut RunState<X>,
     alloc: Global,
     wire: &mut W,
     whom: Handed,
@@ -62,7 +62,7 @@ fn write_piece<W: Wire, X: Extra>(
 ) -> Result<Wrote, Stop>
     requires idle { body.old.parts.called ≡ None }
     requires own { OwnsTransports body.old.parts body.old.transports }
-    ensures beside { body.new ≡ record body.old {
+    ensures frame { body.new ≡ record body.old {
       parts = body.new.parts;
       events = body.new.events;
       transports = body.new.transports;
@@ -79,7 +79,7 @@ fn write_piece<W: Wire, X: Extra>(
 
 /// `write_eof(conn)`.
 pub fn write_eof<W: Wire, X: Extra>(
-    body: &mut Body<X>,
+    body: &mut RunState<X>,
     alloc: Global,
     wire: &mut W,
     task: u32,
@@ -98,14 +98,14 @@ pub fn write_eof<W: Wire, X: Extra>(
 
 // The end is written, through a port on the wire and the body's events.
 fn write_end<W: Wire, X: Extra>(
-    body: &mut Body<X>,
+    body: &mut RunState<X>,
     alloc: Global,
     wire: &mut W,
     conn: u32,
 ) -> Result<(), Stop>
     requires idle { body.old.parts.called ≡ None }
     requires own { OwnsTransports body.old.parts body.old.transports }
-    ensures beside { body.new ≡ record body.old {
+    ensures frame { body.new ≡ record body.old {
       parts = body.new.parts;
       events = body.new.events;
       transports = body.new.transports;
@@ -122,7 +122,7 @@ fn write_end<W: Wire, X: Extra>(
 
 /// `close(x)`.
 pub fn close<W: Wire, X: Extra>(
-    body: &mut Body<X>,
+    body: &mut RunState<X>,
     alloc: Global,
     wire: &mut W,
     task: u32,
@@ -143,12 +143,12 @@ pub fn close<W: Wire, X: Extra>(
 
 // A listener is closed, through a port on the wire and the body's events.
 fn close_listener<W: Wire, X: Extra>(
-    body: &mut Body<X>,
+    body: &mut RunState<X>,
     alloc: Global,
     wire: &mut W,
     id: u32,
 ) -> Result<(), Stop>
-    ensures beside { body.new ≡ record body.old {
+    ensures frame { body.new ≡ record body.old {
       events = body.new.events;
       transports = body.new.transports;
     } }
@@ -163,7 +163,7 @@ fn close_listener<W: Wire, X: Extra>(
 
 /// `wait_closed(stream)`.
 pub fn wait_closed<X: Extra>(
-    body: &mut Body<X>,
+    body: &mut RunState<X>,
     alloc: Global,
     task: u32,
     stream: &Value,
@@ -181,7 +181,7 @@ pub fn wait_closed<X: Extra>(
 }
 
 // What is done is awaited at once.
-fn awaits<X: Extra>(body: &mut Body<X>, task: u32, on: FutureId) -> Result<RequestReply, Memory>
+fn awaits<X: Extra>(body: &mut RunState<X>, task: u32, on: FutureId) -> Result<RequestReply, Memory>
     requires { Possible X.added (KeepsFuture task on) body.old }
     ensures { AwaitsKept X.added task on body.old body.new result }
 {
@@ -189,12 +189,12 @@ fn awaits<X: Extra>(body: &mut Body<X>, task: u32, on: FutureId) -> Result<Reque
         return replied(outcome);
     }
     let _suspension = body.parts.suspend(task, on);
-    Ok(RequestReply::Rests)
+    Ok(RequestReply::Suspends)
 }
 
 /// `drain(stream)`.
 pub fn drain<X: Extra>(
-    body: &mut Body<X>,
+    body: &mut RunState<X>,
     alloc: Global,
     task: u32,
     stream: &Value,
@@ -210,7 +210,7 @@ pub fn drain<X: Extra>(
 
 /// A drain goes on. `yielded` says that it comes after its bare `yield`.
 pub fn drains<X: Extra>(
-    body: &mut Body<X>,
+    body: &mut RunState<X>,
     alloc: Global,
     task: u32,
     whom: Handed,
@@ -224,11 +224,11 @@ pub fn drains<X: Extra>(
         Ok(Drain::Yields) => {
             body.parts.pause(task);
             body.stand(task, Near::Yielding(whom));
-            Ok(RequestReply::Rests)
+            Ok(RequestReply::Suspends)
         }
         Ok(Drain::Waits(on)) => {
             let _suspension = body.parts.suspend(task, on);
-            Ok(RequestReply::Rests)
+            Ok(RequestReply::Suspends)
         }
         Ok(Drain::Raises(fault)) => Ok(RequestReply::Raises(fault)),
         Err(Memory) => Err(Memory),
@@ -237,7 +237,7 @@ pub fn drains<X: Extra>(
 
 /// `limits(stream, high, low)`.
 pub fn limits<X: Extra>(
-    body: &mut Body<X>,
+    body: &mut RunState<X>,
     alloc: Global,
     task: u32,
     stream: &Value,

@@ -29,7 +29,7 @@ use Rattle.aio_wire.specs.Told.{refused_of}
 use Rattle.aio_wire.specs.declared.stop.Stop.TheVariants as stop
 use Rattle.aio_extra.specs.Nothing.{nothing_added}
 use Rattle.aio_extra.specs.declared.nothing.NoExtra.{NoExtra}
-use Rattle.aio_core.specs.Turned.{Begins, Ends, StandsFor, TurnsTo, ended, held_tasks, untaken}
+use Rattle.aio_core.specs.Turned.{Begins, Ends, KernelStandsFor, TurnsTo, ended, held_tasks, untaken}
 use Rattle.aio_core.specs.Turning.{Is, IsFinished, IsMismatch}
 use Rattle.aio_core.specs.declared.kernel.Kernel.{Kernel}
 use Rattle.aio_core.specs.declared.went.Went as code
@@ -88,7 +88,7 @@ agreed (Some entries) = (entries, λ held e. cc)
 pub record At {g : _} (program : Program) (turns left : ℕ) (kernel : Kernel NoExtra g) (past : List Entry) (taken : List Event)
     (rest : List Entry) : Type 0 where
   pub s : State (Unit {0})
-  pub stands : StandsFor nothing_added taken rest kernel s
+  pub stands : KernelStandsFor nothing_added taken rest kernel s
   pub runs : run program (past ++ rest) turns ≡ run_on step_limit no_extra turns left s
   pub makes : (counts_of program (past ++ rest) turns).tasks ≡ tasks_on step_limit no_extra left s
 
@@ -170,7 +170,7 @@ module _ {g : _} {program : Program} {turns left : ℕ} {kernel : Kernel NoExtra
   -- one that main's outcome didn't end
   ends_so : (entries : List Entry) (ways : End → State (Unit {0}) → Type 0) → Agrees now.left entries
       → (it : Ends nothing_added ways taken mid (at entries).s) → (wanted : End) → it.end ≡ wanted → is_outcome wanted ≡ false → (status : ℕ)
-      → status ≡ status_of wanted → (before : ℕ) → ((s : State (Unit {0})) → StandsFor nothing_added taken entries kernel s → before ≡ tasks_in s)
+      → status ≡ status_of wanted → (before : ℕ) → ((s : State (Unit {0})) → KernelStandsFor nothing_added taken entries kernel s → before ≡ tasks_in s)
       → counts.tasks ≡ before → Tallies program turns first (record { status = status; counts = counts })
   ends_so entries ways agrees it wanted is other status so before made tasks =
       let here = at entries in
@@ -179,7 +179,7 @@ module _ {g : _} {program : Program} {turns left : ℕ} {kernel : Kernel NoExtra
       ∙ tasks_then (tasks_on step_limit no_extra left) (tasks_in here.s) it.end wanted it.last false is other)
 
   pub tallied : (said : code.Went) → TurnsTo nothing_added now last kernel mid said → (status : ℕ) → status_by said ≡ Ok (Some status)
-      → (before after : ℕ) → ((past : List Event) (answers : List Entry) (s : State (Unit {0})) → StandsFor nothing_added past answers kernel s
+      → (before after : ℕ) → ((past : List Event) (answers : List Entry) (s : State (Unit {0})) → KernelStandsFor nothing_added past answers kernel s
       → before ≡ tasks_in s)
       → (held_tasks mid < 2 ^ 32 → after ≡ held_tasks mid) → counts.tasks ≡ tasks_by said before after
       → Tallies program turns first (record { status = status; counts = counts })
@@ -292,7 +292,7 @@ module _ {g : _} {program : Program} {turns made : ℕ} {kernel new : Kernel NoE
 -- ---- no turn is left
 pub at_limit : {g : _} {program : Program} {turns made : ℕ} {kernel : Kernel NoExtra g} {first now : WireSeen} {was : Counts}
     → IsUnderWay program turns made kernel first now was → turns ≤ made → (status tasks : ℕ) → EndsAtLimit kernel status
-    → ((past : List Event) (answers : List Entry) (s : State (Unit {0})) → StandsFor nothing_added past answers kernel s → tasks ≡ tasks_in s)
+    → ((past : List Event) (answers : List Entry) (s : State (Unit {0})) → KernelStandsFor nothing_added past answers kernel s → tasks ≡ tasks_in s)
     → Tallies program turns first (record { status = status; counts = record was { tasks = tasks } })
 at_limit {program = program} {turns = turns} {kernel = kernel} {now = now} {was = was} under most status tasks ends_there made =
     let (rest, agrees) = agreed now.left in

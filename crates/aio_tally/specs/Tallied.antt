@@ -15,7 +15,7 @@ use Rattle.model_commands.specs.Works as plain
 use Rattle.model_commands.specs.Works.{counted, counts_of, is_call, is_said, tasks_in}
 use Rattle.aio_extra.specs.Nothing.{nothing_added}
 use Rattle.aio_extra.specs.declared.nothing.NoExtra.{NoExtra}
-use Rattle.aio_core.specs.Turned.{StandsFor, TurnedBy, held_tasks, untaken}
+use Rattle.aio_core.specs.Turned.{KernelStandsFor, TurnedBy, held_tasks, untaken}
 use Rattle.aio_core.specs.Turning.{WireTurn}
 use Rattle.aio_core.specs.declared.kernel.Kernel.{Kernel}
 use Rattle.aio_core.specs.declared.went.Went.{Went}
@@ -40,13 +40,13 @@ pub record CountsTurn {g : _} (wire : WireTurn) (old new : Kernel NoExtra g) (wa
   pub went : Went
   pub said : Went
   pub turned : TurnedBy nothing_added wire old mid went said
-  pub stands : (past : List Event) (answers : List Entry) (s : State (Unit {0})) → StandsFor nothing_added past answers mid s
-      → StandsFor nothing_added (past ++ untaken mid) answers new s
+  pub stands : (past : List Event) (answers : List Entry) (s : State (Unit {0})) → KernelStandsFor nothing_added past answers mid s
+      → KernelStandsFor nothing_added (past ++ untaken mid) answers new s
   pub left : untaken new ≡ []
   pub calls : is.calls ≡ counted (was.calls + count_by is_call (untaken mid))
   pub lines : is.said ≡ counted (was.said + count_by is_said (untaken mid))
   pub before : ℕ
-  pub made : (past : List Event) (answers : List Entry) (s : State (Unit {0})) → StandsFor nothing_added past answers old s
+  pub made : (past : List Event) (answers : List Entry) (s : State (Unit {0})) → KernelStandsFor nothing_added past answers old s
       → before ≡ tasks_in s
   pub after : ℕ
   pub held : held_tasks mid < 2 ^ 32 → after ≡ held_tasks mid
@@ -56,5 +56,5 @@ pub record CountsTurn {g : _} (wire : WireTurn) (old new : Kernel NoExtra g) (wa
 -- the status of a run that may make no further turn
 abbrev pub EndsAtLimit : {g : _} → Kernel NoExtra g → (status : ℕ) → Type 0
 EndsAtLimit kernel status =
-    (turns : ℕ) (past : List Event) (answers : List Entry) (s : State (Unit {0})) → StandsFor nothing_added past answers kernel s
+    (turns : ℕ) (past : List Event) (answers : List Entry) (s : State (Unit {0})) → KernelStandsFor nothing_added past answers kernel s
     → status ≡ status_of (turns_over (is_stalled no_extra s) turns)

@@ -5,16 +5,16 @@ use Rattle.std.proofs.lemmas.List.{length-map}
 use Rattle.std.specs.Prelude.{◌==◌}
 use Rattle.std.specs.List.{list_any}
 use Rattle.std.specs.Option.{option_map, option_map_or}
-use Rattle.model_value.specs.Action.{Circle}
+use Rattle.model_value.specs.Action.{CycleKind}
 use Rattle.model_value.specs.Input.{Input}
-use Rattle.model_value.specs.declared.action.Action.TheVariants.{Step, StepInCircle, Wakeup}
+use Rattle.model_value.specs.declared.action.Action.TheVariants.{Step, StepInCycle, Wakeup}
 use Rattle.model_value.specs.declared.outcome.Outcome.TheVariants.{Cancelled, Value as Returned, Failed}
 use Rattle.model_value.specs.Value.{Outcome, Value, Exc}
 use Rattle.model_loop.specs.Parts.{FutureKind, Plain, OfTask, Many, Future, Task, Parts}
 use Rattle.model_loop.specs.Futures.{settle, register}
-use Rattle.model_loop.specs.Tasks.{future_of, set_waiter, unmark, is_marked, is_cancelled, finish, begin_step, pause}
+use Rattle.model_loop.specs.Tasks.{future_of, set_waiter, clear_must_cancel, must_cancel_of, is_cancelled, finish, begin_step, pause}
 use Rattle.model_loop.specs.Cancel.{cancel}
-use Rattle.model_loop.specs.Circles.{passes, passes_at, passes_until, leads_within, leads, circle}
+use Rattle.model_loop.specs.Cycles.{passes, passes_at, passes_until, leads_within, leads, cycle}
 use Rattle.model_loop.specs.Suspend.{wait_on, cancel_wait, suspend_unless, suspend}
 use Rattle.aio_task.specs.Bare.{bare_future, bare}
 use Rattle.aio_task.proofs.BareLemmas.{bare_at, soon-bare, register-bare, change-bare, settle-bare, cancel-bare}
@@ -23,7 +23,7 @@ pub future_of-bare : (p : Parts) (task : ℕ) → future_of (bare p) task ≡ fu
 future_of-bare p task =
     ap (λ n. option_map_or (λ (it : Task). it.future) (slice_get p.tasks task) n) (length-map p.futures bare_future)
 
--- ---- the search for a circle
+-- ---- the search for a cycle
 pub passes-bare : (p : Parts) (id : ℕ) → passes (bare p) id ≡ passes p id
 passes-bare p id = ap (λ o. passes_at o id (bare p)) (bare_at p id) ∙ at (slice_get p.futures id)
   where
@@ -54,8 +54,8 @@ leads-bare p from to =
     ap (λ n. leads_within n (bare p) from to) (length-map p.futures bare_future)
     ∙ leads_within-bare p (length p.futures) from to
 
-pub circle-bare : (p : Parts) (task on : ℕ) → circle (bare p) task on ≡ circle p task on
-circle-bare p task on =
+pub cycle-bare : (p : Parts) (task on : ℕ) → cycle (bare p) task on ≡ cycle p task on
+cycle-bare p task on =
     let e = future_of-bare p task in
     let l : leads (bare p) on (future_of (bare p) task) ≡ leads p on (future_of p task) =
     ap (leads (bare p) on) e ∙ leads-bare p on (future_of p task) in
@@ -65,7 +65,7 @@ circle-bare p task on =
 pub begin-bare : (task : ℕ) (input : Input) (p : Parts)
     → (begin_step task input (bare p)).parts ≡ bare (begin_step task input p).parts
 begin-bare task input p =
-    ap (unmark task) (change-bare task _ p) ∙ change-bare task _ (set_waiter task None p)
+    ap (clear_must_cancel task) (change-bare task _ p) ∙ change-bare task _ (set_waiter task None p)
 
 pub pause-bare : (task : ℕ) (p : Parts) → pause task (bare p) ≡ bare (pause task p)
 pause-bare task p = soon-bare (Step task) p
@@ -76,9 +76,9 @@ wait-bare task on p =
 
 pub suspend-bare : (task on : ℕ) (p : Parts) → (suspend task on (bare p)).parts ≡ bare (suspend task on p).parts
 suspend-bare task on p =
-    ap (λ c. (suspend_unless c task on (bare p)).parts) (circle-bare p task on) ∙ go (circle p task on)
+    ap (λ c. (suspend_unless c task on (bare p)).parts) (cycle-bare p task on) ∙ go (cycle p task on)
   where
-    answered : (b : Bool) (r : Parts) → (if b then unmark task (bare r) else bare r) ≡ bare (if b then unmark task r else r)
+    answered : (b : Bool) (r : Parts) → (if b then clear_must_cancel task (bare r) else bare r) ≡ bare (if b then clear_must_cancel task r else r)
     answered true r = change-bare task _ r
     answered false r = refl
 
@@ -86,15 +86,15 @@ suspend-bare task on p =
     waited false = refl
     waited true = let r = cancel on (wait_on task on p) in rw (cancel-bare on (wait_on task on p), answered r.answer r.parts) refl
 
-    go : (c : Option Circle) → (suspend_unless c task on (bare p)).parts ≡ bare (suspend_unless c task on p).parts
-    go (Some c) = soon-bare (StepInCircle task c) p
-    go None = ap (λ q. (cancel_wait (is_marked p task) task on q).parts) (wait-bare task on p) ∙ waited (is_marked p task)
+    go : (c : Option CycleKind) → (suspend_unless c task on (bare p)).parts ≡ bare (suspend_unless c task on p).parts
+    go (Some c) = soon-bare (StepInCycle task c) p
+    go None = ap (λ q. (cancel_wait (must_cancel_of p task) task on q).parts) (wait-bare task on p) ∙ waited (must_cancel_of p task)
 
 pub finish-bare : (task : ℕ) (end : Result Value Exc) (p : Parts) → finish task end (bare p) ≡ bare (finish task end p)
 finish-bare task (Ok value) p =
-    let outcome : Outcome = if is_marked p task then Cancelled else Returned value in
-    ap (λ id. settle id outcome (unmark task (bare p))) (future_of-bare p task)
-    ∙ ap (settle (future_of p task) outcome) (change-bare task _ p) ∙ settle-bare (future_of p task) outcome (unmark task p)
+    let outcome : Outcome = if must_cancel_of p task then Cancelled else Returned value in
+    ap (λ id. settle id outcome (clear_must_cancel task (bare p))) (future_of-bare p task)
+    ∙ ap (settle (future_of p task) outcome) (change-bare task _ p) ∙ settle-bare (future_of p task) outcome (clear_must_cancel task p)
 finish-bare task (Err fault) p =
     let outcome : Outcome = if is_cancelled fault then Cancelled else Failed fault in
     ap (λ id. settle id outcome (bare p)) (future_of-bare p task) ∙ settle-bare (future_of p task) outcome p

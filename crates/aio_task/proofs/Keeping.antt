@@ -7,10 +7,10 @@ use Rattle.model_value.specs.Action.{Action}
 use Rattle.model_loop.specs.Parts.{FutureKind, Timer, Parts}
 use Rattle.model_loop.specs.Futures.{make_future}
 use Rattle.model_loop.specs.Owning.{owner_in}
-use Rattle.model_loop.specs.Sound.{HasNoCircle, ArePartsSound}
-use Rattle.law_cancel.proofs.Circling.{no_circle_kept}
+use Rattle.model_loop.specs.Sound.{HasNoCycle, ArePartsSound}
+use Rattle.law_cancel.proofs.Cycling.{no_cycle_kept}
 use Rattle.law_steps.proofs.Making.{make_sound}
-use Rattle.law_steps.proofs.Passing.{make_no_circle, same_tasks_no_circle}
+use Rattle.law_steps.proofs.Passing.{make_no_cycle, same_tasks_no_cycle}
 use Rattle.law_steps.proofs.CancelSound.{same_sound}
 use Rattle.law_steps.proofs.Looks.{handles_look_same}
 use Rattle.law_steps.specs.Frames.{Follows}
@@ -36,12 +36,12 @@ use Rattle.aio_task.proofs.BareSteps.{passes-bare}
 use Rattle.aio_task.proofs.Queues.{or_none, none_or, live, live-pending, live-appended, live-cancelled, live-fallen, any-cancelled, any-fallen, any-soon}
 use Rattle.aio_task.proofs.Queues.{waiting-barred}
 
--- ---- circles are those of the bare parts
-pub bare_no_circle : (p : Parts) → HasNoCircle p → HasNoCircle (bare p)
-bare_no_circle p none = no_circle_kept p (bare p) (passes-bare p) none
+-- ---- cycles are those of the bare parts
+pub bare_no_cycle : (p : Parts) → HasNoCycle p → HasNoCycle (bare p)
+bare_no_cycle p none = no_cycle_kept p (bare p) (passes-bare p) none
 
-pub no_bare_circle : (p : Parts) → HasNoCircle (bare p) → HasNoCircle p
-no_bare_circle p none = no_circle_kept (bare p) p (λ x. sym (passes-bare p x)) none
+pub no_bare_cycle : (p : Parts) → HasNoCycle (bare p) → HasNoCycle p
+no_bare_cycle p none = no_cycle_kept (bare p) p (λ x. sym (passes-bare p x)) none
 
 -- ---- no step was taken from the queue
 pub at_rest : (running called : Option ℕ) (p : Parts) → called ≡ None → AreSound running called p → ArePartsSound running running (bare p)
@@ -66,7 +66,7 @@ pub queue_kept : (v : View) (q : Queue) → v.called ≡ None
     → ((test : Action → Bool) → Follows test → live test (waiting q) ≡ live test (waiting v.queue))
     → list_any steps_as_timer (waiting q) ≡ false → IsKept v → IsKept (record v { queue = q })
 queue_kept v q idle same fallen is = record {
-  no_circle = same_tasks_no_circle (parts v) (parts (record v { queue = q })) refl refl is.no_circle;
+  no_cycle = same_tasks_no_cycle (parts v) (parts (record v { queue = q })) refl refl is.no_cycle;
   sound = rests v.running v.called (parts (record v { queue = q })) idle
       (queue_sound v.running v q same (at_rest v.running v.called (parts v) idle is.sound));
   timers = is.timers;
@@ -86,8 +86,8 @@ pub made_kept : (v : View) (kind : FutureKind) → v.called ≡ None → owner_i
 made_kept v kind idle free is =
     let sound = at_rest v.running v.called (parts v) idle is.sound in
     record {
-      no_circle = no_bare_circle (make_future kind (parts v)) (subst HasNoCircle (make-bare kind (parts v))
-          (make_no_circle kind free v.running v.running (bare (parts v)) sound (bare_no_circle (parts v) is.no_circle)));
+      no_cycle = no_bare_cycle (make_future kind (parts v)) (subst HasNoCycle (make-bare kind (parts v))
+          (make_no_cycle kind free v.running v.running (bare (parts v)) sound (bare_no_cycle (parts v) is.no_cycle)));
       sound = rests v.running v.called (make_future kind (parts v)) idle
           (subst (ArePartsSound v.running v.running) (make-bare kind (parts v))
           (make_sound kind free v.running v.running (bare (parts v)) sound));
@@ -143,7 +143,7 @@ cancel_timer_kept v id idle is = go (lives id v.schedule.live)
   where
     gone : IsKept (record v { schedule = record v.schedule { live = without id v.schedule.live } })
     gone = record {
-      no_circle = is.no_circle;
+      no_cycle = is.no_cycle;
       sound = is.sound;
       timers = any-without id v.schedule.live is.timers;
       fallen = is.fallen;
@@ -174,7 +174,7 @@ any-placed timer (other ∷ others) one none =
 pub at_kept : (v : View) (timer : Timer) (next : ℕ) → is_step timer.action ≡ false → IsKept v
     → IsKept (record v { schedule = record { live = placed_after timer v.schedule.live; next = next } })
 at_kept v timer next none is = record {
-  no_circle = is.no_circle;
+  no_cycle = is.no_cycle;
   sound = is.sound;
   timers = any-placed timer v.schedule.live none is.timers;
   fallen = is.fallen;
@@ -211,7 +211,7 @@ due_kept v now idle is =
     (λ test follows. live-fallen test follows (due_at now v.schedule.live) v.queue come)
     (any-fallen (due_at now v.schedule.live) v.queue come is.fallen)
     (record {
-      no_circle = is.no_circle;
+      no_cycle = is.no_cycle;
       sound = is.sound;
       timers = any-filter (λ (timer : Timer). nat_lt now timer.when) v.schedule.live is.timers;
       fallen = is.fallen;

@@ -9,21 +9,21 @@ use Rattle.model_value.specs.Value.{Outcome}
 use Rattle.model_loop.specs.Parts.{FutureKind, Future, Task, Parts}
 use Rattle.model_loop.specs.Handles.{soon}
 use Rattle.model_loop.specs.Futures.{is_pending_at, with_future, settle, settled, register, registered, registered_on, mark_asked}
-use Rattle.model_loop.specs.Circles.{passes_at}
+use Rattle.model_loop.specs.Cycles.{passes_at}
 use Rattle.model_loop.specs.Totals.{callbacks_of, callbacks_at}
 use Rattle.model_loop.specs.Owning.{owner_of, owner_at, owner_in, OwnsFutures}
 use Rattle.model_loop.specs.Ways.{steps}
-use Rattle.model_loop.specs.Sound.{HasNoCircle, ArePartsSound}
-use Rattle.law_cancel.proofs.Circling.{no_circle_kept, passes-same, register-view}
+use Rattle.model_loop.specs.Sound.{HasNoCycle, ArePartsSound}
+use Rattle.law_cancel.proofs.Cycling.{no_cycle_kept, passes-same, register-view}
 use Rattle.law_cancel.proofs.Effects.{register-tasks, mark_asked-tasks, asked_as}
 use Rattle.law_cancel.proofs.Lookups.{get_within}
-use Rattle.law_steps.proofs.Passing.{settle_no_circle}
+use Rattle.law_steps.proofs.Passing.{settle_no_cycle}
 use Rattle.law_steps.proofs.Registering.{callback_sound}
-use Rattle.algorithm_parts.specs.Forgotten.{released}
+use Rattle.algorithm_parts.specs.Released.{released}
 use Rattle.algorithm_parts.specs.Open.{room_of, is_inner_kind}
 use Rattle.algorithm_parts.proofs.RoomsKept.{settle-room, register-room, ask-room, make-room, release-room}
 use Rattle.law_steps.proofs.CancelSound.{is_no_task, same_sound, settle_sound}
-use Rattle.law_steps.proofs.Looks.{asked_looks_same, handles_look_same, same_no_circle}
+use Rattle.law_steps.proofs.Looks.{asked_looks_same, handles_look_same, same_no_cycle}
 use Rattle.law_steps.proofs.Settling.{soon-where}
 use Rattle.aio_base.specs.declared.memory.Memory.{Memory}
 use Rattle.aio_ready.specs.Queue as queue
@@ -40,9 +40,9 @@ use Rattle.aio_task.specs.Kept.{IsKept, HasRoom, steps_as_timer}
 use Rattle.aio_task.proofs.BareLemmas.{bare_at, with-bare, settle-bare, register-bare, ask-bare}
 use Rattle.aio_task.proofs.PartsLemmas.{register-parts, callback_appends}
 use Rattle.aio_task.proofs.Queues.{any-soon_all, bare_other}
-use Rattle.aio_task.proofs.Keeping.{at_rest, rests, bare_no_circle, no_bare_circle, made_kept, room_same}
+use Rattle.aio_task.proofs.Keeping.{at_rest, rests, bare_no_cycle, no_bare_cycle, made_kept, room_same}
 use Rattle.aio_task.proofs.Sizes.{released_room, noted_less}
-use Rattle.aio_task.proofs.Releasing.{release_no_circle, release_sound}
+use Rattle.aio_task.proofs.Releasing.{release_no_cycle, release_sound}
 
 -- handles that were appended are no timer's
 pub fallen_kept : (q r : Queue) → Appended q r → list_any steps_as_timer (waiting q) ≡ false → list_any steps_as_timer (waiting r) ≡ false
@@ -50,10 +50,10 @@ fallen_kept q r a none = ap (λ (x : Queue). list_any steps_as_timer (waiting x)
 
 -- A call that changes the queue, the futures and the tasks as a step of the parts does.
 pub moved_kept : (v : View) (b : cancel.Awaitables) (q : Parts) → v.called ≡ None → cancel.parts b ≡ q → Appended v.queue b.queue
-    → HasNoCircle q → ArePartsSound v.running v.running (bare q) → IsKept v
+    → HasNoCycle q → ArePartsSound v.running v.running (bare q) → IsKept v
     → IsKept (record v { queue = b.queue; futures = b.futures; tasks = b.tasks })
 moved_kept v b q idle same appended none sound is = record {
-  no_circle = subst HasNoCircle (sym same) none;
+  no_cycle = subst HasNoCycle (sym same) none;
   sound = rests v.running v.called (cancel.parts b) idle (subst (λ x. ArePartsSound v.running v.running (bare x)) (sym same) sound);
   timers = is.timers;
   fallen = fallen_kept v.queue b.queue appended is.fallen;
@@ -89,15 +89,15 @@ resolve_kept v id outcome idle free is =
     moved_kept v
     (record { queue = queue.soon_all (called id v.futures) v.queue; futures = settled_in id outcome v.futures; tasks = v.tasks })
     (settle id outcome (parts v)) idle (sym (settle-parts id outcome (body v))) (called id v.futures, refl)
-    (settle_no_circle id outcome (parts v) is.no_circle)
+    (settle_no_cycle id outcome (parts v) is.no_cycle)
     (subst (ArePartsSound v.running v.running) (settle-bare id outcome (parts v))
     (free_sound v.running id outcome (bare (parts v)) (bare_owner (parts v) id ∙ free) (at_rest v.running v.called (parts v) idle is.sound)))
     is
 
 -- ---- a callback
-register_no_circle : (id : ℕ) (action : Action) (p : Parts) → HasNoCircle p → HasNoCircle (register id action p)
-register_no_circle id action p none =
-    no_circle_kept p (register id action p)
+register_no_cycle : (id : ℕ) (action : Action) (p : Parts) → HasNoCycle p → HasNoCycle (register id action p)
+register_no_cycle id action p none =
+    no_cycle_kept p (register id action p)
     (λ x. passes-same p (register id action p) x
     (register-view (λ o. passes_at o x p) (λ f a. refl) id action p x)
     (λ t. ap (λ (ts : List Task). option_map_or (λ (it : Task). it.waiter) (slice_get ts t) None) (register-tasks id action p)))
@@ -128,13 +128,13 @@ on_done_kept v id action idle none is =
     moved_kept v
     (record { queue = soon_if_done id action v.futures v.queue; futures = registered_in id action v.futures; tasks = v.tasks })
     (register id action (parts v)) idle (sym (register-parts id action (body v))) (callback_appends id action v.futures v.queue)
-    (register_no_circle id action (parts v) is.no_circle)
+    (register_no_cycle id action (parts v) is.no_cycle)
     (subst (ArePartsSound v.running v.running)
     (ap (λ a. register id a (bare (parts v))) (sym (bare_other action none)) ∙ register-bare id action (parts v))
     (callback_kept v.running id (bare (parts v)) (at_rest v.running v.called (parts v) idle is.sound)))
     is
 
--- ---- a mark that it was asked
+-- ---- a note that it was asked
 asked-parts : (v : View) (id : ℕ) → mark_asked id (parts v) ≡ parts (record v { futures = asked id v.futures })
 asked-parts v id = at (slice_get v.futures id)
   where
@@ -154,18 +154,18 @@ ask_sound running id p is = at (slice_get p.futures id) refl
         (λ t m. sym (ap (λ (ts : List Task). option_map_or (λ (it : Task). it.must_cancel) (slice_get ts t) false) (mark_asked-tasks id p)) ∙ m)
         is
 
-ask_no_circle : (id : ℕ) (p : Parts) → HasNoCircle p → HasNoCircle (mark_asked id p)
-ask_no_circle id p none = at (slice_get p.futures id) refl
+ask_no_cycle : (id : ℕ) (p : Parts) → HasNoCycle p → HasNoCycle (mark_asked id p)
+ask_no_cycle id p none = at (slice_get p.futures id) refl
   where
-    at : (o : Option Future) → slice_get p.futures id ≡ o → HasNoCircle (mark_asked id p)
-    at None e = subst HasNoCircle (sym (ap (λ o. option_map_or (λ (f : Future). with_future id (asked_as f) p) o p) e)) none
-    at (Some f) e = same_no_circle p (mark_asked id p) (asked_looks_same id p f e) none
+    at : (o : Option Future) → slice_get p.futures id ≡ o → HasNoCycle (mark_asked id p)
+    at None e = subst HasNoCycle (sym (ap (λ o. option_map_or (λ (f : Future). with_future id (asked_as f) p) o p) e)) none
+    at (Some f) e = same_no_cycle p (mark_asked id p) (asked_looks_same id p f e) none
 
 pub asked_kept : (v : View) (id : ℕ) → v.called ≡ None → IsKept v → IsKept (record v { futures = asked id v.futures })
 asked_kept v id idle is =
     moved_kept v (record { queue = v.queue; futures = asked id v.futures; tasks = v.tasks })
     (mark_asked id (parts v)) idle (sym (asked-parts v id)) ([], refl)
-    (ask_no_circle id (parts v) is.no_circle)
+    (ask_no_cycle id (parts v) is.no_cycle)
     (subst (ArePartsSound v.running v.running) (ask-bare id (parts v))
     (ask_sound v.running id (bare (parts v)) (at_rest v.running v.called (parts v) idle is.sound)))
     is
@@ -209,9 +209,9 @@ released_kept v id idle free over is = there (nat_lt id (length v.futures))
         let same : with_future id released (bare (parts v)) ≡ bare (with_future id released (parts v)) = with-bare id released (parts v) in
         moved_kept v (record { queue = v.queue; futures = slice_set v.futures id released; tasks = v.tasks })
         (with_future id released (parts v)) idle refl ([], refl)
-        (no_bare_circle (with_future id released (parts v)) (subst HasNoCircle same
-        (release_no_circle v.running id (bare (parts v)) (bare_future f) at_bare (bare_owner (parts v) id ∙ free) uncalled
-        (bare_no_circle (parts v) is.no_circle))))
+        (no_bare_cycle (with_future id released (parts v)) (subst HasNoCycle same
+        (release_no_cycle v.running id (bare (parts v)) (bare_future f) at_bare (bare_owner (parts v) id ∙ free) uncalled
+        (bare_no_cycle (parts v) is.no_cycle))))
         (subst (ArePartsSound v.running v.running) same
         (release_sound v.running id (bare (parts v)) (bare_future f) at_bare (bare_owner (parts v) id ∙ free) uncalled sound))
         is

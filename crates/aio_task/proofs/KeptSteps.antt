@@ -7,7 +7,7 @@ use Rattle.std.proofs.lemmas.List.Sums.{sum_by-cons}
 use Rattle.model_value.specs.Action.{Action}
 use Rattle.model_value.specs.Input.{Input}
 use Rattle.model_value.specs.Value.{Value, Exc}
-use Rattle.model_value.specs.declared.action.Action.TheVariants.{Step, StepInCircle, Wakeup}
+use Rattle.model_value.specs.declared.action.Action.TheVariants.{Step, StepInCycle, Wakeup}
 use Rattle.model_loop.specs.Parts.{OfTask, Handle, Future, Task, Parts}
 use Rattle.model_loop.specs.Futures.{is_pending, is_pending_at}
 use Rattle.model_loop.specs.Tasks.{spawn, begin_step, pause, finish, uncancel}
@@ -15,12 +15,12 @@ use Rattle.model_loop.specs.Suspend.{suspend}
 use Rattle.model_loop.specs.Cancel.{cancel}
 use Rattle.model_loop.specs.Totals.{pending_where}
 use Rattle.model_loop.specs.Ways.{steps}
-use Rattle.model_loop.specs.Sound.{HasNoCircle, ArePartsSound}
-use Rattle.law_cancel.proofs.Circling.{cancel_makes_none, suspend_makes_none}
-use Rattle.law_steps.proofs.Passing.{begin_no_circle, spawn_no_circle, finish_no_circle, same_tasks_no_circle}
+use Rattle.model_loop.specs.Sound.{HasNoCycle, ArePartsSound}
+use Rattle.law_cancel.proofs.Cycling.{cancel_makes_none, suspend_makes_none}
+use Rattle.law_steps.proofs.Passing.{begin_no_cycle, spawn_no_cycle, finish_no_cycle, same_tasks_no_cycle}
 use Rattle.law_steps.proofs.Spawning.{spawn_sound}
 use Rattle.law_steps.proofs.CancelSound.{cancel_sound, same_sound}
-use Rattle.law_steps.proofs.Looks.{same_no_circle, handles_look_same}
+use Rattle.law_steps.proofs.Looks.{same_no_cycle, handles_look_same}
 use Rattle.law_steps.specs.Frames.{Follows}
 use Rattle.law_steps.proofs.Ending.{pause_sound, finish_sound}
 use Rattle.law_steps.proofs.Stepping.{begin_sound, uncancel_looks_same, uncancel_fewer}
@@ -41,7 +41,7 @@ use Rattle.aio_task.specs.View.{View, parts, body, is_step, stepped, stepped_at}
 use Rattle.aio_task.specs.Kept.{AreSound, IsKept, HasRoom, with_first, steps_as_timer}
 use Rattle.aio_task.proofs.BareLemmas.{bare_at, spawn-bare, cancel-bare, change-bare}
 use Rattle.aio_task.proofs.BareSteps.{begin-bare, pause-bare, suspend-bare, finish-bare}
-use Rattle.aio_task.proofs.Keeping.{at_rest, rests, bare_no_circle, no_bare_circle}
+use Rattle.aio_task.proofs.Keeping.{at_rest, rests, bare_no_cycle, no_bare_cycle}
 use Rattle.aio_task.proofs.KeptFutures.{fallen_kept, moved_kept}
 use Rattle.aio_task.proofs.Queues.{live, live-pending, live-none, live-taken, live-other, any-taken, first_lives}
 
@@ -51,8 +51,8 @@ pub spawn_kept : (v : View) (b : cancel.Awaitables) → v.called ≡ None → ca
 spawn_kept v b idle same appended is =
     let sound = at_rest v.running v.called (parts v) idle is.sound in
     moved_kept v b (spawn (parts v)) idle same (Step (length v.tasks) ∷ [], appended)
-    (no_bare_circle (spawn (parts v)) (subst HasNoCircle (spawn-bare (parts v))
-    (spawn_no_circle v.running v.running (bare (parts v)) sound (bare_no_circle (parts v) is.no_circle))))
+    (no_bare_cycle (spawn (parts v)) (subst HasNoCycle (spawn-bare (parts v))
+    (spawn_no_cycle v.running v.running (bare (parts v)) sound (bare_no_cycle (parts v) is.no_cycle))))
     (subst (ArePartsSound v.running v.running) (spawn-bare (parts v)) (spawn_sound v.running v.running (bare (parts v)) sound))
     is
 
@@ -101,7 +101,7 @@ pub cancel_kept : (v : View) (b : cancel.Awaitables) (target : ℕ) → v.called
     → Appended v.queue b.queue → IsKept v → IsKept (record v { queue = b.queue; futures = b.futures; tasks = b.tasks })
 cancel_kept v b target idle same appended is =
     moved_kept v b (cancel target (parts v)).parts idle same appended
-    (cancel_makes_none target (parts v) is.no_circle)
+    (cancel_makes_none target (parts v) is.no_cycle)
     (subst (λ (r : Parts). ArePartsSound v.running v.running r) (ap (λ r. r.parts) (cancel-bare target (parts v)))
     (cancel_sound v.running v.running (λ t h. h) target (bare (parts v)) (at_rest v.running v.called (parts v) idle is.sound)))
     is
@@ -111,7 +111,7 @@ pub uncancel_kept : (v : View) (b : cancel.Awaitables) (task : ℕ) → v.called
 uncancel_kept v b task idle same appended is =
     let sound = at_rest v.running v.called (parts v) idle is.sound in
     moved_kept v b (uncancel task (parts v)) idle same appended
-    (same_no_circle (parts v) (uncancel task (parts v)) (uncancel_looks_same task (parts v)) is.no_circle)
+    (same_no_cycle (parts v) (uncancel task (parts v)) (uncancel_looks_same task (parts v)) is.no_cycle)
     (subst (ArePartsSound v.running v.running) (change-bare task _ (parts v))
     (same_sound v.running v.running (bare (parts v)) (uncancel task (bare (parts v))) (uncancel_looks_same task (bare (parts v)))
     (uncancel_fewer task (bare (parts v))) sound))
@@ -123,7 +123,7 @@ nat_same n = grind arith
 
 pub steps_it : (action : Action) (task : ℕ) → stepped action ≡ Some task → steps task (bare_action action) ≡ true
 steps_it (Step other) task e = let same : other ≡ task = cc in rw same (nat_same task)
-steps_it (StepInCircle other circle) task e = let same : other ≡ task = cc in rw same (nat_same task)
+steps_it (StepInCycle other cycle) task e = let same : other ≡ task = cc in rw same (nat_same task)
 steps_it (Wakeup other) task e = let same : other ≡ task = cc in rw same (nat_same task)
 steps_it _ task e = absurd (cc)
 
@@ -139,7 +139,7 @@ pub begin_kept : (v : View) (b : cancel.Awaitables) (task : ℕ) (input : Input)
     → cancel.parts b ≡ (begin_step task input (parts v)).parts → b.queue ≡ v.queue → IsKept v
     → IsKept (record v { queue = b.queue; futures = b.futures; tasks = b.tasks; running = Some task; called = None })
 begin_kept v b task input called running same queue is = record {
-  no_circle = subst HasNoCircle (sym same) (begin_no_circle task input (parts v) is.no_circle);
+  no_cycle = subst HasNoCycle (sym same) (begin_no_cycle task input (parts v) is.no_cycle);
   sound = subst (λ x. ArePartsSound (Some task) (Some task) (bare x)) (sym same)
       (begun_sound v.running v.called task input (parts v) called running is.sound);
   timers = is.timers;
@@ -148,10 +148,10 @@ begin_kept v b task input called running same queue is = record {
 
 -- ---- a step ends
 ended_kept : (v : View) (b : cancel.Awaitables) (q : Parts) → v.called ≡ None → cancel.parts b ≡ q → Appended v.queue b.queue
-    → HasNoCircle q → ArePartsSound None None (bare q) → IsKept v
+    → HasNoCycle q → ArePartsSound None None (bare q) → IsKept v
     → IsKept (record v { queue = b.queue; futures = b.futures; tasks = b.tasks; running = None })
 ended_kept v b q idle same appended none sound is = record {
-  no_circle = subst HasNoCircle (sym same) none;
+  no_cycle = subst HasNoCycle (sym same) none;
   sound = rests None v.called (cancel.parts b) idle (subst (λ x. ArePartsSound None None (bare x)) (sym same) sound);
   timers = is.timers;
   fallen = fallen_kept v.queue b.queue appended is.fallen;
@@ -173,7 +173,7 @@ pub pause_kept : (v : View) (task : ℕ) → v.called ≡ None → v.running ≡
 pause_kept v task idle running is =
     ended_kept v (record { queue = queue.soon (Step task) v.queue; futures = v.futures; tasks = v.tasks })
     (pause task (parts v)) idle (sym (soon-parts (Step task) (body v))) (Step task ∷ [], refl)
-    (same_tasks_no_circle (parts v) (pause task (parts v)) refl refl is.no_circle)
+    (same_tasks_no_cycle (parts v) (pause task (parts v)) refl refl is.no_cycle)
     (subst (ArePartsSound None None) (pause-bare task (parts v))
     (pause_sound task (bare (parts v)) (in_step v.running v.called task (parts v) idle running is.sound)))
     is
@@ -184,8 +184,8 @@ pub suspend_kept : (v : View) (b : cancel.Awaitables) (task on : ℕ) → v.call
 suspend_kept v b task on idle running pending same appended is =
     let sound = in_step v.running v.called task (parts v) idle running is.sound in
     ended_kept v b (suspend task on (parts v)).parts idle same appended
-    (no_bare_circle (suspend task on (parts v)).parts (subst HasNoCircle (suspend-bare task on (parts v))
-    (suspend_makes_none task on (bare (parts v)) sound.owns (bare_no_circle (parts v) is.no_circle))))
+    (no_bare_cycle (suspend task on (parts v)).parts (subst HasNoCycle (suspend-bare task on (parts v))
+    (suspend_makes_none task on (bare (parts v)) sound.owns (bare_no_cycle (parts v) is.no_cycle))))
     (subst (ArePartsSound None None) (suspend-bare task on (parts v))
     (suspend_sound task on (bare (parts v)) (bare_pends (parts v) on ∙ pending) sound))
     is
@@ -195,7 +195,7 @@ pub finish_kept : (v : View) (b : cancel.Awaitables) (task : ℕ) (end : Result 
     → IsKept (record v { queue = b.queue; futures = b.futures; tasks = b.tasks; running = None })
 finish_kept v b task end idle running same appended is =
     ended_kept v b (finish task end (parts v)) idle same appended
-    (finish_no_circle task end (parts v) is.no_circle)
+    (finish_no_cycle task end (parts v) is.no_cycle)
     (subst (ArePartsSound None None) (finish-bare task end (parts v))
     (finish_sound task end (bare (parts v)) (in_step v.running v.called task (parts v) idle running is.sound)))
     is
@@ -203,7 +203,7 @@ finish_kept v b task end idle running same appended is =
 -- ---- what runs next is taken from the queue
 no_step : (action : Action) → stepped action ≡ None → is_step action ≡ false
 no_step (Step task) e = absurd (cc)
-no_step (StepInCircle task circle) e = absurd (cc)
+no_step (StepInCycle task cycle) e = absurd (cc)
 no_step (Wakeup task) e = absurd (cc)
 no_step _ e = refl
 
@@ -219,7 +219,7 @@ with_first_live test h handles alive =
 pub next_kept : (v : View) (called : Option ℕ) → called ≡ stepped_at (queue.next_action v.queue) → v.called ≡ None → IsKept v
     → IsKept (record v { queue = queue.taken v.queue; called = called })
 next_kept v called next idle is = record {
-  no_circle = same_tasks_no_circle (parts v) (parts after) refl refl is.no_circle;
+  no_cycle = same_tasks_no_cycle (parts v) (parts after) refl refl is.no_cycle;
   sound = subst (λ x. AreSound v.running x (parts after)) (sym next) (taken (from_live v.queue.below) refl);
   timers = is.timers;
   fallen = any-taken steps_as_timer v.queue is.fallen;

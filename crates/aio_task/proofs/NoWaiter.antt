@@ -1,4 +1,4 @@
--- Where nobody waits for a future that is pending, nothing passes to it, so no circle of waits goes through it: a task that
+-- Where nobody waits for a future that is pending, nothing passes to it, so no cycle of waits goes through it: a task that
 -- lives and waits for it has its wakeup there, and what stands for it has it as a member.
 use Rattle.std.proofs.Common.{◌≡◌, ◌≢◌, ℕ, ◌+◌, ◌⊎◌, Bool, true, false, cond, ◌||◌, ◌==◌, List, [], ◌∷◌, Option, Some, None, nat_eq, option_map, slice_get}
 use Rattle.std.proofs.Common.{refl, ap, sym, ◌∙◌, inl, inr, arith}
@@ -9,8 +9,8 @@ use Rattle.std.specs.Prelude.{is_none}
 use Rattle.std.specs.List.{list_any, count_by}
 use Rattle.std.specs.Option.{option_map_or, option_to_list}
 use Rattle.model_value.specs.Action.{Action}
-use Rattle.model_value.specs.declared.action.Action.TheVariants.{Step, StepInCircle, Wakeup}
-use Rattle.model_value.specs.declared.action.Circle.TheVariants.{Itself, ItsWaiter}
+use Rattle.model_value.specs.declared.action.Action.TheVariants.{Step, StepInCycle, Wakeup}
+use Rattle.model_value.specs.declared.action.CycleKind.TheVariants.{Itself, ItsWaiter}
 use Rattle.model_value.specs.Value.{Outcome}
 use Rattle.model_loop.specs.Parts.{FutureKind, Plain, OfTask, Many, Future, Task, Parts}
 use Rattle.model_loop.specs.Futures.{is_pending, is_pending_at, next_future, made_before}
@@ -18,7 +18,7 @@ use Rattle.model_loop.specs.Tasks.{future_of, waiter_of, lives}
 use Rattle.model_loop.specs.Totals.{callbacks_of}
 use Rattle.model_loop.specs.Ways.{steps, wakeups_on, HasOneWay}
 use Rattle.model_loop.specs.Owning.{OwnsFutures, own_future, owner_at, owner_in}
-use Rattle.model_loop.specs.Circles.{passes_of_kind, passes_until, passes_at, PassesTo, Leads, at_once, through, leads, circle}
+use Rattle.model_loop.specs.Cycles.{passes_of_kind, passes_until, passes_at, PassesTo, Leads, at_once, through, leads, cycle}
 use Rattle.law_cancel.proofs.Reach.{leads_decides}
 use Rattle.algorithm_parts.specs.Shape.{members_of, members_at}
 use Rattle.aio_future.specs.Awaited.{is_step, IsUnawaited}
@@ -26,7 +26,7 @@ use Rattle.aio_future.specs.Awaited.{is_step, IsUnawaited}
 -- ---- callbacks that are no steps
 no_step : (task : ℕ) (action : Action) → is_step action ≡ false → steps task action ≡ false
 no_step task (Step other) h = absurd (false≢true (sym h))
-no_step task (StepInCircle other circle) h = absurd (false≢true (sym h))
+no_step task (StepInCycle other cycle) h = absurd (false≢true (sym h))
 no_step task (Wakeup other) h = absurd (false≢true (sym h))
 no_step task _ h = refl
 
@@ -118,9 +118,9 @@ module _ (running : Option ℕ) (p : Parts) (owns : OwnsFutures p) (one_way : Ha
       at (inl h) = let last = last_pass p ((leads_decides p from own).0 h) in absurd (passes_not last.0 last.1)
       at (inr h) = h
 
--- Nobody waits for a task that lives, so whatever it awaits is no circle, but for itself.
-pub no_circle_through : (running : Option ℕ) (p : Parts) (task on : ℕ) → OwnsFutures p → HasOneWay running p → lives p task ≡ true
-    → IsUnawaited (future_of p task) p.futures → on ≢ future_of p task → circle p task on ≡ None
-no_circle_through running p task on owns one_way lively free other =
+-- Nobody waits for a task that lives, so whatever it awaits is no cycle, but for itself.
+pub no_cycle_through : (running : Option ℕ) (p : Parts) (task on : ℕ) → OwnsFutures p → HasOneWay running p → lives p task ≡ true
+    → IsUnawaited (future_of p task) p.futures → on ≢ future_of p task → cycle p task on ≡ None
+no_cycle_through running p task on owns one_way lively free other =
     ap (λ b. cond b (Some Itself) (cond (leads p on (future_of p task)) (Some ItsWaiter) None)) (ne_eqb on (future_of p task) other)
     ∙ ap (λ b. cond b (Some ItsWaiter) None) (unled running p owns one_way (future_of p task) lively free on)

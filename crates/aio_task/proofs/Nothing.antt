@@ -1,7 +1,7 @@
 -- Where nothing has happened, the type keeps what it keeps.
 use Rattle.std.proofs.Common.{ℕ, ◌≤◌, None, refl, arith}
 use Rattle.std.proofs.lemmas.Bool.{false≢true}
-use Rattle.model_loop.specs.Circles.{Leads, at_once, through}
+use Rattle.model_loop.specs.Cycles.{Leads, at_once, through}
 use Rattle.model_loop.specs.Sound.{ArePartsSound}
 use Rattle.algorithm_parts.specs.Open.{room_of}
 use Rattle.aio_task.specs.Bare.{bare}
@@ -23,11 +23,11 @@ module _ (profile : ℕ) where
     waits_made = λ task on h. absurd (cc);
     one_way = record { one = λ task. refl; on_waiter = λ task on h. absurd (omega (arith, h)); stays = λ task on l w h. absurd (false≢true l) };
     ready = record { free = λ task h. refl; woken = λ task h. absurd (omega (arith, h)) };
-    marks = λ task l m. absurd (false≢true l);
+    must_cancel = λ task l m. absurd (false≢true l);
   }
 
   pub nothing_kept : IsKept (empty profile)
-  nothing_kept = record { no_circle = λ id l. leads_none id id l; sound = nothing_sound; timers = refl; fallen = refl }
+  nothing_kept = record { no_cycle = λ id l. leads_none id id l; sound = nothing_sound; timers = refl; fallen = refl }
 
   pub nothing_needed : room_of (parts (empty profile)) ≤ 0
   nothing_needed = omega arith

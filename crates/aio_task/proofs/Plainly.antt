@@ -7,13 +7,13 @@ use Rattle.std.proofs.lemmas.List.{length-map}
 use Rattle.std.specs.List.{count_by}
 use Rattle.std.specs.Option.{option_map}
 use Rattle.model_value.specs.Action.{Action}
-use Rattle.model_value.specs.declared.action.Action.TheVariants.{Step, StepInCircle, Wakeup}
+use Rattle.model_value.specs.declared.action.Action.TheVariants.{Step, StepInCycle, Wakeup}
 use Rattle.model_loop.specs.Parts.{Handle, Future, Parts}
 use Rattle.model_loop.specs.Futures.{is_pending}
 use Rattle.model_loop.specs.Tasks.{future_of, lives, waiter_of}
 use Rattle.model_loop.specs.Totals.{callbacks_of, callbacks_at, registered_at, pending_where}
 use Rattle.model_loop.specs.Ways.{steps, resumes, wakes, is_running, one_if, ways, wakeups_on, HasOneWay, IsReady}
-use Rattle.model_loop.specs.Marks.{MayBeMarked, MarksWait}
+use Rattle.model_loop.specs.MustCancel.{MayKeepMustCancel, MustCancelWaits}
 use Rattle.model_loop.specs.Spent.{spent_by}
 use Rattle.model_loop.specs.Sound.{ArePartsSound}
 use Rattle.law_steps.proofs.Looks.{spent_grows_below}
@@ -32,19 +32,19 @@ Blind test = (action : Action) → test (bare_action action) ≡ test action
 
 steps_blind : (task : ℕ) → Blind (steps task)
 steps_blind task (Step other) = refl
-steps_blind task (StepInCircle other circle) = refl
+steps_blind task (StepInCycle other cycle) = refl
 steps_blind task (Wakeup other) = refl
 steps_blind task _ = refl
 
 resumes_blind : (task : ℕ) → Blind (resumes task)
 resumes_blind task (Step other) = refl
-resumes_blind task (StepInCircle other circle) = refl
+resumes_blind task (StepInCycle other cycle) = refl
 resumes_blind task (Wakeup other) = refl
 resumes_blind task _ = refl
 
 wakes_blind : (task : ℕ) → Blind (wakes task)
 wakes_blind task (Step other) = refl
-wakes_blind task (StepInCircle other circle) = refl
+wakes_blind task (StepInCycle other cycle) = refl
 wakes_blind task (Wakeup other) = refl
 wakes_blind task _ = refl
 
@@ -101,8 +101,8 @@ ready_of p is = record {
       (x.0, x.1, sym (bare_pends p x.0) ∙ x.2);
 }
 
-pub marks_of : (running : Option ℕ) (p : Parts) → MarksWait running (bare p) → MarksWait running p
-marks_of running p is t l m = may (is t (lives-bare p t ∙ l) m)
+pub must_cancels_of : (running : Option ℕ) (p : Parts) → MustCancelWaits running (bare p) → MustCancelWaits running p
+must_cancels_of running p is t l m = may (is t (lives-bare p t ∙ l) m)
   where
     spent : (g : ℕ → Bool) (j : ℕ)
         → (spent_by g (slice_get p.futures j) j ≡ spent_by g (slice_get (bare p).futures j) j) ⊎ (is_pending p j ≡ false)
@@ -112,7 +112,7 @@ marks_of running p is t l m = may (is t (lives-bare p t ∙ l) m)
         at None = refl
         at (Some f) = refl
 
-    may : MayBeMarked running (bare p) t → MayBeMarked running p t
+    may : MayKeepMustCancel running (bare p) t → MayKeepMustCancel running p t
     may (inl r) = inl r
     may (inr (inl h)) = inr (inl (subst (λ n. 0 < n) (pending_same (steps t) (steps_blind t) p.pending) h))
     may (inr (inr w)) = inr (inr (w.0, w.1, sym (bare_pends p w.0) ∙ w.2, spent_grows_below (suc w.0) (bare p) p spent w.0 w.3))
@@ -128,8 +128,8 @@ module _ (v : View) (is : IsKept v) where
   pub kept_ready : v.called ≡ None → IsReady (parts v)
   kept_ready idle = ready_of (parts v) (sound idle).ready
 
-  pub kept_marks : v.called ≡ None → MarksWait v.running (parts v)
-  kept_marks idle = marks_of v.running (parts v) (sound idle).marks
+  pub kept_must_cancel : v.called ≡ None → MustCancelWaits v.running (parts v)
+  kept_must_cancel idle = must_cancels_of v.running (parts v) (sound idle).must_cancel
 
   pub kept_waits : (task on : ℕ) → v.called ≡ None → waiter_of (parts v) task ≡ Some on → on < length v.futures
   kept_waits task on idle waits =

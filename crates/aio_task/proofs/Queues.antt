@@ -6,7 +6,7 @@ use Rattle.std.proofs.lemmas.List.Sums.{sum_by-cons}
 use Rattle.std.proofs.lemmas.List.Folds.{list_any-append}
 use Rattle.std.specs.List.{list_any}
 use Rattle.model_value.specs.Action.{Action}
-use Rattle.model_value.specs.declared.action.Action.TheVariants.{Step, StepInCircle, Wakeup, MainDone}
+use Rattle.model_value.specs.declared.action.Action.TheVariants.{Step, StepInCycle, Wakeup, MainDone}
 use Rattle.model_loop.specs.Parts as plain
 use Rattle.model_loop.specs.Parts.{Timer}
 use Rattle.model_loop.specs.Totals.{pending_where}
@@ -57,7 +57,7 @@ live-append test (x ∷ xs) ys = let e = live-append test xs ys in omega (arith,
 -- ---- actions that step no task
 pub bare_other : (action : Action) → is_step action ≡ false → bare_action action ≡ MainDone
 bare_other (Step task) h = absurd (false≢true (sym h))
-bare_other (StepInCircle task circle) h = absurd (false≢true (sym h))
+bare_other (StepInCycle task cycle) h = absurd (false≢true (sym h))
 bare_other (Wakeup task) h = absurd (false≢true (sym h))
 bare_other _ h = refl
 
@@ -89,18 +89,18 @@ any-appended p name action q h none =
     ∙ none_or (list_any p (waiting q)) (list_any p (handle ∷ [])) none (none_or (p handle) false h refl)
 
 -- ---- cancelled
-marked_counts : (test : Action → Bool) → Follows test → (dead same : Bool) (action : Action) → (same && (not dead && is_step action)) ≡ false
+must_cancel_counts : (test : Action → Bool) → Follows test → (dead same : Bool) (action : Action) → (same && (not dead && is_step action)) ≡ false
     → one_where (not (dead || same) && test (bare_action action)) ≡ one_where (not dead && test (bare_action action))
-marked_counts test follows true same action h = refl
-marked_counts test follows false false action h = refl
-marked_counts test follows false true action h = rw (passes_not test follows action h) refl
+must_cancel_counts test follows true same action h = refl
+must_cancel_counts test follows false false action h = refl
+must_cancel_counts test follows false true action h = rw (passes_not test follows action h) refl
 
 pub live-marked : (test : Action → Bool) → Follows test → (name : HandleName) (handles : List Handle)
     → list_any (steps_as name) handles ≡ false → live test (map (marked name) handles) ≡ live test handles
 live-marked test follows name [] none = refl
 live-marked test follows name (h ∷ handles) none =
     let both = or_none (steps_as name h) (list_any (steps_as name) handles) none in
-    let a = marked_counts test follows h.dead (is_same name h.name) h.action both.0 in
+    let a = must_cancel_counts test follows h.dead (is_same name h.name) h.action both.0 in
     let b = live-marked test follows name handles both.1 in
     omega (arith, a, b)
 

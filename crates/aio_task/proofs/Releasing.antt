@@ -1,4 +1,4 @@
--- A future is let go that is no task's and has no callbacks: from then on it is done.
+-- A future is released that is no task's and has no callbacks: from then on it is done.
 use Rattle.std.proofs.Common.{◌≡◌, ℕ, suc, ◌+◌, ◌<◌, ◌⊎◌, Bool, true, false, not, ◌&&◌, [], Option, Some, None, length, slice_get, refl}
 use Rattle.std.proofs.Common.{ap, sym, subst, ◌∙◌, arith, inl, inr}
 use Rattle.std.proofs.Math.ListN.{length-set}
@@ -12,13 +12,13 @@ use Rattle.model_loop.specs.Tasks.{future_of, lives, waiter_of}
 use Rattle.model_loop.specs.Totals.{callbacks_of, callbacks_at, registered_at, pending_where}
 use Rattle.model_loop.specs.Owning.{owner_of, owner_at, is_no_callback}
 use Rattle.model_loop.specs.Ways.{steps, is_running, one_if}
-use Rattle.model_loop.specs.Marks.{MayBeMarked}
+use Rattle.model_loop.specs.MustCancel.{MayKeepMustCancel}
 use Rattle.model_loop.specs.Spent.{spent_by}
-use Rattle.model_loop.specs.Circles.{passes, passes_at}
-use Rattle.model_loop.specs.Sound.{ArePartsSound, HasNoCircle}
+use Rattle.model_loop.specs.Cycles.{passes, passes_at}
+use Rattle.model_loop.specs.Sound.{ArePartsSound, HasNoCycle}
 use Rattle.law_cancel.proofs.Lookups.{get-set_kept, get-set_other, get-set_same, get_within}
-use Rattle.law_steps.proofs.Passing.{no_circle_more}
-use Rattle.algorithm_parts.specs.Forgotten.{released}
+use Rattle.law_steps.proofs.Passing.{no_cycle_more}
+use Rattle.algorithm_parts.specs.Released.{released}
 use Rattle.law_steps.proofs.CancelSound.{is_no_task}
 use Rattle.law_steps.proofs.Looks.{spent_grows_below}
 
@@ -64,8 +64,8 @@ module _ (running : Option ℕ) (id : ℕ) (p : Parts) (f : Future) (there : sli
   at_same test None = refl
   at_same test (Some j) = counted test j
 
-  pub release_no_circle : HasNoCircle p → HasNoCircle left
-  release_no_circle none = no_circle_more p left (λ x. go x (cases_eq id x)) (λ t. inl refl) none
+  pub release_no_cycle : HasNoCycle p → HasNoCycle left
+  release_no_cycle none = no_cycle_more p left (λ x. go x (cases_eq id x)) (λ t. inl refl) none
     where
       go : (x : ℕ) → (id ≡ x) ⊎ (id ≡ x → ⊥) → (slice_get left.futures x ≡ slice_get p.futures x) ⊎ (passes left x ≡ [])
       go x (inl same) = inr (subst (λ i. passes left i ≡ []) same (ap (λ o. passes_at o id left) at_it))
@@ -86,7 +86,7 @@ module _ (running : Option ℕ) (id : ℕ) (p : Parts) (f : Future) (there : sli
       stays = λ t on l w h. counted (steps t) on ∙ is.one_way.stays t on (sym (living t) ∙ l) w (pended on h);
     };
     ready = record { free = is.ready.free; woken = λ t h. let x = is.ready.woken t h in (x.0, x.1, over x.0 x.2) };
-    marks = λ t l m. may t (sym (living t) ∙ l) (is.marks t (sym (living t) ∙ l) m);
+    must_cancel = λ t l m. may t (sym (living t) ∙ l) (is.must_cancel t (sym (living t) ∙ l) m);
   }
     where
       living : (t : ℕ) → lives left t ≡ lives p t
@@ -127,7 +127,7 @@ module _ (running : Option ℕ) (id : ℕ) (p : Parts) (f : Future) (there : sli
               absurd (omega (arith, one, none))
           go (inr n) = ap is_pending_at (elsewhere on n) ∙ h
 
-      may : (t : ℕ) → lives p t ≡ true → MayBeMarked running p t → MayBeMarked running left t
+      may : (t : ℕ) → lives p t ≡ true → MayKeepMustCancel running p t → MayKeepMustCancel running left t
       may t l (inl x) = inl x
       may t l (inr (inl h)) = inr (inl h)
       may t l (inr (inr w)) =

@@ -4,7 +4,7 @@ use Rattle.std.proofs.Common.{ap, sym, subst, ◌∙◌, arith, Result, Ok, Err,
 use Rattle.std.specs.Prelude.{is_none}
 use Rattle.std.specs.Option.{option_map, option_map_or}
 use Rattle.std.proofs.lemmas.Bool.{false≢true}
-use Rattle.model_value.specs.Action.{Action, Circle}
+use Rattle.model_value.specs.Action.{Action, CycleKind}
 use Rattle.model_value.specs.Input.{Input}
 use Rattle.model_value.specs.declared.action.Action.TheVariants.{Wakeup}
 use Rattle.model_value.specs.declared.outcome.Outcome.TheVariants.{Cancelled, Value as Returned, Failed}
@@ -12,8 +12,8 @@ use Rattle.model_value.specs.Value.{Value, Exc, Outcome}
 use Rattle.model_loop.specs.Parts.{FutureKind, Plain, OfTask, Many, Future, Task, Parts}
 use Rattle.model_loop.specs.Futures.{next_future, is_pending, is_pending_at, settle, register}
 use Rattle.model_loop.specs.Owning.{owner_in, owner_at, OwnsFutures}
-use Rattle.model_loop.specs.Tasks.{change_task, set_waiter, unmark, is_marked, is_cancelled, future_of, lives, begin_step, finish}
-use Rattle.model_loop.specs.Circles.{circle}
+use Rattle.model_loop.specs.Tasks.{change_task, set_waiter, clear_must_cancel, must_cancel_of, is_cancelled, future_of, lives, begin_step, finish}
+use Rattle.model_loop.specs.Cycles.{cycle}
 use Rattle.model_loop.specs.Suspend.{wait_on, cancel_wait, suspend_unless, suspend}
 use Rattle.model_loop.specs.Cancel.{cancel}
 use Rattle.law_cancel.proofs.Counting.{change_task-kept}
@@ -65,13 +65,13 @@ size_cancel id p = record {
 
 pub size_begin : (task : ℕ) (input : Input) (p : Parts) → NeedsNoMore p (begin_step task input p).parts
 size_begin task input p =
-    size_on p (set_waiter task None p) (unmark task (set_waiter task None p)) (size_change task _ p) (size_change task _ (set_waiter task None p))
+    size_on p (set_waiter task None p) (clear_must_cancel task (set_waiter task None p)) (size_change task _ p) (size_change task _ (set_waiter task None p))
 
 pub size_finish : (task : ℕ) (end : Result Value Exc) (p : Parts) → NeedsNoMore p (finish task end p)
 size_finish task (Ok value) p =
-    let outcome : Outcome = if is_marked p task then Cancelled else Returned value in
-    size_on p (unmark task p) (settle (future_of p task) outcome (unmark task p)) (size_change task _ p)
-    (size_settle (future_of p task) outcome (unmark task p))
+    let outcome : Outcome = if must_cancel_of p task then Cancelled else Returned value in
+    size_on p (clear_must_cancel task p) (settle (future_of p task) outcome (clear_must_cancel task p)) (size_change task _ p)
+    (size_settle (future_of p task) outcome (clear_must_cancel task p))
 size_finish task (Err fault) p = size_settle (future_of p task) (if is_cancelled fault then Cancelled else Failed fault) p
 
 pub size_wait : (task on : ℕ) (p : Parts) → NeedsNoMore p (wait_on task on p)
@@ -79,9 +79,9 @@ size_wait task on p =
     size_on p (register on (Wakeup task) p) (wait_on task on p) (size_register on (Wakeup task) p) (size_change task _ (register on (Wakeup task) p))
 
 pub size_suspend : (task on : ℕ) (p : Parts) → NeedsNoMore p (suspend task on p).parts
-size_suspend task on p = go (circle p task on)
+size_suspend task on p = go (cycle p task on)
   where
-    answered : (b : Bool) (r : Parts) → NeedsNoMore r (if b then unmark task r else r)
+    answered : (b : Bool) (r : Parts) → NeedsNoMore r (if b then clear_must_cancel task r else r)
     answered true r = size_change task _ r
     answered false r = record { room = omega arith; tasks = refl }
 
@@ -89,17 +89,17 @@ size_suspend task on p = go (circle p task on)
     waited false q = record { room = omega arith; tasks = refl }
     waited true q =
         let r = cancel on q in
-        size_on q r.parts (if r.answer then unmark task r.parts else r.parts) (size_cancel on q) (answered r.answer r.parts)
+        size_on q r.parts (if r.answer then clear_must_cancel task r.parts else r.parts) (size_cancel on q) (answered r.answer r.parts)
 
-    go : (c : Option Circle) → NeedsNoMore p (suspend_unless c task on p).parts
+    go : (c : Option CycleKind) → NeedsNoMore p (suspend_unless c task on p).parts
     go (Some c) = record { room = omega arith; tasks = refl }
     go None =
-        size_on p (wait_on task on p) (cancel_wait (is_marked p task) task on (wait_on task on p)).parts (size_wait task on p)
-        (waited (is_marked p task) (wait_on task on p))
+        size_on p (wait_on task on p) (cancel_wait (must_cancel_of p task) task on (wait_on task on p)).parts (size_wait task on p)
+        (waited (must_cancel_of p task) (wait_on task on p))
 
--- a wait marks no task
-pub wait-marked : (task on : ℕ) (p : Parts) (other : ℕ) → is_marked (wait_on task on p) other ≡ is_marked p other
-wait-marked task on p other =
+-- a wait sets no must_cancel
+pub wait-must_cancel : (task on : ℕ) (p : Parts) (other : ℕ) → must_cancel_of (wait_on task on p) other ≡ must_cancel_of p other
+wait-must_cancel task on p other =
     change_task-kept (λ (o : Option Task). option_map_or (λ (t : Task). t.must_cancel) o false) task _ (register on (Wakeup task) p) (λ t. refl) other
     ∙ ap (λ (ts : List Task). option_map_or (λ (t : Task). t.must_cancel) (slice_get ts other) false) (register-tasks on (Wakeup task) p)
 
@@ -146,10 +146,10 @@ own_takes_room task p owns living = at (slice_get p.tasks task) refl living
 pub finish_room : (task : ℕ) (end : Result Value Exc) (p : Parts) → OwnsFutures p → lives p task ≡ true
     → room_of (finish task end p) + 1 ≡ room_of p
 finish_room task (Ok value) p owns living =
-    let outcome : Outcome = if is_marked p task then Cancelled else Returned value in
-    let same : is_inner (unmark task p) (future_of p task) ≡ is_inner p (future_of p task) =
+    let outcome : Outcome = if must_cancel_of p task then Cancelled else Returned value in
+    let same : is_inner (clear_must_cancel task p) (future_of p task) ≡ is_inner p (future_of p task) =
     ap (λ (fs : List Future). is_inner_at (slice_get fs (future_of p task))) (change_task-futures task _ p) in
-    end-room (future_of p task) outcome (unmark task p) (same ∙ own_takes_room task p owns living) ∙ change-room task _ p
+    end-room (future_of p task) outcome (clear_must_cancel task p) (same ∙ own_takes_room task p owns living) ∙ change-room task _ p
 finish_room task (Err fault) p owns living =
     end-room (future_of p task) (if is_cancelled fault then Cancelled else Failed fault) p (own_takes_room task p owns living)
 

@@ -1,13 +1,13 @@
 -- The parts as tasks see them: what steps no task might as well be anything else.
 use Rattle.std.specs.Prelude.{map}
 use Rattle.model_value.specs.Action.{Action}
-use Rattle.model_value.specs.declared.action.Action.TheVariants.{Step, StepInCircle, Wakeup, MainDone}
+use Rattle.model_value.specs.declared.action.Action.TheVariants.{Step, StepInCycle, Wakeup, MainDone}
 use Rattle.model_loop.specs.Parts.{Handle, Future, Parts}
 use Rattle.model_loop.specs.Cancel.{CancelRequest}
 
 abbrev pub bare_action : Action → Action
 bare_action (Step task) = Step task
-bare_action (StepInCircle task circle) = StepInCircle task circle
+bare_action (StepInCycle task cycle) = StepInCycle task cycle
 bare_action (Wakeup task) = Wakeup task
 bare_action _ = MainDone
 

@@ -1,6 +1,6 @@
 -- How the loop's parts in code stand for the machine's. The machine gives each handle and each timer a tag from one count and
 -- each handle a stamp, has timers in order of scheduling, and keeps every future. The code has names, a bar and timers by
--- deadline, and lets futures go.
+-- deadline, and releases futures.
 use Rattle.std.specs.Prelude.{◌≡◌, ℕ, ◌<◌, ◌≤◌, ◌==◌, ◌||◌, Bool, true, List, ◌++◌, map}
 use Rattle.std.specs.List.{AllByRecursion as Each}
 use Rattle.model_loop.specs.Parts as plain
@@ -8,7 +8,7 @@ use Rattle.model_loop.specs.Parts.{Timer, Parts}
 use Rattle.model_loop.specs.Futures.{next_future}
 use Rattle.model_loop.specs.Handles.{by_deadline}
 use Rattle.model_loop.specs.Numbered.{IsNumbered}
-use Rattle.algorithm_parts.specs.Forgotten.{forget_from, AreDone}
+use Rattle.algorithm_parts.specs.Released.{release_from, AreDone}
 use Rattle.aio_ready.specs.declared.handle.Handle.{Handle}
 use Rattle.aio_ready.specs.declared.handle.HandleId.{HandleId}
 use Rattle.aio_ready.specs.declared.handle.HandleName.{HandleName}
@@ -32,9 +32,9 @@ abbrev pub number_of : Known → ℕ
 number_of (ByHandle id) = 0
 number_of (ByTimer id) = id.number
 
--- What ties a view to the machine's parts and stands in neither: as what the code knows each tag, which futures it let go,
+-- What joins a view to the machine's parts and stands in neither: as what the code knows each tag, which futures it released,
 -- and below which stamp handles stand before the bar.
-pub record Ties : Type 0 where
+pub record NameMap : Type 0 where
   pub known : ℕ → Known
   pub gone : ℕ → Bool
   pub bar : ℕ
@@ -80,40 +80,40 @@ pub record AreNames (known : ℕ → Known) (next handles timers : ℕ) : Type 0
 
 -- ---- the whole
 -- The view stands for these parts.
-pub record Keeps (t : Ties) (v : View) (p : Parts) : Type 0 where
+pub record Keeps (t : NameMap) (v : View) (p : Parts) : Type 0 where
   pub time : v.time ≡ p.time
   pub handles : KeepsHandles t.known t.bar v.queue p
   pub timers : v.schedule.live ≡ map (timer_as t.known) (by_deadline p.timers)
   pub deadlines : Each (λ (timer : Timer). IsTimer (t.known timer.tag) timer) p.timers
   pub names : AreNames t.known p.next_tag v.queue.given v.schedule.next
-  pub futures : v.futures ≡ forget_from t.gone 0 p.futures
-  -- what was let go was made, and is done
+  pub futures : v.futures ≡ release_from t.gone 0 p.futures
+  -- what was released was made, and is done
   pub made : (id : ℕ) → t.gone id ≡ true → id < next_future p
   pub done : AreDone t.gone p
   pub tasks : v.tasks ≡ p.tasks
   pub numbered : IsNumbered p
 
--- Ties go on: what the machine gave a tag is known as before, the same futures are gone, and the bar stands where it stood.
-pub record Extends (p : Parts) (t : Ties) (q : Parts) (u : Ties) : Type 0 where
+-- A name map goes on: what the machine gave a tag is known as before, the same futures are gone, and the bar stands where it stood.
+pub record Extends (p : Parts) (t : NameMap) (q : Parts) (u : NameMap) : Type 0 where
   pub known : (tag : ℕ) → tag < p.next_tag → u.known tag ≡ t.known tag
   pub tags : p.next_tag ≤ q.next_tag
   pub gone : u.gone ≡ t.gone
   pub bar : u.bar ≡ t.bar
 
--- one future more is let go
-abbrev pub let_go : ℕ → Ties → Ties
-let_go id t = record t { gone = λ other. t.gone other || (other == id) }
+-- one future more is released
+abbrev pub release : ℕ → NameMap → NameMap
+release id t = record t { gone = λ other. t.gone other || (other == id) }
 
 -- what has a tag of the machine's is known by this
-pub record Knows (t : Ties) (p : Parts) (tag : ℕ) (it : Known) : Type 0 where
+pub record Knows (t : NameMap) (p : Parts) (tag : ℕ) (it : Known) : Type 0 where
   pub given : tag < p.next_tag
   pub known : t.known tag ≡ it
 
--- From parts p, for which a view stood by these ties, the machine came to q, for which this one stands.
-pub record Kept (t : Ties) (p : Parts) (v : View) (q : Parts) : Type 0 where
-  pub ties : Ties
-  pub keeps : Keeps ties v q
-  pub extends : Extends p t q ties
+-- From parts p, for which a view stood by this name map, the machine came to q, for which this one stands.
+pub record Kept (t : NameMap) (p : Parts) (v : View) (q : Parts) : Type 0 where
+  pub name_map : NameMap
+  pub keeps : Keeps name_map v q
+  pub extends : Extends p t q name_map
 
 -- A call made these of the parts of a view: it appended to the queue alone, and left the time and the timers as they were.
 pub record Becomes (v w : View) (after : Parts) : Type 0 where

@@ -1,11 +1,11 @@
--- What the type of the parts keeps: one way on for each task, no circle of waits, marks only where they may stand; steps
+-- What the type of the parts keeps: one way on for each task, no cycle of waits, must_cancel only where it may stand; steps
 -- and wakeups are out of reach of whoever cancels handles and timers; and a request has the room that it needs.
 use Rattle.std.specs.Prelude.{◌≡◌, ℕ, Bool, true, false, ◌&&◌, ◌∷◌, Option, Some, None}
 use Rattle.std.specs.List.{list_any}
 use Rattle.std.specs.Option.{option_map}
 use Rattle.model_value.specs.Action.{Action}
 use Rattle.model_loop.specs.Parts.{Timer, Parts}
-use Rattle.model_loop.specs.Sound.{HasNoCircle, ArePartsSound}
+use Rattle.model_loop.specs.Sound.{HasNoCycle, ArePartsSound}
 use Rattle.aio_ready.specs.declared.handle.Handle.{Handle}
 use Rattle.aio_ready.specs.declared.handle.HandleName.{HandleName}
 use Rattle.aio_ready.specs.declared.handle.HandleName.TheVariants as name
@@ -43,7 +43,7 @@ abbrev pub steps_later : Timer → Bool
 steps_later timer = is_step timer.action
 
 pub record IsKept (v : View) : Type 0 where
-  pub no_circle : HasNoCircle (parts v)
+  pub no_cycle : HasNoCycle (parts v)
   pub sound : AreSound v.running v.called (parts v)
   -- no timer steps a task, and no handle does that a timer fell due as
   pub timers : list_any steps_later v.schedule.live ≡ false

@@ -2,8 +2,8 @@
 -- tasks, and whose step is going on.
 use Rattle.std.specs.Prelude.{◌≡◌, ℕ, Bool, false, not, ◌&&◌, List, [], Option, Some, None}
 use Rattle.std.specs.List.{list_any}
-use Rattle.model_value.specs.Action.{Action, Circle}
-use Rattle.model_value.specs.declared.action.Action.TheVariants.{Step, StepInCircle, Wakeup}
+use Rattle.model_value.specs.Action.{Action, CycleKind}
+use Rattle.model_value.specs.declared.action.Action.TheVariants.{Step, StepInCycle, Wakeup}
 use Rattle.model_loop.specs.Parts.{Future, Task, Parts}
 use Rattle.aio_ready.specs.declared.handle.Handle.{Handle}
 use Rattle.aio_ready.specs.declared.handle.HandleName.{HandleName}
@@ -39,7 +39,7 @@ parts v = cancel.parts (body v)
 -- the task that an action steps
 abbrev pub stepped : Action → Option ℕ
 stepped (Step task) = Some task
-stepped (StepInCircle task circle) = Some task
+stepped (StepInCycle task cycle) = Some task
 stepped (Wakeup task) = Some task
 stepped _ = None
 
@@ -60,9 +60,9 @@ abbrev pub NamesNoStep : HandleName → Queue → Type 0
 NamesNoStep name q = list_any (steps_as name) (waiting q) ≡ false
 
 -- what became of an await
-abbrev pub suspension_of : Option Circle → Suspension
+abbrev pub suspension_of : Option CycleKind → Suspension
 suspension_of None = Suspended
-suspension_of (Some circle) = Cycle
+suspension_of (Some cycle) = Cycle
 
 -- nothing has happened
 abbrev pub empty : ℕ → View

@@ -4,12 +4,12 @@ ghost use Rattle.model_value.specs.Number.{most};
 ghost use Rattle.model_value.specs.declared.action.Action.TheVariants as action;
 ghost use Rattle.model_loop.specs.Futures.{is_pending_at};
 ghost use Rattle.model_loop.specs.Tasks as tasks;
-ghost use Rattle.model_loop.specs.Marks.{MarksWait};
+ghost use Rattle.model_loop.specs.MustCancel.{MustCancelWaits};
 ghost use Rattle.model_loop.specs.Owning.{OwnsFutures};
-ghost use Rattle.model_loop.specs.Sound.{HasNoCircle};
+ghost use Rattle.model_loop.specs.Sound.{HasNoCycle};
 ghost use Rattle.model_loop.specs.Ways.{HasOneWay, IsReady};
 ghost use Rattle.model_loop.specs.Cancel as request;
-ghost use Rattle.model_loop.specs.Circles.{circle};
+ghost use Rattle.model_loop.specs.Cycles.{cycle};
 ghost use Rattle.model_loop.specs.Spent.{is_spent};
 ghost use Rattle.model_loop.specs.Suspend.{suspend as suspend_of};
 ghost use Rattle.aio_ready.specs.Queue as queue;
@@ -91,12 +91,13 @@ impl Parts {
 
     /// What holds at every moment: the type keeps it, and this call does nothing but to say so.
     /// While no step is called, each task that lives has one way on, the running one none, and a
-    /// mark stands only where it may; nothing waits in a circle.
+    /// mark stands only where it may; nothing waits in a cycle.
     pub fn keeps(&self)
         ensures one_way { self.now.called ≡ None → HasOneWay self.now.running (parts self.now) }
         ensures ready { self.now.called ≡ None → IsReady (parts self.now) }
-        ensures marks { self.now.called ≡ None → MarksWait self.now.running (parts self.now) }
-        ensures no_circle { HasNoCircle (parts self.now) }
+        ensures must_cancel { self.now.called ≡ None
+            → MustCancelWaits self.now.running (parts self.now) }
+        ensures no_cycle { HasNoCycle (parts self.now) }
         ensures owns { self.now.called ≡ None → OwnsFutures (parts self.now) }
         ensures waits { (task on : ℕ) → self.now.called ≡ None
             → tasks.waiter_of (parts self.now) task ≡ Some on
@@ -138,7 +139,7 @@ impl Parts {
         ensures after { OnOk result (parts self.new ≡ tasks.spawn (parts self.old)) }
         ensures queue { OnOk result
             (self.new.queue ≡ queue.soon (action.Step (length self.old.tasks)) self.old.queue) }
-        ensures beside { OnOk result (self.new ≡ record self.old {
+        ensures frame { OnOk result (self.new ≡ record self.old {
           queue = self.new.queue;
           futures = self.new.futures;
           tasks = self.new.tasks;
@@ -151,19 +152,19 @@ impl Parts {
     }
 
     /// A task's step begins, by the handle that was taken from the queue: the task waits no more,
-    /// and a mark is used up by the input. The task is then running.
+    /// and must_cancel is used up by the input. The task is then running.
     pub fn begin_step(&mut self, task: u32, ticket: Ticket, input: Input) -> Input
         requires called { self.old.called ≡ Some task }
         requires alone { self.old.running ≡ None }
         ensures input { result ≡ (tasks.begin_step task input (parts self.old)).input }
         ensures after { parts self.new ≡ (tasks.begin_step task input (parts self.old)).parts }
-        ensures beside { self.new
+        ensures frame { self.new
             ≡ record self.old { tasks = self.new.tasks; running = Some task; called = None } }
     {
-        let marked = begin(&mut self.body, task);
+        let must_cancel = begin(&mut self.body, task);
         self.called = None;
         self.running = Some(Running { task, ticket });
-        input_of(marked, input)
+        input_of(must_cancel, input)
     }
 
     /// A bare `yield`: the running task's next step is called soon. No task is running then.
@@ -171,7 +172,7 @@ impl Parts {
         requires idle { self.old.called ≡ None }
         requires running { self.old.running ≡ Some task }
         ensures after { parts self.new ≡ tasks.pause task (parts self.old) }
-        ensures beside { self.new
+        ensures frame { self.new
             ≡ record self.old {
               queue = queue.soon (action.Step task) self.old.queue;
               running = None;
@@ -189,10 +190,10 @@ impl Parts {
         requires idle { self.old.called ≡ None }
         requires running { self.old.running ≡ Some task }
         requires pending { is_pending_at (slice_get self.old.futures on) ≡ true }
-        ensures answer { result ≡ suspension_of (circle (parts self.old) task on) }
+        ensures answer { result ≡ suspension_of (cycle (parts self.old) task on) }
         ensures after { parts self.new ≡ (suspend_of task on (parts self.old)).parts }
         ensures queue { Appended self.old.queue self.new.queue }
-        ensures beside { self.new ≡ record self.old {
+        ensures frame { self.new ≡ record self.old {
           queue = self.new.queue;
           futures = self.new.futures;
           tasks = self.new.tasks;
@@ -219,7 +220,7 @@ impl Parts {
         requires running { self.old.running ≡ Some task }
         ensures after { parts self.new ≡ tasks.finish task end (parts self.old) }
         ensures queue { Appended self.old.queue self.new.queue }
-        ensures beside { self.new ≡ record self.old {
+        ensures frame { self.new ≡ record self.old {
           queue = self.new.queue;
           futures = self.new.futures;
           tasks = self.new.tasks;
@@ -239,7 +240,7 @@ impl Parts {
         ensures answer { result ≡ (request.cancel target (parts self.old)).answer }
         ensures spent { result ≡ not (is_spent (parts self.old) target) }
         ensures queue { Appended self.old.queue self.new.queue }
-        ensures beside { self.new ≡ record self.old {
+        ensures frame { self.new ≡ record self.old {
           queue = self.new.queue;
           futures = self.new.futures;
           tasks = self.new.tasks;
@@ -267,7 +268,7 @@ impl Parts {
         requires idle { self.old.called ≡ None }
         ensures after { parts self.new ≡ tasks.uncancel task (parts self.old) }
         ensures answer { result ≡ tasks.cancelling (parts self.new) task }
-        ensures beside { self.new ≡ record self.old { tasks = self.new.tasks } }
+        ensures frame { self.new ≡ record self.old { tasks = self.new.tasks } }
     {
         uncancel(&mut self.body, task);
         cancels_of(&self.body, task)

@@ -18,7 +18,7 @@ pub fn stepped(action: &Action) -> Option<u32>
 {
     match action {
         Action::Step(task) => Some(*task),
-        Action::StepInCircle { task, circle: _ } => Some(*task),
+        Action::StepInCycle { task, cycle: _ } => Some(*task),
         Action::Wakeup(task) => Some(*task),
         _ => None,
     }

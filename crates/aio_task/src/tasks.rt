@@ -45,23 +45,23 @@ pub fn waiter_of(body: &Awaitables, task: u32) -> Option<FutureId>
 }
 
 /// Whether a cancel waits for a task's next step.
-pub fn is_marked(body: &Awaitables, task: u32) -> bool
-    ensures { result ≡ tasks.is_marked (parts body.now) task }
+pub fn must_cancel_of(body: &Awaitables, task: u32) -> bool
+    ensures { result ≡ tasks.must_cancel_of (parts body.now) task }
 {
     match body.tasks.get(task as usize) {
-        Some(task) => task.is_marked(),
+        Some(task) => task.must_cancel_of(),
         None => false,
     }
 }
 
 /// No cancel waits for a task's next step.
-pub fn unmark(body: &mut Awaitables, task: u32)
-    ensures after { parts body.new ≡ tasks.unmark task (parts body.old) }
+pub fn clear_must_cancel(body: &mut Awaitables, task: u32)
+    ensures after { parts body.new ≡ tasks.clear_must_cancel task (parts body.old) }
     ensures queue { body.new.queue ≡ body.old.queue }
     ensures futures { body.new.futures ≡ body.old.futures }
 {
     if let Some(task) = body.tasks.get_mut(task as usize) {
-        task.unmark();
+        task.clear_must_cancel();
     }
 }
 
@@ -118,23 +118,23 @@ pub fn add(body: &mut Awaitables, alloc: Global) -> Result<u32, Memory>
 /// A step begins: the task waits no more, and no cancel waits for its step.
 /// The answer is whether one did.
 pub fn begin(body: &mut Awaitables, task: u32) -> bool
-    ensures marked { result ≡ tasks.is_marked (parts body.old) task }
+    ensures must_cancel { result ≡ tasks.must_cancel_of (parts body.old) task }
     ensures after { parts body.new
-        ≡ tasks.unmark task (tasks.set_waiter task None (parts body.old)) }
+        ≡ tasks.clear_must_cancel task (tasks.set_waiter task None (parts body.old)) }
     ensures queue { body.new.queue ≡ body.old.queue }
     ensures futures { body.new.futures ≡ body.old.futures }
 {
-    let marked = is_marked(body, task);
+    let must_cancel = must_cancel_of(body, task);
     set_waiter(body, task, None);
-    unmark(body, task);
-    marked
+    clear_must_cancel(body, task);
+    must_cancel
 }
 
 /// What a coroutine is resumed with where a cancel waited for its step.
-pub fn input_of(marked: bool, input: Input) -> Input
-    ensures { result ≡ (if marked then tasks.cancelling_input input else input) }
+pub fn input_of(must_cancel: bool, input: Input) -> Input
+    ensures { result ≡ (if must_cancel then tasks.cancelling_input input else input) }
 {
-    if !marked {
+    if !must_cancel {
         return input;
     }
     match input {
@@ -179,8 +179,8 @@ pub fn finish(body: &mut Awaitables, task: u32, end: Result<Value, Exc>)
     let future = future_of(body, task);
     match end {
         Ok(value) => {
-            let outcome = returned(is_marked(body, task), value);
-            unmark(body, task);
+            let outcome = returned(must_cancel_of(body, task), value);
+            clear_must_cancel(body, task);
             body.settle(future, outcome);
         }
         Err(fault) => body.settle(future, raised(fault)),
@@ -188,10 +188,10 @@ pub fn finish(body: &mut Awaitables, task: u32, end: Result<Value, Exc>)
 }
 
 // How a task ends that returned.
-fn returned(marked: bool, value: Value) -> Outcome
-    ensures { result ≡ (if marked then outcome.Cancelled else outcome.Value value) }
+fn returned(must_cancel: bool, value: Value) -> Outcome
+    ensures { result ≡ (if must_cancel then outcome.Cancelled else outcome.Value value) }
 {
-    if marked {
+    if must_cancel {
         Outcome::Cancelled
     } else {
         Outcome::Value(value)

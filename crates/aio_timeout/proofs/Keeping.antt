@@ -14,7 +14,7 @@ use Rattle.model_loop.specs.Tasks.{cancelling, uncancel, future_of, is_cancelled
 use Rattle.model_loop.specs.Timeouts.{no_timeout, timeout_of, give_up, enter_timeout, reschedule_where, reschedule, is_active, moment, schedule, fire}
 use Rattle.model_loop.specs.Timeouts.{exit_timeout, has_expired}
 use Rattle.aio_task.specs.View.{View, parts}
-use Rattle.aio_task.specs.Keeps.{Ties, Keeps, Kept, Extends, Becomes}
+use Rattle.aio_task.specs.Keeps.{NameMap, Keeps, Kept, Extends, Becomes}
 use Rattle.aio_timeout.specs.declared.handler.TimeoutHandler.{TimeoutHandler}
 use Rattle.aio_timeout.specs.declared.timeout.Timeout.{Timeout}
 use Rattle.aio_timeout.specs.declared.state.TimeoutState.TheVariants as code
@@ -29,12 +29,12 @@ use Rattle.aio_timeout.proofs.Handlers.{give_up_extends, uncancel_extends, Stays
 use Rattle.aio_timeout.proofs.Loops.{give_up_after, scheduled_parts, scheduled_timeouts, entered_parts, entered_timeouts, expiring_is, late_parts}
 use Rattle.aio_timeout.proofs.Loops.{late_timeouts, late_answer, early_parts, early_timeouts, early_answer}
 
-count_kept : (t : Ties) (v : View) (p : Parts) (task : ℕ) → Keeps t v p → cancelling (parts v) task ≡ cancelling p task
+count_kept : (t : NameMap) (v : View) (p : Parts) (task : ℕ) → Keeps t v p → cancelling (parts v) task ≡ cancelling p task
 count_kept t v p task keeps =
     ap (λ (tasks : List Task). option_map_or (λ (it : Task). it.cancels) (slice_get tasks task) 0) keeps.tasks
 
 -- ---- timeouts go on
-timeout_on : (t u : Ties) (p q : Parts) → StaysKnown t p u → p.next_tag ≤ q.next_tag → (timeout : Timeout) (it : loop.Timeout)
+timeout_on : (t u : NameMap) (p q : Parts) → StaysKnown t p u → p.next_tag ≤ q.next_tag → (timeout : Timeout) (it : loop.Timeout)
     → IsTimeout t p timeout it → IsTimeout u q timeout it
 timeout_on t u p q stays tags timeout it h = record {
   state = h.state;
@@ -43,58 +43,58 @@ timeout_on t u p q stays tags timeout it h = record {
   handler = handler_on t u p q timeout.handler it.tag stays tags h.handler;
 }
 
-pub timeouts_stay : (t u : Ties) (p q : Parts) (timeouts : List Timeout) (them : List loop.Timeout)
+pub timeouts_stay : (t u : NameMap) (p q : Parts) (timeouts : List Timeout) (them : List loop.Timeout)
     → StaysKnown t p u → p.next_tag ≤ q.next_tag → AreTimeouts t p timeouts them → AreTimeouts u q timeouts them
 timeouts_stay t u p q timeouts them stays tags =
     zip_weaker (IsTimeout t p) (IsTimeout u q) (timeout_on t u p q stays tags) timeouts them
 
-timeouts_on : (t u : Ties) (p q : Parts) (timeouts : List Timeout) (them : List loop.Timeout)
+timeouts_on : (t u : NameMap) (p q : Parts) (timeouts : List Timeout) (them : List loop.Timeout)
     → Extends p t q u → AreTimeouts t p timeouts them → AreTimeouts u q timeouts them
 timeouts_on t u p q timeouts them e = timeouts_stay t u p q timeouts them e.known e.tags
 
-pub timeouts_count : (t : Ties) (p : Parts) (timeouts : List Timeout) (them : List loop.Timeout)
+pub timeouts_count : (t : NameMap) (p : Parts) (timeouts : List Timeout) (them : List loop.Timeout)
     → AreTimeouts t p timeouts them → length timeouts ≡ length them
 timeouts_count t p timeouts them = zip_length (IsTimeout t p) timeouts them
 
 -- the machine's timeout of a number is the code's
-pub timeout_is : (t : Ties) (l : Loop) (timeouts : List Timeout) (id : ℕ) (timeout : Timeout) → AreTimeouts t l.parts timeouts l.timeouts
+pub timeout_is : (t : NameMap) (l : Loop) (timeouts : List Timeout) (id : ℕ) (timeout : Timeout) → AreTimeouts t l.parts timeouts l.timeouts
     → id < length timeouts → timeout ≡ slice_index_or timeouts id timeout → IsTimeout t l.parts timeout (timeout_of l id)
 timeout_is t l timeouts id timeout are within read =
     subst (λ (it : Timeout). IsTimeout t l.parts it (timeout_of l id)) (sym read)
     (zip_at (IsTimeout t l.parts) timeouts l.timeouts id timeout no_timeout are within)
 
 -- ---- the loop after a call, by its parts and its timeouts
-kept_as : (t : Ties) (l m : Loop) (timeouts : List Timeout) (w : View) (q : Parts) (them : List loop.Timeout)
-    → m.parts ≡ q → m.timeouts ≡ them → (kept : Kept t l.parts w q) → AreTimeouts kept.ties q timeouts them
+kept_as : (t : NameMap) (l m : Loop) (timeouts : List Timeout) (w : View) (q : Parts) (them : List loop.Timeout)
+    → m.parts ≡ q → m.timeouts ≡ them → (kept : Kept t l.parts w q) → AreTimeouts kept.name_map q timeouts them
     → KeptTimeouts t l timeouts w m
 kept_as t l m timeouts w q them e f kept are = record {
-  ties = kept.ties;
+  name_map = kept.name_map;
   keeps = record {
-    parts = subst (Keeps kept.ties w) (sym e) kept.keeps;
+    parts = subst (Keeps kept.name_map w) (sym e) kept.keeps;
     timeouts =
-        subst (λ (p : Parts). AreTimeouts kept.ties p timeouts m.timeouts) (sym e)
-        (subst (AreTimeouts kept.ties q timeouts) (sym f) are);
+        subst (λ (p : Parts). AreTimeouts kept.name_map p timeouts m.timeouts) (sym e)
+        (subst (AreTimeouts kept.name_map q timeouts) (sym f) are);
   };
-  extends = subst (λ (p : Parts). Extends l.parts t p kept.ties) (sym e) kept.extends;
+  extends = subst (λ (p : Parts). Extends l.parts t p kept.name_map) (sym e) kept.extends;
 }
 
 -- one timeout is another now
-kept_set : (t : Ties) (l m : Loop) (timeouts : List Timeout) (w : View) (q : Parts) (id : ℕ) (timeout : Timeout) (it : loop.Timeout)
+kept_set : (t : NameMap) (l m : Loop) (timeouts : List Timeout) (w : View) (q : Parts) (id : ℕ) (timeout : Timeout) (it : loop.Timeout)
     → m.parts ≡ q → m.timeouts ≡ slice_set l.timeouts id it → (kept : Kept t l.parts w q)
-    → AreTimeouts t l.parts timeouts l.timeouts → IsTimeout kept.ties q timeout it
+    → AreTimeouts t l.parts timeouts l.timeouts → IsTimeout kept.name_map q timeout it
     → KeptTimeouts t l (slice_set timeouts id timeout) w m
 kept_set t l m timeouts w q id timeout it e f kept are is =
     kept_as t l m (slice_set timeouts id timeout) w q (slice_set l.timeouts id it) e f kept
-    (zip_set (IsTimeout kept.ties q) timeouts l.timeouts id timeout it
-    (timeouts_on t kept.ties l.parts q timeouts l.timeouts kept.extends are) is)
+    (zip_set (IsTimeout kept.name_map q) timeouts l.timeouts id timeout it
+    (timeouts_on t kept.name_map l.parts q timeouts l.timeouts kept.extends are) is)
 
-pub nothing_changed : (t : Ties) (l : Loop) (timeouts : List Timeout) (v : View) → KeepsTimeouts t timeouts v l → KeptTimeouts t l timeouts v l
-nothing_changed t l timeouts v keeps = record { ties = t; keeps = keeps; extends = extends_same t l.parts }
+pub nothing_changed : (t : NameMap) (l : Loop) (timeouts : List Timeout) (v : View) → KeepsTimeouts t timeouts v l → KeptTimeouts t l timeouts v l
+nothing_changed t l timeouts v keeps = record { name_map = t; keeps = keeps; extends = extends_same t l.parts }
 
 -- ---- a block is entered
-pub entered : (t : Ties) (l : Loop) (timeouts : List Timeout) (v w : View) (task stored : ℕ) (delay : Option ℤ) (handler : Option TimeoutHandler)
+pub entered : (t : NameMap) (l : Loop) (timeouts : List Timeout) (v w : View) (task stored : ℕ) (delay : Option ℤ) (handler : Option TimeoutHandler)
     → KeepsTimeouts t timeouts v l → stored ≡ cancelling (parts v) task
-    → ((u : Ties) (p : Parts) → Keeps u v p
+    → ((u : NameMap) (p : Parts) → Keeps u v p
     → Made u p handler w (fires_if (length timeouts) (option_map (deadline v.time) delay) p)
     (tag_if (option_map (deadline v.time) delay) p))
     → KeptTimeouts t l (timeouts ++ record { state = code.Active; task = task; stored = stored; handler = handler } ∷ []) w
@@ -116,12 +116,12 @@ entered t l timeouts v w task stored delay handler keeps counted making =
     } in
     kept_as t l (enter_timeout task delay l) (timeouts ++ new ∷ []) w q (l.timeouts ++ it ∷ [])
     (entered_parts task delay l) (entered_timeouts task delay l) made.kept
-    (zip_push (IsTimeout made.kept.ties q) timeouts l.timeouts new it
-    (timeouts_on t made.kept.ties l.parts q timeouts l.timeouts made.kept.extends keeps.timeouts)
+    (zip_push (IsTimeout made.kept.name_map q) timeouts l.timeouts new it
+    (timeouts_on t made.kept.name_map l.parts q timeouts l.timeouts made.kept.extends keeps.timeouts)
     (record { state = refl; task = refl; stored = counted ∙ count_kept t v l.parts task keeps.parts; handler = made.handler }))
 
 -- ---- another deadline
-module _ (t : Ties) (l : Loop) (timeouts : List Timeout) (v : View) (id : ℕ) (timeout : Timeout) (keeps : KeepsTimeouts t timeouts v l)
+module _ (t : NameMap) (l : Loop) (timeouts : List Timeout) (v : View) (id : ℕ) (timeout : Timeout) (keeps : KeepsTimeouts t timeouts v l)
     (within : id < length timeouts) (read : timeout ≡ slice_index_or timeouts id timeout) where
   abbrev it : loop.Timeout
   it = timeout_of l id
@@ -141,19 +141,19 @@ module _ (t : Ties) (l : Loop) (timeouts : List Timeout) (v : View) (id : ℕ) (
   refusal_same = ap refusal is.state
 
   pub rescheduled : (w x : View) (handler : Option TimeoutHandler) (when : Option ℤ) → is_active (state_of timeout.state) ≡ true
-      → ((u : Ties) (p : Parts) → Keeps u v p → Made u p handler w (fires_if id (option_map moment when) p) (tag_if (option_map moment when) p))
-      → ((u : Ties) (p : Parts) (tag : Option ℕ) → Keeps u w p → IsHandler u p timeout.handler tag → Keeps u x (give_up tag p))
+      → ((u : NameMap) (p : Parts) → Keeps u v p → Made u p handler w (fires_if id (option_map moment when) p) (tag_if (option_map moment when) p))
+      → ((u : NameMap) (p : Parts) (tag : Option ℕ) → Keeps u w p → IsHandler u p timeout.handler tag → Keeps u x (give_up tag p))
       → KeptTimeouts t l (slice_set timeouts id (record timeout { handler = handler })) x (reschedule id when l)
   rescheduled w x handler when active making giving =
       let made = making t l.parts keeps.parts in
-      let u : Ties = made.kept.ties in
+      let u : NameMap = made.kept.name_map in
       let q : Parts = fires_if id (option_map moment when) l.parts in
       let old : IsHandler u q timeout.handler it.tag =
       handler_on t u l.parts q timeout.handler it.tag made.kept.extends.known made.kept.extends.tags is.handler in
       let after : give_up it.tag q ≡ fires_if id (option_map moment when) (give_up it.tag l.parts) =
       give_up_after id (option_map moment when) l.parts it.tag (handler_given t l.parts timeout.handler it.tag is.handler) in
       let kept : Kept t l.parts x (give_up it.tag q) = record {
-        ties = u;
+        name_map = u;
         keeps = giving u q it.tag made.kept.keeps old;
         extends = extends_on t u u l.parts q (give_up it.tag q) made.kept.extends (give_up_extends u q it.tag);
       } in
@@ -189,7 +189,7 @@ module _ (t : Ties) (l : Loop) (timeouts : List Timeout) (v : View) (id : ℕ) (
 
   -- ---- the block is left
   module _ (raised : Option Exc) (x : View)
-      (giving : (u : Ties) (p : Parts) (tag : Option ℕ) → Keeps u v p → IsHandler u p timeout.handler tag → Keeps u x (give_up tag p)) where
+      (giving : (u : NameMap) (p : Parts) (tag : Option ℕ) → Keeps u v p → IsHandler u p timeout.handler tag → Keeps u x (give_up tag p)) where
     bare : Keeps t x (give_up it.tag l.parts)
     bare = giving t l.parts it.tag keeps.parts is.handler
 
@@ -203,7 +203,7 @@ module _ (t : Ties) (l : Loop) (timeouts : List Timeout) (v : View) (id : ℕ) (
           kept_set t l (exit_timeout raised id l).loop timeouts x (give_up it.tag l.parts) id
           (record timeout { state = code.Finished; handler = None }) (record it { state = loop.Finished; tag = None })
           (early_parts raised id l there inactive) (early_timeouts raised id l there inactive)
-          (record { ties = t; keeps = bare; extends = give_up_extends t l.parts it.tag }) keeps.timeouts
+          (record { name_map = t; keeps = bare; extends = give_up_extends t l.parts it.tag }) keeps.timeouts
           (record { state = refl; task = is.task; stored = is.stored; handler = tt })
 
       pub finished_passes : (exit_timeout raised id l).timed_out ≡ false
@@ -225,7 +225,7 @@ module _ (t : Ties) (l : Loop) (timeouts : List Timeout) (v : View) (id : ℕ) (
           (record timeout { state = code.Expired; handler = None }) (record it { state = loop.Expired; tag = None })
           (late_parts raised id l there over) (late_timeouts raised id l there over)
           (record {
-            ties = t;
+            name_map = t;
             keeps = taken;
             extends =
                 extends_on t t t l.parts (give_up it.tag l.parts) (uncancel it.task (give_up it.tag l.parts))
@@ -244,12 +244,12 @@ module _ (t : Ties) (l : Loop) (timeouts : List Timeout) (v : View) (id : ℕ) (
           ∙ sym (late_answer raised id l there over)
 
 -- ---- `expired()`
-pub told_expired : (t : Ties) (l : Loop) (timeouts : List Timeout) (id : ℕ) (timeout : Timeout) → AreTimeouts t l.parts timeouts l.timeouts
+pub told_expired : (t : NameMap) (l : Loop) (timeouts : List Timeout) (id : ℕ) (timeout : Timeout) → AreTimeouts t l.parts timeouts l.timeouts
     → id < length timeouts → timeout ≡ slice_index_or timeouts id timeout → has_expired (state_of timeout.state) ≡ has_expired (timeout_of l id).state
 told_expired t l timeouts id timeout are within read = ap has_expired (timeout_is t l timeouts id timeout are within read).state
 
 -- a timeout without a tag keeps no handle
-pub untagged : (t : Ties) (p : Parts) (timeouts : List Timeout) (them : List loop.Timeout) (id : ℕ) → AreTimeouts t p timeouts them
+pub untagged : (t : NameMap) (p : Parts) (timeouts : List Timeout) (them : List loop.Timeout) (id : ℕ) → AreTimeouts t p timeouts them
     → (slice_index_or them id no_timeout).tag ≡ None → handler_at id timeouts ≡ None
 untagged t p timeouts them id are none = at (slice_get timeouts id) refl
   where
@@ -270,7 +270,7 @@ untagged t p timeouts them id are none = at (slice_get timeouts id) refl
         rw e (handler timeout.handler (slice_index_or them id no_timeout).tag own.handler none)
 
 -- whether a new deadline is refused
-pub told_refusal : (t : Ties) (l : Loop) (timeouts : List Timeout) (id : ℕ) (timeout : Timeout) → AreTimeouts t l.parts timeouts l.timeouts
+pub told_refusal : (t : NameMap) (l : Loop) (timeouts : List Timeout) (id : ℕ) (timeout : Timeout) → AreTimeouts t l.parts timeouts l.timeouts
     → id < length timeouts → timeout ≡ slice_index_or timeouts id timeout → refusal (state_of timeout.state) ≡ refusal (timeout_of l id).state
 told_refusal t l timeouts id timeout are within read = ap refusal (timeout_is t l timeouts id timeout are within read).state
 

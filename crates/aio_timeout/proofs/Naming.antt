@@ -6,7 +6,7 @@ use Rattle.std.proofs.lemmas.Bool.{cases_Bool, eq-eqb, false≢true, and_from, a
 use Rattle.std.proofs.lemmas.List.Sums.{sum_by-cons}
 use Rattle.std.proofs.lemmas.Option.{slice_get_within, get_or_from_slice_get}
 use Rattle.model_value.specs.Action.{Action}
-use Rattle.model_value.specs.declared.action.Action.TheVariants.{Step, StepInCircle, Wakeup}
+use Rattle.model_value.specs.declared.action.Action.TheVariants.{Step, StepInCycle, Wakeup}
 use Rattle.model_loop.specs.Parts as plain
 use Rattle.model_loop.specs.Parts.{Parts}
 use Rattle.model_loop.specs.Loop.{Loop}
@@ -17,7 +17,7 @@ use Rattle.aio_ready.specs.declared.handle.HandleId.{HandleId}
 use Rattle.aio_ready.specs.declared.handle.HandleName.{HandleName}
 use Rattle.aio_ready.specs.Names.{is_same}
 use Rattle.aio_task.specs.View.{View, is_step, steps_as, NamesNoStep}
-use Rattle.aio_task.specs.Keeps.{Ties, Keeps, Knows, ByHandle, handle_as, name_of}
+use Rattle.aio_task.specs.Keeps.{NameMap, Keeps, Knows, ByHandle, handle_as, name_of}
 use Rattle.aio_timeout.specs.declared.handler.TimeoutHandler.{TimeoutHandler}
 use Rattle.aio_timeout.specs.declared.handler.TimeoutHandler.TheVariants.{Soon, At}
 use Rattle.aio_timeout.specs.declared.timeout.Timeout.{Timeout}
@@ -28,11 +28,11 @@ use Rattle.aio_timeout.proofs.Keeping.{timeout_is}
 
 step_fires_none : (id : ℕ) (action : Action) → is_step action ≡ true → not (fires id action) ≡ true
 step_fires_none id (Step task) h = refl
-step_fires_none id (StepInCircle task circle) h = refl
+step_fires_none id (StepInCycle task cycle) h = refl
 step_fires_none id (Wakeup task) h = refl
 step_fires_none id _ h = absurd (false≢true h)
 
-module _ (t : Ties) (v : View) (p : Parts) (id tag : ℕ) (handle : HandleId) (keeps : Keeps t v p) (knows : Knows t p tag (ByHandle handle)) where
+module _ (t : NameMap) (v : View) (p : Parts) (id tag : ℕ) (handle : HandleId) (keeps : Keeps t v p) (knows : Knows t p tag (ByHandle handle)) where
   -- of a handle with a tag that was given, the name tells the tag
   tag_named : (other : plain.Handle) → other.tag < p.next_tag → is_same handle.name (name_of (t.known other.tag)) ≡ true → tag ≡ other.tag
   tag_named other given h =
@@ -78,7 +78,7 @@ module _ (t : Ties) (v : View) (p : Parts) (id tag : ℕ) (handle : HandleId) (k
       ap (list_any (steps_as handle.name)) (waiting_kept t v p keeps)
       ∙ none_of p.pending (tags_pending p keeps.numbered) (omega (arith, none))
 
-pub handlers_step_none : (t : Ties) (v : View) (l : Loop) (timeouts : List Timeout) → KeepsTimeouts t timeouts v l
+pub handlers_step_none : (t : NameMap) (v : View) (l : Loop) (timeouts : List Timeout) → KeepsTimeouts t timeouts v l
     → ((id : ℕ) → HasTag l.parts id (timeout_of l id))
     → (id : ℕ) → StepsNone v.queue (handler_at id timeouts)
 handlers_step_none t v l timeouts keeps tags id = at (slice_get timeouts id) refl

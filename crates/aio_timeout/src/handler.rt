@@ -4,7 +4,7 @@ ghost use Rattle.model_value.specs.declared.action.Action.TheVariants as action;
 ghost use Rattle.model_loop.specs.Parts as plain;
 ghost use Rattle.model_loop.specs.Handles.{soon, later};
 ghost use Rattle.model_loop.specs.Timeouts.{give_up};
-ghost use Rattle.aio_task.specs.Keeps.{Ties, Keeps};
+ghost use Rattle.aio_task.specs.Keeps.{NameMap, Keeps};
 ghost use Rattle.aio_timeout.specs.Kept.{IsHandler, StepsNone, IsSameStep};
 ghost use Rattle.aio_timeout.specs.Scheduled.{Made, fires_if, tag_if};
 
@@ -33,7 +33,7 @@ pub fn schedule(
     parts: &mut Parts,
 ) -> Result<Option<TimeoutHandler>, Memory>
     requires idle { parts.old.called ≡ None }
-    ensures after { IfOk result (λ handler. (t : Ties) (p : plain.Parts) → Keeps t parts.old p
+    ensures after { IfOk result (λ handler. (t : NameMap) (p : plain.Parts) → Keeps t parts.old p
         → Made t p handler parts.new (fires_if id when p) (tag_if when p)) }
     ensures steps { OnOk result ((other : Option TimeoutHandler) → StepsNone parts.old.queue other
         → StepsNone parts.new.queue other) }
@@ -56,7 +56,7 @@ pub fn schedule(
 // A pending handle, which can be cancelled: it has a number.
 fn call_soon(id: u32, ticket: Ticket, parts: &mut Parts) -> Result<Option<TimeoutHandler>, Memory>
     requires idle { parts.old.called ≡ None }
-    ensures after { IfOk result (λ handler. (t : Ties) (p : plain.Parts) → Keeps t parts.old p
+    ensures after { IfOk result (λ handler. (t : NameMap) (p : plain.Parts) → Keeps t parts.old p
         → Made t p handler parts.new (soon (action.Fires id) p) (Some p.next_tag)) }
     ensures steps { OnOk result ((other : Option TimeoutHandler) → StepsNone parts.old.queue other
         → StepsNone parts.new.queue other) }
@@ -80,7 +80,7 @@ fn call_at(
     parts: &mut Parts,
 ) -> Result<Option<TimeoutHandler>, Memory>
     requires idle { parts.old.called ≡ None }
-    ensures after { IfOk result (λ handler. (t : Ties) (p : plain.Parts) → Keeps t parts.old p
+    ensures after { IfOk result (λ handler. (t : NameMap) (p : plain.Parts) → Keeps t parts.old p
         → Made t p handler parts.new (later when (action.Fires id) p) (Some p.next_tag)) }
     ensures queue { parts.new.queue ≡ parts.old.queue }
     ensures step { IsSameStep parts.old parts.new }
@@ -96,7 +96,7 @@ fn call_at(
 pub fn give_up(handler: Option<TimeoutHandler>, parts: &mut Parts)
     requires idle { parts.old.called ≡ None }
     requires steps_none { StepsNone parts.old.queue handler }
-    ensures after { (t : Ties) (p : plain.Parts) (tag : Option ℕ) → Keeps t parts.old p
+    ensures after { (t : NameMap) (p : plain.Parts) (tag : Option ℕ) → Keeps t parts.old p
         → IsHandler t p handler tag → Keeps t parts.new (give_up tag p) }
     ensures below { length parts.new.queue.below ≡ length parts.old.queue.below }
     ensures step { IsSameStep parts.old parts.new }

@@ -10,6 +10,6 @@ mod timeouts;
 
 pub use delay::deadline;
 pub use handler::TimeoutHandler;
-pub use state::{Rescheduled, TimeoutExit, TimeoutState, timeout_fault};
+pub use state::{Rescheduled, TimeoutExit, TimeoutState, timeout_exception};
 pub use timeout::Timeout;
 pub use timeouts::Timeouts;

@@ -1,6 +1,6 @@
 //! The states of a timeout, and what its calls answer.
 ghost use Rattle.std.specs.Prelude.{◌≡◌, IfOk};
-ghost use Rattle.model_loop.specs.Timeouts.{is_active, has_expired, state_name, reschedule_fault, timeout_fault};
+ghost use Rattle.model_loop.specs.Timeouts.{is_active, has_expired, state_name, reschedule_exception, timeout_exception};
 ghost use Rattle.aio_timeout.specs.States.{state_of, is_expiring, has_timed_out};
 
 use aio_base::{Exc, Kind, Memory, exception};
@@ -35,7 +35,7 @@ pub enum Rescheduled {
 pub enum TimeoutExit {
     /// It goes on as it was.
     Passes,
-    /// `timeout_fault` is raised in place of its CancelledError.
+    /// `timeout_exception` is raised in place of its CancelledError.
     TimedOut,
 }
 
@@ -86,7 +86,7 @@ impl TimeoutState {
 
     /// What is raised where a new deadline is refused in this state.
     pub fn fault(self, alloc: Global) -> Result<Exc, Memory>
-        ensures { IfOk result (λ fault. fault ≡ reschedule_fault (state_of self)) }
+        ensures { IfOk result (λ fault. fault ≡ reschedule_exception (state_of self)) }
     {
         let name = self.name();
         let text = format!(in alloc; "Cannot change state of {name} Timeout")?;
@@ -95,8 +95,8 @@ impl TimeoutState {
 }
 
 /// What is raised where a block's time was over. It takes no memory.
-pub fn timeout_fault() -> Exc
-    ensures { result ≡ timeout_fault }
+pub fn timeout_exception() -> Exc
+    ensures { result ≡ timeout_exception }
 {
     Exc::bare(Kind::TimeoutError)
 }

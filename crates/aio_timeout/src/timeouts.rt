@@ -6,7 +6,7 @@ ghost use Rattle.model_loop.specs.Loop.{Loop};
 ghost use Rattle.model_loop.specs.Timeouts as timeouts;
 ghost use Rattle.model_loop.specs.Timeouts.{has_expired, timeout_of};
 ghost use Rattle.aio_task.specs.View as view;
-ghost use Rattle.aio_task.specs.Keeps.{Ties, Becomes};
+ghost use Rattle.aio_task.specs.Keeps.{NameMap, Becomes};
 ghost use Rattle.aio_timeout.specs.States.{refused, refusal, has_timed_out};
 ghost use Rattle.aio_timeout.specs.Kept.{AreTimeouts, KeepsTimeouts, KeptTimeouts, StepsNone, IsSameStep, handler_at};
 
@@ -63,7 +63,7 @@ impl Timeouts {
     ) -> Result<u32, Memory>
         requires idle { parts.old.called ≡ None }
         ensures number { IfOk result (λ id. id ≡ length self.old) }
-        ensures after { OnOk result ((t : Ties) (l : Loop) → KeepsTimeouts t self.old parts.old l
+        ensures after { OnOk result ((t : NameMap) (l : Loop) → KeepsTimeouts t self.old parts.old l
             → KeptTimeouts t l self.new parts.new (timeouts.enter_timeout task delay l)) }
         ensures count { OnOk result (length self.new ≡ length self.old + 1) }
         ensures below { length parts.new.queue.below ≡ length parts.old.queue.below }
@@ -99,9 +99,9 @@ impl Timeouts {
         requires live { id < length self.old }
         requires steps_none { StepsNone parts.old.queue (handler_at id self.old) }
         ensures answer { IfOk result
-            (λ answer. (t : Ties) (l : Loop) → AreTimeouts t l.parts self.old l.timeouts
+            (λ answer. (t : NameMap) (l : Loop) → AreTimeouts t l.parts self.old l.timeouts
             → refused answer ≡ refusal (timeout_of l id).state) }
-        ensures after { OnOk result ((t : Ties) (l : Loop) → KeepsTimeouts t self.old parts.old l
+        ensures after { OnOk result ((t : NameMap) (l : Loop) → KeepsTimeouts t self.old parts.old l
             → KeptTimeouts t l self.new parts.new (timeouts.reschedule id when l)) }
         ensures count { length self.new ≡ length self.old }
         ensures below { length parts.new.queue.below ≡ length parts.old.queue.below }
@@ -123,7 +123,7 @@ impl Timeouts {
     pub fn fire(&mut self, id: u32, parts: &mut Parts)
         requires idle { parts.old.called ≡ None }
         requires live { id < length self.old }
-        ensures after { (t : Ties) (l : Loop) → KeepsTimeouts t self.old parts.old l
+        ensures after { (t : NameMap) (l : Loop) → KeepsTimeouts t self.old parts.old l
             → KeptTimeouts t l self.new parts.new (timeouts.fire id l) }
         ensures given_up { handler_at id self.new ≡ None }
         ensures count { length self.new ≡ length self.old }
@@ -146,9 +146,9 @@ impl Timeouts {
         requires idle { parts.old.called ≡ None }
         requires live { id < length self.old }
         requires steps_none { StepsNone parts.old.queue (handler_at id self.old) }
-        ensures answer { (t : Ties) (l : Loop) → KeepsTimeouts t self.old parts.old l
+        ensures answer { (t : NameMap) (l : Loop) → KeepsTimeouts t self.old parts.old l
             → has_timed_out result ≡ (timeouts.exit_timeout raised id l).timed_out }
-        ensures after { (t : Ties) (l : Loop) → KeepsTimeouts t self.old parts.old l
+        ensures after { (t : NameMap) (l : Loop) → KeepsTimeouts t self.old parts.old l
             → KeptTimeouts t l self.new parts.new (timeouts.exit_timeout raised id l).loop }
         ensures given_up { handler_at id self.new ≡ None }
         ensures count { length self.new ≡ length self.old }
@@ -170,7 +170,7 @@ impl Timeouts {
     /// `expired()`: whether the time of a timeout was over before its block was left.
     pub fn expired(&self, id: u32) -> bool
         requires live { id < length self.now }
-        ensures answer { (t : Ties) (l : Loop) → AreTimeouts t l.parts self.now l.timeouts
+        ensures answer { (t : NameMap) (l : Loop) → AreTimeouts t l.parts self.now l.timeouts
             → result ≡ has_expired (timeout_of l id).state }
     {
         self.items[id as usize].state.has_expired()

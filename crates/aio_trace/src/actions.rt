@@ -12,7 +12,7 @@ pub fn push_action(alloc: Global, action: &Action, out: &mut Vec<u8>) -> Result<
 {
     match action {
         Action::Step(task) => push_id(alloc, b"step T", *task, out),
-        Action::StepInCircle { task, .. } => push_id(alloc, b"step T", *task, out),
+        Action::StepInCycle { task, .. } => push_id(alloc, b"step T", *task, out),
         Action::Wakeup(task) => push_id(alloc, b"wakeup T", *task, out),
         Action::SleepDone { task, .. } => push_id(alloc, b"sleepdone T", *task, out),
         Action::GroupDone { group, task } => {

@@ -12,7 +12,7 @@ use Rattle.aio_children.specs.Kept.{Kept as Children}
 use Rattle.aio_stream.specs.Kept as streams
 use Rattle.aio_stream.specs.Kept.{Kept as Conns}
 use Rattle.aio_transports.specs.Kept.{Kept, Remaining, kept_all}
-use Rattle.aio_transports.specs.Standing.{StandsFor}
+use Rattle.aio_transports.specs.Standing.{TransportsStandFor}
 
 closed_conn : (it : Option Connection) → option_map (λ (c : Connection). c.sender.closed_future) it
     ≡ option_map (λ (sender : Sender). sender.closed_future) (option_map (λ (c : Connection). c.sender) it)
@@ -24,9 +24,9 @@ closed_child : (it : Option Child) → option_map (λ (p : Child). p.stdin.close
 closed_child None = refl
 closed_child (Some p) = refl
 
-module _ (c : Conns) (p : Children) (rest : Remaining) (k : Kept) (is : kept_all c p rest ≡ k) (s : Streams) (stands : StandsFor k s) where
-  pub both_stand : StandsFor (kept_all c p rest) s
-  both_stand = subst (λ (k : Kept). StandsFor k s) (sym is) stands
+module _ (c : Conns) (p : Children) (rest : Remaining) (k : Kept) (is : kept_all c p rest ≡ k) (s : Streams) (stands : TransportsStandFor k s) where
+  pub both_stand : TransportsStandFor (kept_all c p rest) s
+  both_stand = subst (λ (k : Kept). TransportsStandFor k s) (sym is) stands
 
   pub closed_of_conn : (id : ℕ)
       → option_map (λ (c : Connection). c.sender.closed_future) (slice_get c.connections id) ≡ closed_future (to.Conn id) s

@@ -19,13 +19,13 @@ use Rattle.aio_stream.specs.Standing as streams
 use Rattle.aio_stream.proofs.Placing.{kept_connections}
 use Rattle.aio_transports.specs.Kept.{Remaining, kept_all}
 use Rattle.aio_transports.specs.Owned.{OwnsTransports}
-use Rattle.aio_transports.specs.Standing.{Answers, Becomes, Comes, StandsAfter, StandsFor, Told, ToldWith}
+use Rattle.aio_transports.specs.Standing.{Answers, Becomes, Comes, StandsAfter, TransportsStandFor, Told, ToldWith}
 use Rattle.aio_transports.proofs.Lasting.{Lasts, LastsWith}
 use Rattle.aio_transports.proofs.Numbering.{EndsIn, follows_in, tells_in}
 use Rattle.aio_transports.proofs.Remaining.{still_remains}
 
 -- ---- what it stands for after a change of a half
-module _ (c : Conns) (p : Children) (rest : Remaining) (s : Streams) (h : StandsFor (kept_all c p rest) s) (after : Streams)
+module _ (c : Conns) (p : Children) (rest : Remaining) (s : Streams) (h : TransportsStandFor (kept_all c p rest) s) (after : Streams)
     (lasts : Lasts s after) where
   pub beside_children : (new : Conns) → streams.StandsAfter new s after → StandsAfter (kept_all new p rest) s after
   beside_children new it = (
@@ -61,10 +61,10 @@ abbrev pub streams_with : Children → Streams
 streams_with p =
     record { servers = []; connections = []; children = p.children; opened = []; written = []; most = p.most }
 
-pub stands_of : (c : Conns) → streams.StandsFor c (streams_of c)
+pub stands_of : (c : Conns) → streams.StreamStandsFor c (streams_of c)
 stands_of c = record { servers = refl; connections = refl; opened = refl; most = refl }
 
-pub stands_with : (p : Children) → children.StandsFor p (streams_with p)
+pub stands_with : (p : Children) → children.ChildrenStandFor p (streams_with p)
 stands_with p = record { children = refl; most = refl }
 
 -- ---- what is no task's stays so

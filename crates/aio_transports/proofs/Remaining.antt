@@ -12,7 +12,7 @@ use Rattle.law_over.proofs.Staying.{gone_unwatched}
 use Rattle.aio_children.specs.Kept.{Kept as Children}
 use Rattle.aio_stream.specs.Kept.{Kept as Conns}
 use Rattle.aio_transports.specs.Kept.{Kept, Remaining, all_seen, kept_all, since}
-use Rattle.aio_transports.specs.Standing.{not_gone, Remains, StandsFor}
+use Rattle.aio_transports.specs.Standing.{not_gone, Remains, TransportsStandFor}
 use Rattle.aio_transports.specs.Watched.{gone_of, without_gone}
 use Rattle.aio_transports.proofs.Lasting.{Lasts}
 
@@ -94,7 +94,7 @@ module _ (c : Conns) (p : Children) (r : Remaining) (k : Kept) (is : kept_all c 
   dropped new drops =
       ap (kept_all c p) drops ∙ ap (λ (k : Kept). with_remaining (without_gone k.streams k.children k.remaining) k) is
 
-module _ (k : Kept) (s : Streams) (h : StandsFor k s) where
+module _ (k : Kept) (s : Streams) (h : TransportsStandFor k s) where
   -- what is gone by what is kept is gone
   gone_same : (one : Opened) → gone_of k.streams k.children one ≡ is_gone one s
   gone_same (OpenedServer id) = ap (λ xs. holds_at is_closed (slice_get xs id)) (sym h.streams.servers)
@@ -125,7 +125,7 @@ module _ (k : Kept) (s : Streams) (h : StandsFor k s) where
   all_taken : take (length k.streams.opened) s.opened ≡ s.opened
   all_taken = let same = ap length h.streams.opened in take_all (length k.streams.opened) s.opened (omega (arith, same))
 
-  pub looked_stands : StandsFor (with_remaining (looked k) k) s
+  pub looked_stands : TransportsStandFor (with_remaining (looked k) k) s
   looked_stands =
       record {
         streams = h.streams;

@@ -14,11 +14,11 @@ use Rattle.aio_stream.specs.declared.opened.Opened.{Opened}
 use Rattle.aio_stream.specs.Kept.{all_opened, may_connect, opened_as}
 use Rattle.aio_stream.specs.Watched.{entries}
 use Rattle.aio_transports.specs.Kept.{Kept, since}
-use Rattle.aio_transports.specs.Standing.{StandsFor}
+use Rattle.aio_transports.specs.Standing.{TransportsStandFor}
 use Rattle.aio_transports.specs.Watched.{watched_of}
 use Rattle.aio_transports.proofs.Remaining.{looked, looked_stands, looked_watched, remaining_watched, with_remaining}
 
-module _ (k : Kept) (s : Streams) (h : StandsFor k s) where
+module _ (k : Kept) (s : Streams) (h : TransportsStandFor k s) where
   room_same : may_connect k.streams ≡ plain.may_connect s
   room_same =
       sym (ap (λ n. nat_lt n s.most) (ap length h.streams.connections) ∙ ap (λ most. nat_lt
@@ -106,9 +106,9 @@ none_watched these is = sym (ap (λ (ys : List Watch). not (length ys == 0)) is)
 pub watch_goes : {R E : Type 0} (k after : Kept) (first list : List Watch) (result : Result R E)
     → after ≡ with_remaining (looked k) k
     → OnOk result (list ≡ first ++ flat_map (watched_of after) after.remaining.those)
-    → OnOk result ((s : Streams) → StandsFor k s → StandsFor after s × (list ≡ first ++ watch_list s))
+    → OnOk result ((s : Streams) → TransportsStandFor k s → TransportsStandFor after s × (list ≡ first ++ watch_list s))
 watch_goes k after first list (Ok done) is watches =
-    λ s h. let stands : StandsFor after s = subst (λ (k : Kept). StandsFor k s) (sym is) (looked_stands k s h) in (
+    λ s h. let stands : TransportsStandFor after s = subst (λ (k : Kept). TransportsStandFor k s) (sym is) (looked_stands k s h) in (
       stands,
       watches
           ∙ ap (λ ws. first ++ ws)
@@ -123,7 +123,7 @@ some_either [] ys = refl
 some_either (x ∷ xs) ys =
     ap not (eqb-suc-zero (length (xs ++ ys))) ∙ sym (ap (λ b. not b || not (length ys == 0)) (eqb-suc-zero (length xs)))
 
-module _ (k : Kept) (s : Streams) (h : StandsFor k s) where
+module _ (k : Kept) (s : Streams) (h : TransportsStandFor k s) where
   abbrev pub remaining_list : List Watch
   remaining_list = flat_map (watched_of k) k.remaining.those
 

@@ -25,39 +25,39 @@ pub record Remains (r : Remaining) (s : Streams) : Type 0 where
 
 -- Its listeners, connections and children, what was opened, and how many of each kind can be numbered are those that are kept, and
 -- what it doesn't watch any more is gone. It keeps no history: what was written stands in the streams alone.
-pub record StandsFor (k : Kept) (s : Streams) : Type 0 where
-  pub streams : streams.StandsFor k.streams s
-  pub children : children.StandsFor k.children s
+pub record TransportsStandFor (k : Kept) (s : Streams) : Type 0 where
+  pub streams : streams.StreamStandsFor k.streams s
+  pub children : children.ChildrenStandFor k.children s
   pub remaining : Remains k.remaining s
 
 -- It stands for what became of these streams, of which as many can be numbered as before.
 abbrev pub StandsAfter : (new : Kept) (before after : Streams) → Type 0
-StandsAfter new before after = StandsFor new after × (after.most ≡ before.most)
+StandsAfter new before after = TransportsStandFor new after × (after.most ≡ before.most)
 
 -- A call does what a tree says, whatever the streams that it stands for, and then stands for those that come of it.
 abbrev pub Comes : {W R : Type 0} → Outside W → (Streams → Doing Streams) → (old new : Kept) → (from to : Reach View W)
     → Result R Stop → Type 0
 Comes o tree old new from to result =
-    (s : Streams) → StandsFor old s
+    (s : Streams) → TransportsStandFor old s
     → (after : Streams) × (Follows o seen_changed (tree s) from to (after_of after result) × OnOk result (StandsAfter new s after))
 
 -- the same of one with an answer
 abbrev pub Answers : {W R : Type 0} → Outside W → (Streams → Doing (Streams × R)) → (old new : Kept)
     → (from to : Reach View W) → Result R Stop → Type 0
 Answers o tree old new from to result =
-    (s : Streams) → StandsFor old s
+    (s : Streams) → TransportsStandFor old s
     → (after : Streams) × (Follows o seen_changed (tree s) from to (with_after after result) × OnOk result (StandsAfter new s after))
 
 -- the same of a call that asks nothing
 abbrev pub Told : (Streams → Doing Streams) → (old new : Kept) → (from to : View) → Type 0
 Told tree old new from to =
-    (s : Streams) → StandsFor old s → (after : Streams) × (Tells seen_changed (tree s) from to after × StandsAfter new s after)
+    (s : Streams) → TransportsStandFor old s → (after : Streams) × (Tells seen_changed (tree s) from to after × StandsAfter new s after)
 
 abbrev pub ToldWith : {R : Type 0} → (Streams → Doing (Streams × R)) → (old new : Kept) → (from to : View) → R → Type 0
 ToldWith tree old new from to result =
-    (s : Streams) → StandsFor old s → (after : Streams) × (Tells seen_changed (tree s) from to
+    (s : Streams) → TransportsStandFor old s → (after : Streams) × (Tells seen_changed (tree s) from to
     (after, result) × StandsAfter new s after)
 
 -- the same of one that changes nothing of the loop
 abbrev pub Becomes : (Streams → Streams) → (old new : Kept) → Type 0
-Becomes change old new = (s : Streams) → StandsFor old s → StandsAfter new s (change s)
+Becomes change old new = (s : Streams) → TransportsStandFor old s → StandsAfter new s (change s)

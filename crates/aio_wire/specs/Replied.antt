@@ -15,11 +15,11 @@ abbrev pub Kept : Option (List Entry) → Option (List Entry) → Type 0
 Kept old new = (rest : List Entry) → Agrees new rest → Agrees old rest
 
 -- An answer is the first of those that are left, and is then gone; the others take nothing away.
-abbrev pub Leaves : Option (List Entry) → Option (List Entry) → Reply → Type 0
-Leaves old new (Got answer) = (rest : List Entry) → Agrees new rest → Agrees old (Answered answer ∷ rest)
-Leaves old new Over = Agrees old [] × Kept old new
-Leaves old new (Bad fault) = ((rest : List Entry) × Agrees old (refused_of fault ∷ rest)) × Kept old new
-Leaves old new Failed = Kept old new
+abbrev pub ReplyLeaves : Option (List Entry) → Option (List Entry) → Reply → Type 0
+ReplyLeaves old new (Got answer) = (rest : List Entry) → Agrees new rest → Agrees old (Answered answer ∷ rest)
+ReplyLeaves old new Over = Agrees old [] × Kept old new
+ReplyLeaves old new (Bad fault) = ((rest : List Entry) × Agrees old (refused_of fault ∷ rest)) × Kept old new
+ReplyLeaves old new Failed = Kept old new
 
 -- a wire fails only where its count of faults rose in the call
 abbrev pub FailedIfRose : ℕ → ℕ → Reply → Type 0
@@ -58,7 +58,7 @@ handed_after (Some held) call Failed = Some held
 -- A wire replied to a call.
 pub record Replied (call : Call) (old new : WireSeen) (reply : Reply) : Type 0 where
   -- an answer is the first of those that are left, and is then gone
-  pub left : Leaves old.left new.left reply
+  pub left : ReplyLeaves old.left new.left reply
   -- `Over` and `Bad` come only where the wire has so ended
   pub ends : EndsAs new.end reply
   -- an answer of a fitting wire fits

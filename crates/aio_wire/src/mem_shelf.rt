@@ -64,7 +64,7 @@ impl Shelf for MemShelf {
         ensures after { self.new
             ≡ record self.old { missed = missed_by (held self.old name.now) self.old.missed } }
         ensures unchanged { OnErr result (self.new ≡ self.old) }
-        ensures later { self.old.missed ≤ self.new.missed }
+        ensures monotone { self.old.missed ≤ self.new.missed }
     {
         match self.file(name) {
             Some(bytes) => bytes_at(alloc, bytes, from as usize, max),
@@ -80,7 +80,7 @@ impl Shelf for MemShelf {
         ensures after { OnOk result (self.new
             ≡ record self.old { files = with_appended self.old.files name.now piece.now }) }
         ensures unchanged { OnErr result (self.new ≡ self.old) }
-        ensures later { self.old.missed ≤ self.new.missed }
+        ensures monotone { self.old.missed ≤ self.new.missed }
     {
         append_piece(&mut self.files, alloc, name, piece)?;
         Ok(SinkTook::Took(piece.len()))

@@ -28,6 +28,6 @@ pub trait Source {
         requires { 1 ≤ max }
         ensures size { IfOk result (FitsRead max) }
         ensures left { IfOk result (ReadLeaves (seen self.old) (seen self.new)) }
-        ensures later { (seen self.old).faults ≤ (seen self.new).faults }
+        ensures monotone { (seen self.old).faults ≤ (seen self.new).faults }
         ensures err { OnErr result (seen self.new ≡ seen self.old) };
 }

@@ -15,7 +15,7 @@ use Rattle.algorithm_flat.specs.declared.answer_use.AnswerUse.TheVariants.{Ignor
 use Rattle.algorithm_flat.specs.Ops.{CoroutineCode}
 use Rattle.algorithm_flat.specs.Rests.{Way, ending_by, then_all, at_end, ignored}
 use Rattle.algorithm_flat.specs.Moves.{Frames, Move, Goes, Asks, Says, move_of}
-use Rattle.algorithm_flat.specs.Stands.{AllLaidOut, Keeps, meaning, progress_at, callers_of}
+use Rattle.algorithm_flat.specs.Stands.{AllLaidOut, MoveKeeps, meaning, progress_at, callers_of}
 use Rattle.algorithm_flat.specs.Tapes.{Waiting, unbegun_waiting, way_of, after_input, renewed_by, said, MovesFor, WaitsFor, ComesTo}
 use Rattle.algorithm_flat.proofs.Endings.{ending_of_all-stop}
 use Rattle.algorithm_flat.proofs.Moves.{move-keeps, answer-keeps, waits-somewhere}
@@ -140,7 +140,7 @@ module _ (limit : ℕ) (program : Program) (codes : ℕ → CoroutineCode) (coro
         (move-keeps limit program codes laid_out way frames moves.rest moves.rests moves.stand)
       where
         by_move : (move : Move) →
-            Keeps limit program codes
+            MoveKeeps limit program codes
             (λ more exchanges.
             meaning limit program frames moves.rest moves.rests (ending_by way (progress_at frames more exchanges))) move →
             ComesTo limit program codes coroutine arguments tape move

@@ -17,7 +17,7 @@ use Rattle.algorithm_flat.specs.Rests.{ending_of_callers, ending_of_all}
 use Rattle.algorithm_flat.specs.Moves.{OpenHandler, Frame, Frames, Move, Goes, at_place, with_handlers, with_variable, in_caller, return_to, raise_in}
 use Rattle.algorithm_flat.specs.Moves.{out_of_frame}
 use Rattle.algorithm_flat.specs.Moves.{clause_for, clauses_in, into_finally, into_clause, to_exit, way_out}
-use Rattle.algorithm_flat.specs.Stands.{Stands, StandAll, callers_of, progress_at, meaning, Keeps}
+use Rattle.algorithm_flat.specs.Stands.{PlaceStands, StandAll, callers_of, progress_at, meaning, MoveKeeps}
 use Rattle.algorithm_flat.proofs.Endings.{finished-by, exited-by}
 
 module _ (limit : ℕ) (program : Program) (codes : ℕ → CoroutineCode) where
@@ -28,7 +28,7 @@ module _ (limit : ℕ) (program : Program) (codes : ℕ → CoroutineCode) where
   calls_of frames = call_within limit program frames.room
 
   abbrev pub StandsIn : Frames → ℕ → List OpenHandler → Rest → Type 0
-  StandsIn frames place handlers rest = Stands program (code_of frames) place handlers rest
+  StandsIn frames place handlers rest = PlaceStands program (code_of frames) place handlers rest
 
   abbrev pub AllStand : Frames → List Rest → Type 0
   AllStand frames rests = StandAll program codes frames.callers rests
@@ -37,7 +37,7 @@ module _ (limit : ℕ) (program : Program) (codes : ℕ → CoroutineCode) where
   Meant = Tape → List Exchange → Ending
 
   abbrev pub KeepsIt : Meant → Move → Type 0
-  KeepsIt before move = Keeps limit program codes before move
+  KeepsIt before move = MoveKeeps limit program codes before move
 
   -- what is meant of an ending of one way, and of what comes next
   abbrev pub meant_by : Way → Frames → Rest → List Rest → Meant
@@ -171,7 +171,7 @@ module _ (limit : ℕ) (program : Program) (codes : ℕ → CoroutineCode) where
 
   -- the caller goes on with a value
   caller-keeps : (into : Option Name) (value : Value) (frames : Frames) (frame : Frame) (callers : List Frame) (rest : Rest)
-      (rests : List Rest) → Stands program (codes frame.coroutine) frame.place frame.handlers rest →
+      (rests : List Rest) → PlaceStands program (codes frame.coroutine) frame.place frame.handlers rest →
       StandAll program codes callers rests →
       KeepsIt
       (λ tape exchanges.
@@ -186,7 +186,7 @@ module _ (limit : ℕ) (program : Program) (codes : ℕ → CoroutineCode) where
   return_to-keeps : (value : Value) (ended : Next) (frames : Frames) (into : Option Name) (callers : List Frame)
       (rests : List Rest) → frames.frame.into ≡ into → StandAll program codes callers rests →
       ((frame : Frame) (callers : List Frame) (rest : Rest) (rests : List Rest) →
-      Stands program (codes frame.coroutine) frame.place frame.handlers rest → StandAll program codes callers rests →
+      PlaceStands program (codes frame.coroutine) frame.place frame.handlers rest → StandAll program codes callers rests →
       KeepsIt
       (λ tape exchanges.
       ending_of_callers limit program frames.room (callers_of into (frame ∷ callers) (rest ∷ rests))

@@ -19,40 +19,40 @@ use Rattle.algorithm_flat.specs.Rests.{assigned_to, entering, after_answer, Call
 use Rattle.algorithm_flat.specs.Moves.{OpenHandler, AnswerUse, Frame, Frames, Move, Goes, Asks, Says}
 
 module _ (program : Program) (code : CoroutineCode) where
-  abbrev pub Stands : ℕ → List OpenHandler → Rest → Type 0
-  Stands place handlers at_end = (slice_get code.ops place ≡ None) × (handlers ≡ [])
-  Stands place handlers (then_all others rest) = (to : ℕ) × LaidAll program code others place to × Stands to handlers rest
-  Stands place handlers (then_loop test body rest) =
-      (from : ℕ) × LaidAll program code body from place × Has code place (op.Repeat test from) × Stands (place + 1) handlers rest
-  Stands place handlers (then_jump rest) = (to : ℕ) × Has code place (op.Jump to) × Stands to handlers rest
-  Stands place handlers (in_try clauses finally rest) =
+  abbrev pub PlaceStands : ℕ → List OpenHandler → Rest → Type 0
+  PlaceStands place handlers at_end = (slice_get code.ops place ≡ None) × (handlers ≡ [])
+  PlaceStands place handlers (then_all others rest) = (to : ℕ) × LaidAll program code others place to × PlaceStands to handlers rest
+  PlaceStands place handlers (then_loop test body rest) =
+      (from : ℕ) × LaidAll program code body from place × Has code place (op.Repeat test from) × PlaceStands (place + 1) handlers rest
+  PlaceStands place handlers (then_jump rest) = (to : ℕ) × Has code place (op.Jump to) × PlaceStands to handlers rest
+  PlaceStands place handlers (in_try clauses finally rest) =
       (number : ℕ) × (range : Range) × (outer : List OpenHandler) × (to : ℕ) × (handlers ≡ InTry number ∷ outer)
-      × Has code place op.Leave × LaidTry program code number range clauses finally to × Stands to outer rest
-  Stands place handlers (in_clause finally rest) =
+      × Has code place op.Leave × LaidTry program code number range clauses finally to × PlaceStands to outer rest
+  PlaceStands place handlers (in_clause finally rest) =
       (number : ℕ) × (range : Range) × (outer : List OpenHandler) × (to : ℕ) × (handlers ≡ InClause number ∷ outer)
-      × Has code place op.Leave × Covers code number range × LaidFinally program code range finally to × Stands to outer rest
-  Stands place handlers (in_finally way rest) =
-      (outer : List OpenHandler) × (handlers ≡ InFinally way ∷ outer) × Has code place op.Resume × Stands (place + 1) outer rest
-  Stands place handlers (in_with manager entered rest) =
+      × Has code place op.Leave × Covers code number range × LaidFinally program code range finally to × PlaceStands to outer rest
+  PlaceStands place handlers (in_finally way rest) =
+      (outer : List OpenHandler) × (handlers ≡ InFinally way ∷ outer) × Has code place op.Resume × PlaceStands (place + 1) outer rest
+  PlaceStands place handlers (in_with manager entered rest) =
       (number : ℕ) × (range : Range) × (outer : List OpenHandler) × (to : ℕ) × (handlers ≡ InWith number entered ∷ outer)
-      × Has code place op.Leave × LaidExit program code number range manager to × Stands to outer rest
-  Stands place handlers (at_exit manager entered way rest) =
+      × Has code place op.Leave × LaidExit program code number range manager to × PlaceStands to outer rest
+  PlaceStands place handlers (at_exit manager entered way rest) =
       (outer : List OpenHandler) × (handlers ≡ AtExit entered way ∷ outer) × Has code place (exit_op manager)
-      × Has code (place + 1) op.Resume × Stands (place + 1 + 1) outer rest
+      × Has code (place + 1) op.Resume × PlaceStands (place + 1 + 1) outer rest
 
   -- at a request that waits for its answer
   abbrev pub StandsAt : AnswerUse → Wait → ℕ → List OpenHandler → Rest → Type 0
-  StandsAt Ignored ignored place handlers rest = Stands place handlers rest
-  StandsAt (AssignedTo into) (assigned_to other) place handlers rest = (into ≡ other) × Stands place handlers rest
+  StandsAt Ignored ignored place handlers rest = PlaceStands place handlers rest
+  StandsAt (AssignedTo into) (assigned_to other) place handlers rest = (into ≡ other) × PlaceStands place handlers rest
   StandsAt (Entered name number) (entering manager other body) place handlers rest =
       (last : ℕ) × (range : Range) × (to : ℕ) × (name ≡ other) × LaidAll program code body place last
-      × Has code last op.Leave × LaidExit program code number range manager to × Stands to handlers rest
+      × Has code last op.Leave × LaidExit program code number range manager to × PlaceStands to handlers rest
   StandsAt _ _ place handlers rest = ⊥
 
   -- on a way out the place is no matter
   abbrev pub StandsOn : Way → ℕ → List OpenHandler → Rest → Type 0
-  StandsOn Passing place handlers rest = Stands place handlers rest
-  StandsOn way place handlers rest = (somewhere : ℕ) × Stands somewhere handlers rest
+  StandsOn Passing place handlers rest = PlaceStands place handlers rest
+  StandsOn way place handlers rest = (somewhere : ℕ) × PlaceStands somewhere handlers rest
 
 abbrev pub callers_of : Option Name → List Frame → List Rest → List Caller
 callers_of into (frame ∷ frames) (rest ∷ rests) =
@@ -68,7 +68,7 @@ module _ (program : Program) (codes : ℕ → CoroutineCode) where
   abbrev pub StandAll : List Frame → List Rest → Type 0
   StandAll [] [] = Unit {0}
   StandAll (frame ∷ frames) (rest ∷ rests) =
-      Stands program (codes frame.coroutine) frame.place frame.handlers rest × StandAll frames rests
+      PlaceStands program (codes frame.coroutine) frame.place frame.handlers rest × StandAll frames rests
   StandAll _ _ = ⊥
 
   -- what frames stand for that go on one way
@@ -104,14 +104,14 @@ module _ (limit : ℕ) (program : Program) where
       (progress_at frames tape exchanges))
 
   -- A move means what was meant before it.
-  abbrev pub Keeps : (ℕ → CoroutineCode) → (Tape → List Exchange → Ending) → Move → Type 0
-  Keeps codes before (Goes way frames) =
+  abbrev pub MoveKeeps : (ℕ → CoroutineCode) → (Tape → List Exchange → Ending) → Move → Type 0
+  MoveKeeps codes before (Goes way frames) =
       (rest : Rest) × (rests : List Rest) × Stand program codes way frames rest rests
       × ((tape : Tape) (exchanges : List Exchange) →
       before tape exchanges ≡ meaning frames rest rests (ending_by way (progress_at frames tape exchanges)))
-  Keeps codes before (Asks request use_of frames) =
+  MoveKeeps codes before (Asks request use_of frames) =
       (rest : Rest) × (rests : List Rest) × (wait : Wait) × StandAt program codes use_of wait frames rest rests
       × ((tape : Tape) (exchanges : List Exchange) →
       before tape exchanges ≡ meaning_of_request request wait frames rest rests tape exchanges)
-  Keeps codes before (Says saying) =
+  MoveKeeps codes before (Says saying) =
       (tape : Tape) (exchanges : List Exchange) → saying_of (before tape exchanges) ≡ saying

@@ -8,7 +8,7 @@ use Rattle.model_value.specs.Value.{Outcome}
 use Rattle.model_loop.specs.Parts.{FutureKind, Plain, OfTask, Many, Future, Task, Parts}
 use Rattle.model_loop.specs.Futures.{made_before, settle, mark_asked}
 use Rattle.model_loop.specs.Tasks.{raise_count, change_task}
-use Rattle.model_loop.specs.Cancel.{CancelRequest, Canceller, answers, has_seen, cancel_each, asked_where, marked_unless, cancel_waiter}
+use Rattle.model_loop.specs.Cancel.{CancelRequest, Canceller, answers, has_seen, cancel_each, asked_where, must_cancel_unless, cancel_waiter}
 use Rattle.model_loop.specs.Cancel.{cancel_unseen, cancel_task, cancel_kind, cancel_until, cancel_at, cancel_by, cancel_below, cancel_within, cancel}
 use Rattle.law_cancel.proofs.Trace.{Goes, IsRow, below_row, within_row}
 
@@ -54,14 +54,14 @@ module _ (view : Parts → Parts) (Good : Parts → Type 0) (sees : SeesRequests
     asked true r = ap (λ q. record r { parts = q }) (sees.asks id r.parts)
     asked false r = refl
 
-    marked : (b : Bool) (t : ℕ) (r : CancelRequest) → marked_unless b t (seen_by view r) ≡ seen_by view (marked_unless b t r)
-    marked true t r = refl
-    marked false t r = ap (λ q. record r { parts = q; answer = true }) (changes t _ r.parts)
+    must_cancel : (b : Bool) (t : ℕ) (r : CancelRequest) → must_cancel_unless b t (seen_by view r) ≡ seen_by view (must_cancel_unless b t r)
+    must_cancel true t r = refl
+    must_cancel false t r = ap (λ q. record r { parts = q; answer = true }) (changes t _ r.parts)
 
     waits : (t : ℕ) (w : Option ℕ) (u : List ℕ) (q : Parts) → Good q
         → cancel_waiter V t w u (view q) ≡ seen_by view (cancel_waiter V t w u q)
     waits t None u q g = ap (answers true u) (changes t _ q)
-    waits t (Some w) u q g = ap (λ (r : CancelRequest). marked_unless r.answer t r) (vc w u q g) ∙ marked (V w u q).answer t (V w u q)
+    waits t (Some w) u q g = ap (λ (r : CancelRequest). must_cancel_unless r.answer t r) (vc w u q g) ∙ must_cancel (V w u q).answer t (V w u q)
 
     unseen : (t : ℕ) (o : Option Task) → cancel_unseen V t o s (view p) ≡ seen_by view (cancel_unseen V t o s p)
     unseen t None = refl

@@ -3,7 +3,7 @@ use Rattle.std.proofs.Common.{◌≡◌, ℕ, ◌⊎◌, true, List, [], ◌∷�
 use Rattle.std.proofs.lemmas.Bool.{cases_eq}
 use Rattle.model_loop.specs.Parts.{Parts}
 use Rattle.model_loop.specs.Cancel.{has_seen}
-use Rattle.model_loop.specs.Circles.{PassesTo, Leads, at_once, through}
+use Rattle.model_loop.specs.Cycles.{PassesTo, Leads, at_once, through}
 use Rattle.law_cancel.proofs.Seen.{has_seen_other}
 
 pub seen_split : (s : List ℕ) (a x : ℕ) → has_seen (s ++ a ∷ []) x ≡ true → (has_seen s x ≡ true) ⊎ (a ≡ x)

@@ -7,6 +7,6 @@ pub mod OpenLemmas
 pub mod RoomLemmas
 pub mod RoomsKept
 pub mod Commuting
-pub mod ForgottenLemmas
-pub mod ForgottenSteps
+pub mod ReleasedLemmas
+pub mod ReleasedSteps
 pub mod PlacedLemmas

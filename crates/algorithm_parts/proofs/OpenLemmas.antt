@@ -1,4 +1,4 @@
--- No more futures are open than are pending and are tasks' own or stand for several, where nothing waits in a circle.
+-- No more futures are open than are pending and are tasks' own or stand for several, where nothing waits in a cycle.
 use Rattle.std.proofs.Common.{◌≡◌, ℕ, zero, suc, ◌+◌, ◌<◌, ◌≤◌, ◌⊎◌, Bool, true, false, ◌||◌, cond, List, [], ◌∷◌, ◌++◌, Option, Some, None, length, map}
 use Rattle.std.proofs.Common.{reverse, slice_get, slice_set, nat_eq, nat_lt, refl, ap, sym, ◌∙◌, subst, arith, inl, inr}
 use Rattle.std.specs.List.{list_any}
@@ -12,11 +12,11 @@ use Rattle.model_loop.specs.Parts.{FutureKind, Plain, OfTask, Many, Future, Task
 use Rattle.model_loop.specs.Futures.{made_before}
 use Rattle.model_loop.specs.Tasks.{change_task, waiter_of}
 use Rattle.model_loop.specs.Cancel.{has_seen}
-use Rattle.model_loop.specs.Circles.{PassesTo, Leads, at_once, passes, passes_at, passes_until}
-use Rattle.model_loop.specs.Sound.{HasNoCircle}
+use Rattle.model_loop.specs.Cycles.{PassesTo, Leads, at_once, passes, passes_at, passes_until}
+use Rattle.model_loop.specs.Sound.{HasNoCycle}
 use Rattle.law_cancel.proofs.Lookups.{get-set_kept, get_within}
 use Rattle.law_cancel.proofs.Effects.{settle-futures, settle-tasks, done_as, mark_asked-futures, mark_asked-tasks, asked_as, change_task-futures}
-use Rattle.law_cancel.proofs.Trace.{Goes, begins, settles, asks, raises, marks}
+use Rattle.law_cancel.proofs.Trace.{Goes, begins, settles, asks, raises, sets_must_cancel}
 use Rattle.algorithm_parts.specs.Shape.{stands_of, stands_at, members_at}
 use Rattle.algorithm_parts.specs.declared.walk.WalkFrame.{WalkFrame}
 use Rattle.algorithm_parts.specs.declared.walk.WalkFrame.TheVariants.{Waits, Members}
@@ -79,7 +79,7 @@ same_passing : (frame : WalkFrame) → passing (frame_stands frame) ≡ frame_st
 same_passing (Waits id task) = refl
 same_passing (Members id place any) = refl
 
-pub down_count : (p : Parts) (frames : List WalkFrame) → HasNoCircle p → OpenDown p frames
+pub down_count : (p : Parts) (frames : List WalkFrame) → HasNoCycle p → OpenDown p frames
     → length frames + others (is_inner p) (length p.futures) (map id_of frames) ≡ room_of p
 down_count p [] none o = omega arith
 down_count p (frame ∷ frames) none o =
@@ -115,7 +115,7 @@ goes-passing (asks {q = q} g id future members asked e o k) j =
     ∙ get-set_kept (λ f. passing (stands_at f)) q.futures id j future (asked_as future) e (rw (o, k) refl) ∙ goes-passing g j
 goes-passing (raises {q = q} g id task n e) j =
     ap (λ (fs : List Future). passing (stands_at (slice_get fs j))) (change_task-futures id _ q) ∙ goes-passing g j
-goes-passing (marks {q = q} g id) j =
+goes-passing (sets_must_cancel {q = q} g id) j =
     ap (λ (fs : List Future). passing (stands_at (slice_get fs j))) (change_task-futures id _ q) ∙ goes-passing g j
 
 change-waiter : (id : ℕ) (change : Task → Task) (q : Parts) (j : ℕ) → ((t : Task) → (change t).waiter ≡ t.waiter)
@@ -135,7 +135,7 @@ goes-waiter (settles {q = q} g id future e o k) j =
 goes-waiter (asks {q = q} g id future members asked e o k) j =
     ap (λ (ts : List Task). option_map_or (λ (t : Task). t.waiter) (slice_get ts j) None) (mark_asked-tasks id q) ∙ goes-waiter g j
 goes-waiter (raises {q = q} g id task n e) j = change-waiter id _ q j (λ t. refl) ∙ goes-waiter g j
-goes-waiter (marks {q = q} g id) j = change-waiter id _ q j (λ t. refl) ∙ goes-waiter g j
+goes-waiter (sets_must_cancel {q = q} g id) j = change-waiter id _ q j (λ t. refl) ∙ goes-waiter g j
 
 pub passes-task : (p : Parts) (id task : ℕ) → passing_at p id ≡ stands.OfTask task → passes p id ≡ option_to_list (waiter_of p task)
 passes-task p id task h = at (slice_get p.futures id) h

@@ -7,7 +7,7 @@ use Rattle.model_value.specs.declared.outcome.Outcome.TheVariants.{Cancelled}
 use Rattle.model_value.specs.Value.{Outcome}
 use Rattle.model_loop.specs.Parts.{FutureKind, Plain, OfTask, Many, Future, Parts}
 use Rattle.model_loop.specs.Futures.{made_before, settle, mark_asked, asked_kind, with_future}
-use Rattle.model_loop.specs.Tasks.{mark, raise_count}
+use Rattle.model_loop.specs.Tasks.{set_must_cancel, raise_count}
 use Rattle.model_loop.specs.Cancel.{answers, has_seen, cancel_each, cancel_with}
 use Rattle.law_cancel.proofs.Lookups.{get-set_same, get-set_other}
 use Rattle.law_cancel.proofs.Seen.{has_seen-append}
@@ -194,8 +194,8 @@ module _ (s : List ℕ) (p : Parts) where
         stages = λ j. stage_set p.futures id j future (asked_as future) g (grows future.outcome future.kind);
       }
 
-  pub marked_later : (task : ℕ) → Later s p s (mark task p)
-  marked_later task = record { seen = λ x h. h; stages = λ j. grows_equal p.futures (mark task p).futures j (change_task-futures task _ p) }
+  pub must_cancel_later : (task : ℕ) → Later s p s (set_must_cancel task p)
+  must_cancel_later task = record { seen = λ x h. h; stages = λ j. grows_equal p.futures (set_must_cancel task p).futures j (change_task-futures task _ p) }
 
   pub raised_later : (task : ℕ) → Later s p (s ++ task ∷ []) (raise_count task p)
   raised_later task = record {

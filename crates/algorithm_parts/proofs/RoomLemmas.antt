@@ -7,12 +7,12 @@ use Rattle.model_value.specs.Value.{Outcome}
 use Rattle.model_value.specs.declared.outcome.Outcome.TheVariants.{Cancelled}
 use Rattle.model_loop.specs.Parts.{FutureKind, Plain, OfTask, Many, Future, Task, Parts}
 use Rattle.model_loop.specs.Futures.{settle, mark_asked}
-use Rattle.model_loop.specs.Tasks.{raise_count, mark}
+use Rattle.model_loop.specs.Tasks.{raise_count, set_must_cancel}
 use Rattle.model_loop.specs.Cancel.{has_seen}
-use Rattle.model_loop.specs.Circles.{PassesTo}
-use Rattle.model_loop.specs.Sound.{HasNoCircle}
+use Rattle.model_loop.specs.Cycles.{PassesTo}
+use Rattle.model_loop.specs.Sound.{HasNoCycle}
 use Rattle.law_cancel.proofs.Lookups.{get_within}
-use Rattle.law_cancel.proofs.Trace.{Goes, begins, settles, asks, raises, marks as marking, goes-tasks}
+use Rattle.law_cancel.proofs.Trace.{Goes, begins, settles, asks, raises, sets_must_cancel as sets_must_cancel_row, goes-tasks}
 use Rattle.algorithm_parts.specs.Shape.{stands_of, stands_at, members_at}
 use Rattle.algorithm_parts.specs.declared.walk.WalkFrame.{WalkFrame}
 use Rattle.algorithm_parts.specs.declared.walk.WalkFrame.TheVariants.{Waits, Members}
@@ -26,10 +26,10 @@ push-reverse : (frames : List WalkFrame) (frame : WalkFrame) → reverse (frames
 push-reverse frames frame = reverse-append frames (frame ∷ [])
 
 -- a request begins
-pub walk_begins : (room marks : ℕ) (id : ℕ) (p : Parts) → HasNoCircle p → room_of p ≤ room → length p.tasks ≤ marks
+pub walk_begins : (room marks : ℕ) (id : ℕ) (p : Parts) → HasNoCycle p → room_of p ≤ room → length p.tasks ≤ marks
     → CanWalk room marks (Visit id) [] [] p
 walk_begins room marks id p none fits marked =
-    (p, record { no_circle = none; row = begins; chain = tt; leads = λ x h. absurd (cc); fits = fits; marked = marked })
+    (p, record { no_cycle = none; row = begins; chain = tt; leads = λ x h. absurd (cc); fits = fits; marked = marked })
 
 -- what is on the stack below the top fits
 pub room_for : (room marks : ℕ) (go : Go) (frames : List WalkFrame) (frame : WalkFrame) (s : List ℕ) (p : Parts)
@@ -37,7 +37,7 @@ pub room_for : (room marks : ℕ) (go : Go) (frames : List WalkFrame) (frame : W
 room_for room marks go frames frame s p c =
     let w = c.1 in
     let chain : OpenDown c.0 (frame ∷ reverse frames) = rw (push-reverse frames frame) at w.chain in
-    let count = down_count c.0 (frame ∷ reverse frames) w.no_circle chain in
+    let count = down_count c.0 (frame ∷ reverse frames) w.no_cycle chain in
     let l = length-reverse frames in
     let f = w.fits in
     omega arith
@@ -59,14 +59,14 @@ pub walk_answers : (room marks : ℕ) (go : Go) (frames : List WalkFrame) (s : L
     → CanWalk room marks go frames s p → CanWalk room marks (Answer answer) frames s p
 walk_answers room marks go frames s p answer c =
     let w = c.1 in
-    (c.0, record { no_circle = w.no_circle; row = w.row; chain = w.chain; leads = tt; fits = w.fits; marked = w.marked })
+    (c.0, record { no_cycle = w.no_cycle; row = w.row; chain = w.chain; leads = tt; fits = w.fits; marked = w.marked })
 
 -- the answer after a further change
 answers_after : (room marks : ℕ) (go : Go) (frames : List WalkFrame) (s t : List ℕ) (p q : Parts) (answer : Bool)
     → (c : CanWalk room marks go frames s p) → Goes [] c.0 t q → CanWalk room marks (Answer answer) frames t q
 answers_after room marks go frames s t p q answer c row =
     let w = c.1 in
-    (c.0, record { no_circle = w.no_circle; row = row; chain = w.chain; leads = tt; fits = w.fits; marked = w.marked })
+    (c.0, record { no_cycle = w.no_cycle; row = row; chain = w.chain; leads = tt; fits = w.fits; marked = w.marked })
 
 plain_there : {X : Type 0} (p : Parts) (id : ℕ) → stands.Plain ≡ stands_at (slice_get p.futures id)
     → ((future : Future) → slice_get p.futures id ≡ Some future → future.outcome ≡ None → future.kind ≡ Plain → X) → X
@@ -114,7 +114,7 @@ walk_opens room marks id frames s p any c h =
     let w = c.1 in (
       c.0,
       record {
-        no_circle = w.no_circle;
+        no_cycle = w.no_cycle;
         row = w.row;
         chain = w.chain;
         leads = (w.leads, sym (goes-passing w.row id) ∙ sym (ap passing h));
@@ -132,7 +132,7 @@ pushed room marks next go frames frame s t p q c lead st pass row =
     let w = c.1 in (
       c.0,
       record {
-        no_circle = w.no_circle;
+        no_cycle = w.no_cycle;
         row = row;
         chain = rw (push-reverse frames frame) (w.chain, lead, st);
         leads = rw (push-reverse frames frame) (lead_on c.0 (map id_of (reverse frames)) (id_of frame) next lead pass);
@@ -164,13 +164,13 @@ walk_waits room marks id task next frames after s t p q waiter c st unseen h is 
 pub walk_marks : (room marks id task : ℕ) (frames : List WalkFrame) (s t : List ℕ) (p q r : Parts) (waiter : Option ℕ) (answer : Bool)
     → CanWalk room marks (Visit id) frames s p → has_seen s task ≡ false
     → Some waiter ≡ option_map (λ (it : Task). it.waiter) (slice_get p.tasks task)
-    → t ≡ s ++ task ∷ [] → q ≡ raise_count task p → r ≡ mark task q
+    → t ≡ s ++ task ∷ [] → q ≡ raise_count task p → r ≡ set_must_cancel task q
     → CanWalk room marks (Answer answer) frames t r
 walk_marks room task_marks id task frames s t p q r waiter answer c unseen h e f g =
     rw (g, f, e)
     (task_there p task waiter h (λ it there.
-    answers_after room task_marks (Visit id) frames s (s ++ task ∷ []) p (mark task (raise_count task p)) answer c
-    (marking (raises c.1.row task it unseen there) task)))
+    answers_after room task_marks (Visit id) frames s (s ++ task ∷ []) p (set_must_cancel task (raise_count task p)) answer c
+    (sets_must_cancel_row (raises c.1.row task it unseen there) task)))
 
 pub walk_member : (room marks id place next member : ℕ) (any : Bool) (frames after : List WalkFrame) (s : List ℕ) (p : Parts)
     → CanWalk room marks (Next id place any) frames s p → Some member ≡ slice_get (members_at (slice_get p.futures id)) place
@@ -185,7 +185,7 @@ pub walk_skips : (room marks id place next : ℕ) (any : Bool) (frames : List Wa
     → CanWalk room marks (Next id place any) frames s p → CanWalk room marks (Next id next any) frames s p
 walk_skips room marks id place next any frames s p c =
     let w = c.1 in
-    (c.0, record { no_circle = w.no_circle; row = w.row; chain = w.chain; leads = w.leads; fits = w.fits; marked = w.marked })
+    (c.0, record { no_cycle = w.no_cycle; row = w.row; chain = w.chain; leads = w.leads; fits = w.fits; marked = w.marked })
 
 pub walk_ends : (room marks id place : ℕ) (any answer : Bool) (frames : List WalkFrame) (s : List ℕ) (p q : Parts)
     → CanWalk room marks (Next id place any) frames s p → q ≡ (if any then mark_asked id p else p)
@@ -199,7 +199,7 @@ walk_ends room marks id place true answer frames s p q c e =
 
 -- the answer comes back to a task
 pub walk_back : (room marks id task : ℕ) (answer : Bool) (last : Bool) (frames : List WalkFrame) (s : List ℕ) (p q : Parts)
-    → CanWalk room marks (Answer last) (frames ++ Waits id task ∷ []) s p → q ≡ (if last then p else mark task p)
+    → CanWalk room marks (Answer last) (frames ++ Waits id task ∷ []) s p → q ≡ (if last then p else set_must_cancel task p)
     → CanWalk room marks (Answer answer) frames s q
 walk_back room task_marks id task answer last frames s p q c e =
     let w = c.1 in
@@ -207,7 +207,7 @@ walk_back room task_marks id task answer last frames s p q c e =
     rw e (
       c.0,
       record {
-        no_circle = w.no_circle;
+        no_cycle = w.no_cycle;
         row = go last;
         chain = chain.0;
         leads = tt;
@@ -216,9 +216,9 @@ walk_back room task_marks id task answer last frames s p q c e =
       },
     )
   where
-    go : (b : Bool) → Goes [] c.0 s (if b then p else mark task p)
+    go : (b : Bool) → Goes [] c.0 s (if b then p else set_must_cancel task p)
     go true = c.1.row
-    go false = marking c.1.row task
+    go false = sets_must_cancel_row c.1.row task
 
 -- and to a future whose members it goes through
 pub walk_back_on : (room marks id place : ℕ) (any more last : Bool) (frames : List WalkFrame) (s : List ℕ) (p : Parts)
@@ -229,7 +229,7 @@ walk_back_on room marks id place any more last frames s p c =
     let chain : OpenDown c.0 (Members id place any ∷ reverse frames) = rw (push-reverse frames (Members id place any)) at w.chain in (
       c.0,
       record {
-        no_circle = w.no_circle;
+        no_cycle = w.no_cycle;
         row = w.row;
         chain = chain.0;
         leads = (chain.1, chain.2);

@@ -13,8 +13,8 @@ use Rattle.model_loop.specs.Tasks.{change_task}
 use Rattle.model_loop.specs.Cancel.{cancel}
 use Rattle.law_cancel.proofs.Lookups.{get-set_kept, get-set_other, get-push_last, get-push_other, get_within}
 use Rattle.law_cancel.proofs.Effects.{soon_all-futures, settle-futures, done_as, asked_as, change_task-futures}
-use Rattle.law_cancel.proofs.Trace.{Goes, begins, settles, asks, raises, marks, with_row}
-use Rattle.algorithm_parts.specs.Forgotten.{released}
+use Rattle.law_cancel.proofs.Trace.{Goes, begins, settles, asks, raises, sets_must_cancel, with_row}
+use Rattle.algorithm_parts.specs.Released.{released}
 use Rattle.algorithm_parts.specs.Open.{is_inner_kind, is_inner_until, is_inner_at, is_inner, others, room_of}
 use Rattle.algorithm_parts.proofs.OpenLemmas.{others-cons}
 
@@ -160,7 +160,7 @@ goes-room begins = refl
 goes-room (settles {q = q} g id future e o k) = plain-room id Cancelled q future e o k ∙ goes-room g
 goes-room (asks {q = q} g id future members asked e o k) = ask-room id q ∙ goes-room g
 goes-room (raises {q = q} g id task n e) = change-room id _ q ∙ goes-room g
-goes-room (marks {q = q} g id) = change-room id _ q ∙ goes-room g
+goes-room (sets_must_cancel {q = q} g id) = change-room id _ q ∙ goes-room g
 
 pub cancel-room : (id : ℕ) (p : Parts) → room_of (cancel id p).parts ≡ room_of p
 cancel-room id p = goes-room (with_row id [] p)
@@ -177,7 +177,7 @@ make-room kind p =
     let last : is_inner_at (slice_get (fs ++ new ∷ []) (length fs)) ≡ is_inner_kind kind = ap is_inner_at (get-push_last fs new) in
     rw l (rw (last, same) (omega arith))
 
--- a future that is let go
+-- a future that is released
 pub release-room : (id : ℕ) (p : Parts) → room_of (with_future id released p) ≤ room_of p
 release-room id p = room_less p.futures id released refl
 

@@ -1,4 +1,4 @@
--- A search for a circle finds exactly what leads there.
+-- A search for a cycle finds exactly what leads there.
 use Rattle.std.proofs.Common.{◌≡◌, ◌≢◌, ℕ, suc, ◌+◌, ◌<◌, ◌≤◌, ◌⊎◌, Bool, true, false, ◌||◌, List, [], ◌∷◌, ◌++◌, Option, Some, None, slice_get}
 use Rattle.std.proofs.Common.{refl, ap, sym, ◌∙◌, subst, arith, inl, inr}
 use Rattle.std.specs.Prelude.{◌==◌}
@@ -10,7 +10,7 @@ use Rattle.model_loop.specs.Parts.{FutureKind, Plain, OfTask, Many, Future, Task
 use Rattle.model_loop.specs.Futures.{made_before}
 use Rattle.model_loop.specs.Tasks.{waiter_of}
 use Rattle.model_loop.specs.Cancel.{has_seen}
-use Rattle.model_loop.specs.Circles.{PassesTo, Leads, at_once, through, passes, passes_at, passes_until, leads}
+use Rattle.model_loop.specs.Cycles.{PassesTo, Leads, at_once, through, passes, passes_at, passes_until, leads}
 use Rattle.law_cancel.proofs.Seen.{has_seen-append, has_seen_last, has_seen_other}
 use Rattle.law_cancel.proofs.Reach.{leads_decides}
 use Rattle.algorithm_parts.specs.Shape.{stands_of, stands_at, members_at}
@@ -423,7 +423,7 @@ walk_on room marks id task w frames p waiter c st h is =
     let a = c.1 in (
       c.0,
       record {
-        no_circle = a.no_circle;
+        no_cycle = a.no_cycle;
         row = a.row;
         chain = a.chain;
         leads = λ x q. leads_on w (a.leads x q) (pass_waiter a.row id task w waiter st h is);

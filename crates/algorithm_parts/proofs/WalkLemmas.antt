@@ -8,11 +8,11 @@ use Rattle.model_value.specs.Value.{Outcome}
 use Rattle.model_loop.specs.Parts.{FutureKind, Plain, OfTask, Many, Future, Task, Parts}
 use Rattle.model_loop.specs.Futures.{made_before, settle, mark_asked, asked_kind}
 use Rattle.model_loop.specs.Tasks.{raise_count}
-use Rattle.model_loop.specs.Cancel.{CancelRequest, answers, has_seen, cancel_each, asked_where, marked_unless, cancel_task, cancel_until, cancel_at}
+use Rattle.model_loop.specs.Cancel.{CancelRequest, answers, has_seen, cancel_each, asked_where, must_cancel_unless, cancel_task, cancel_until, cancel_at}
 use Rattle.model_loop.specs.Cancel.{cancel_with, cancel_unseen}
 use Rattle.law_cancel.proofs.Lookups.{get-set_kept}
 use Rattle.law_cancel.proofs.Effects.{settle-futures, done_as, mark_asked-futures, asked_as, change_task-futures}
-use Rattle.law_cancel.proofs.Trace.{Goes, begins, settles, asks, raises, marks, with_row}
+use Rattle.law_cancel.proofs.Trace.{Goes, begins, settles, asks, raises, sets_must_cancel, with_row}
 use Rattle.law_cancel.proofs.Total.{cancel_with_itself}
 use Rattle.algorithm_parts.specs.Shape.{stands_of, stands_at, members_of, members_at}
 use Rattle.algorithm_parts.specs.declared.walk.FutureState.{FutureState}
@@ -67,7 +67,7 @@ goes-members (asks {q = q} g id future members asked e o k) j =
     ∙ get-set_kept members_at q.futures id j future (asked_as future) e (asked_members future.kind) ∙ goes-members g j
 goes-members (raises {q = q} g id task n e) j =
     ap (λ (fs : List Future). members_at (slice_get fs j)) (change_task-futures id _ q) ∙ goes-members g j
-goes-members (marks {q = q} g id) j =
+goes-members (sets_must_cancel {q = q} g id) j =
     ap (λ (fs : List Future). members_at (slice_get fs j)) (change_task-futures id _ q) ∙ goes-members g j
 
 -- ---- the members from a place on
@@ -142,11 +142,12 @@ next_ends frames id place any s p q e a = ap (resume frames) (at any refl)
     at true t = rw (next_none id place any s p (sym e), a, t) refl
     at false t = rw (next_none id place any s p (sym e), a, t) refl
 
-pub back_waits : (i task : ℕ) (answer : Bool) (frames : List WalkFrame) (s : List ℕ) (p q : Parts) → q ≡ (marked_unless answer task (answers answer s p)).parts
+pub back_waits : (i task : ℕ) (answer : Bool) (frames : List WalkFrame) (s : List ℕ) (p q : Parts)
+    → q ≡ (must_cancel_unless answer task (answers answer s p)).parts
     → run (Answer true) frames s q ≡ run (Answer answer) (frames ++ Waits i task ∷ []) s p
 back_waits i task answer frames s p q e = ap (resume frames) (at answer e) ∙ sym (resume-push frames (Waits i task) (answers answer s p))
   where
-    at : (b : Bool) → q ≡ (marked_unless b task (answers b s p)).parts → answers true s q ≡ marked_unless b task (answers b s p)
+    at : (b : Bool) → q ≡ (must_cancel_unless b task (answers b s p)).parts → answers true s q ≡ must_cancel_unless b task (answers b s p)
     at true e = rw e refl
     at false e = rw e refl
 

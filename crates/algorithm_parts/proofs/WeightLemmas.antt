@@ -6,7 +6,7 @@ use Rattle.std.specs.Option.{option_map, option_map_or}
 use Rattle.model_value.specs.Value.{Outcome}
 use Rattle.model_loop.specs.Parts.{FutureKind, Plain, OfTask, Many, Future, Task, Parts}
 use Rattle.model_loop.specs.Futures.{with_future, settle, settled, settled_as, mark_asked, asked_kind}
-use Rattle.model_loop.specs.Tasks.{mark, raise_count}
+use Rattle.model_loop.specs.Tasks.{set_must_cancel, raise_count}
 use Rattle.model_loop.specs.Cancel.{has_seen}
 use Rattle.law_cancel.proofs.Seen.{left, left-push, left_falls}
 use Rattle.law_cancel.proofs.Effects.{soon_all-futures, settle-tasks, mark_asked-tasks, change_task-futures, length-change_task, done_as, asked_as}
@@ -167,10 +167,10 @@ raised-shape t p = ap shape (change_task-futures t _ p)
 raised-tasks : (t : ℕ) (p : Parts) → length (raise_count t p).tasks ≡ length p.tasks
 raised-tasks t p = length-change_task t _ p
 
-pub weigh_marked : (t id : ℕ) (answer : Bool) (frames : List WalkFrame) (s s' : List ℕ) (p q r : Parts) → s' ≡ s ++ t ∷ [] → q ≡ raise_count t p
-    → r ≡ mark t q → weight (Answer answer) frames s' r < weight (Visit id) frames s p
+pub weigh_must_cancel : (t id : ℕ) (answer : Bool) (frames : List WalkFrame) (s s' : List ℕ) (p q r : Parts) → s' ≡ s ++ t ∷ [] → q ≡ raise_count t p
+    → r ≡ set_must_cancel t q → weight (Answer answer) frames s' r < weight (Visit id) frames s p
 unfolding weight
-weigh_marked t id answer frames s s' p q r e f g =
+weigh_must_cancel t id answer frames s s' p q r e f g =
     rw (
       stays (Answer answer) frames s' p r (ap (λ (x : Parts). shape x.futures) g ∙ ap shape (change_task-futures t _ q)
           ∙ ap (λ (x : Parts). shape x.futures) f ∙ raised-shape t p)
@@ -271,9 +271,9 @@ unfolding weight
 weigh_back i t answer last frames s p =
     (let u = frames-push (shape p.futures) (left (length p.tasks) s) frames (Waits i t) in omega arith)
 
-pub weigh_back_marked : (i t : ℕ) (answer last : Bool) (frames : List WalkFrame) (s : List ℕ) (p q : Parts) → q ≡ mark t p
+pub weigh_back_must_cancel : (i t : ℕ) (answer last : Bool) (frames : List WalkFrame) (s : List ℕ) (p q : Parts) → q ≡ set_must_cancel t p
     → weight (Answer answer) frames s q < weight (Answer last) (frames ++ Waits i t ∷ []) s p
-weigh_back_marked i t answer last frames s p q e =
+weigh_back_must_cancel i t answer last frames s p q e =
     rw (stays (Answer answer) frames s p q (ap (λ (r : Parts). shape r.futures) e
     ∙ ap shape (change_task-futures t _ p)) (ap (λ (r : Parts). length r.tasks) e ∙ length-change_task t _ p))
     (weigh_back i t answer last frames s p)

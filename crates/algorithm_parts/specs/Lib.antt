@@ -1,5 +1,5 @@
 pub mod Shape
-pub mod Forgotten
+pub mod Released
 pub mod Placed
 pub mod Walk
 pub mod Weight

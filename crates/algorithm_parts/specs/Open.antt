@@ -3,8 +3,8 @@ use Rattle.std.specs.Prelude.{◌≡◌, ℕ, zero, suc, ◌+◌, ◌≤◌, Boo
 use Rattle.model_value.specs.Value.{Outcome}
 use Rattle.model_loop.specs.Parts.{FutureKind, Plain, OfTask, Many, Future, Parts}
 use Rattle.model_loop.specs.Cancel.{has_seen}
-use Rattle.model_loop.specs.Circles.{Leads}
-use Rattle.model_loop.specs.Sound.{HasNoCircle}
+use Rattle.model_loop.specs.Cycles.{Leads}
+use Rattle.model_loop.specs.Sound.{HasNoCycle}
 use Rattle.law_cancel.proofs.Trace.{Goes}
 use Rattle.algorithm_parts.specs.Shape.{stands_at}
 use Rattle.algorithm_parts.specs.declared.walk.WalkFrame.{WalkFrame}
@@ -79,7 +79,7 @@ LeadTo p frames (Answer answer) = Unit {0}
 
 -- a request that began at these parts, with a stack of so much room and marks for so many tasks
 pub record Walks (before : Parts) (room marks : ℕ) (go : Go) (frames : List WalkFrame) (seen : List ℕ) (p : Parts) : Type 0 where
-  pub no_circle : HasNoCircle before
+  pub no_cycle : HasNoCycle before
   pub row : Goes [] before seen p
   pub chain : Open before frames
   pub leads : LeadTo before frames go

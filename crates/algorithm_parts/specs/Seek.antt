@@ -1,9 +1,9 @@
--- The search for a circle, with what is left to look at on a stack. Each future is gone through once.
+-- The search for a cycle, with what is left to look at on a stack. Each future is gone through once.
 use Rattle.std.specs.Prelude.{◌≡◌, ℕ, ◌⊎◌, Bool, true, false, ◌==◌, List, Option, Some}
 use Rattle.std.specs.List.{list_any}
 use Rattle.model_loop.specs.Parts.{Parts}
 use Rattle.model_loop.specs.Cancel.{has_seen}
-use Rattle.model_loop.specs.Circles.{PassesTo, Leads}
+use Rattle.model_loop.specs.Cycles.{PassesTo, Leads}
 use Rattle.algorithm_parts.specs.Walk.{rest_of}
 use Rattle.algorithm_parts.specs.Open.{passing_at}
 use Rattle.algorithm_parts.specs.declared.walk.WalkFrame.{WalkFrame}

@@ -2,7 +2,7 @@
 use Rattle.std.specs.Prelude.{ℕ, Bool, ◌||◌, List, [], ◌∷◌, drop, slice_get}
 use Rattle.model_loop.specs.Parts.{Parts}
 use Rattle.model_loop.specs.Futures.{made_before}
-use Rattle.model_loop.specs.Cancel.{CancelRequest, answers, has_seen, cancel_each, asked_where, marked_unless, cancel_task, cancel_with}
+use Rattle.model_loop.specs.Cancel.{CancelRequest, answers, has_seen, cancel_each, asked_where, must_cancel_unless, cancel_task, cancel_with}
 use Rattle.algorithm_parts.specs.Shape.{members_at}
 use Rattle.algorithm_parts.specs.declared.walk.WalkFrame.{WalkFrame}
 use Rattle.algorithm_parts.specs.declared.walk.WalkFrame.TheVariants.{Waits, Members}
@@ -24,7 +24,7 @@ abbrev pub next_of : ℕ → ℕ → Bool → List ℕ → Parts → CancelReque
 next_of id place any seen p = ask_joined id (joined any (cancel_each cancel_with (rest_of id place p) seen p))
 
 abbrev pub finish : WalkFrame → CancelRequest → CancelRequest
-finish (Waits id task) request = marked_unless request.answer task request
+finish (Waits id task) request = must_cancel_unless request.answer task request
 finish (Members id place any) request = next_of id place (any || request.answer) request.seen request.parts
 
 abbrev pub resume : List WalkFrame → CancelRequest → CancelRequest

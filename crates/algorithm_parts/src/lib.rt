@@ -1,7 +1,7 @@
 #![tactic(auto)]
 
-pub mod forgetting;
 pub mod placing;
+pub mod releasing;
 pub mod rooms;
 pub mod stacks;
 mod walk;

@@ -6,7 +6,7 @@ ghost use Rattle.model_loop.specs.Futures.{settle, register, mark_asked, make_fu
 ghost use Rattle.model_loop.specs.Tasks.{change_task};
 ghost use Rattle.model_value.specs.Action.{Action};
 ghost use Rattle.model_value.specs.Value.{Outcome};
-ghost use Rattle.algorithm_parts.specs.Forgotten.{released};
+ghost use Rattle.algorithm_parts.specs.Released.{released};
 ghost use Rattle.algorithm_parts.specs.Open.{is_inner_kind, is_inner, room_of};
 
 /// Only a new future that is a task's own or stands for several needs more room. Where one ends, or

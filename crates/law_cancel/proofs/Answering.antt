@@ -8,7 +8,7 @@ use Rattle.model_loop.specs.Parts.{FutureKind, Plain, OfTask, Many, Future, Task
 use Rattle.model_loop.specs.Futures.{made_before}
 use Rattle.model_loop.specs.Tasks.{raise_count}
 use Rattle.model_loop.specs.Spent.{spent_kind, spent_until, spent_by, spent_below, is_spent}
-use Rattle.model_loop.specs.Cancel.{CancelRequest, Canceller, answers, has_seen, cancel_each, asked_where, marked_unless, cancel_waiter, cancel_unseen}
+use Rattle.model_loop.specs.Cancel.{CancelRequest, Canceller, answers, has_seen, cancel_each, asked_where, must_cancel_unless, cancel_waiter, cancel_unseen}
 use Rattle.model_loop.specs.Cancel.{cancel_task, cancel_kind, cancel_until, cancel_at, cancel_below, cancel_within, cancel_with}
 use Rattle.law_cancel.proofs.Total.{further}
 
@@ -48,13 +48,13 @@ spent_by_itself p id =
     spent_by_same (spent_below id p) (is_spent p) id (λ m below. spent_bounds id (suc m) p m below (omega arith)) (slice_get p.futures id)
 
 -- ---- a request to a task answers true
-marked_answers : (answer : Bool) (task : ℕ) (r : CancelRequest) → r.answer ≡ answer → (marked_unless answer task r).answer ≡ true
-marked_answers true task r e = e
-marked_answers false task r e = refl
+must_cancel_answers : (answer : Bool) (task : ℕ) (r : CancelRequest) → r.answer ≡ answer → (must_cancel_unless answer task r).answer ≡ true
+must_cancel_answers true task r e = e
+must_cancel_answers false task r e = refl
 
 waiter_answers : (cancel : Canceller) (task : ℕ) (waiter : Option ℕ) (s : List ℕ) (p : Parts) → (cancel_waiter cancel task waiter s p).answer ≡ true
 waiter_answers cancel task None s p = refl
-waiter_answers cancel task (Some waiter) s p = marked_answers (cancel waiter s p).answer task (cancel waiter s p) refl
+waiter_answers cancel task (Some waiter) s p = must_cancel_answers (cancel waiter s p).answer task (cancel waiter s p) refl
 
 unseen_answers : (cancel : Canceller) (id : ℕ) (o : Option Task) (s : List ℕ) (p : Parts) → (cancel_unseen cancel id o s p).answer ≡ true
 unseen_answers cancel id None s p = refl

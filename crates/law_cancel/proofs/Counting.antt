@@ -15,7 +15,7 @@ use Rattle.law_cancel.proofs.Lookups.{get-set_same, get-set_other, get-set_kept}
 use Rattle.law_cancel.proofs.Effects.{settle-futures, settle-tasks, done_as, mark_asked-futures, mark_asked-tasks, asked_as, change_task-there}
 use Rattle.law_cancel.proofs.Effects.{change_task-futures}
 use Rattle.law_cancel.proofs.Seen.{has_seen-append, has_seen_last, has_seen_other}
-use Rattle.law_cancel.proofs.Trace.{Goes, begins, settles, asks, raises, marks, goes-seen}
+use Rattle.law_cancel.proofs.Trace.{Goes, begins, settles, asks, raises, sets_must_cancel, goes-seen}
 
 -- what a function makes of each task is the same after a change that it doesn't see
 pub change_task-kept : {Y : Type 0} (f : Option Task → Y) (id : ℕ) (change : Task → Task) (p : Parts) → ((task : Task) → f (Some (change task)) ≡ f (Some task))
@@ -68,7 +68,7 @@ goes-counts {s} {p} (raises {t = t} {q = q} g id task n e) u = go (cases_eq u id
         ap (λ (ts : List Task). count_at (slice_get ts u)) there
         ∙ ap count_at (get-set_other q.tasks id u (record task { cancels = one_more task.cancels }) (λ x. other (sym x))) in
         rw (has_seen_other t id u other) (now ∙ ih)
-goes-counts (marks {q = q} g id) u =
+goes-counts (sets_must_cancel {q = q} g id) u =
     change_task-kept count_at id _ q (λ task. refl) u ∙ goes-counts g u
 
 -- ---- each task is visited once
@@ -92,7 +92,7 @@ goes-once (raises {t = t} g id task n e) h u = rw push (go (cases_eq u id) (goes
         let z : occurrences u t ≡ 0 = rw same (occurrences-unseen t id n) in
         rw (eq-eqb u id same, z) (omega arith)
     go (inr other) ih = rw (ne_eqb u id other) (omega arith)
-goes-once (marks g id) h u = goes-once g h u
+goes-once (sets_must_cancel g id) h u = goes-once g h u
 
 -- ---- a future that is done stays
 pub goes-done : {s : List ℕ} {p : Parts} {t : List ℕ} {q : Parts} → Goes s p t q → (j : ℕ) → is_pending p j ≡ false → slice_get q.futures j
@@ -118,7 +118,7 @@ goes-done {s} {p} (asks {q = q} g id future members asked e o k) j d =
     go (inr other) ih = get-set_other q.futures id j (asked_as future) other ∙ ih
 goes-done (raises {q = q} g id task n e) j d =
     ap (λ (fs : List Future). slice_get fs j) (change_task-futures id _ q) ∙ goes-done g j d
-goes-done (marks {q = q} g id) j d = ap (λ (fs : List Future). slice_get fs j) (change_task-futures id _ q) ∙ goes-done g j d
+goes-done (sets_must_cancel {q = q} g id) j d = ap (λ (fs : List Future). slice_get fs j) (change_task-futures id _ q) ∙ goes-done g j d
 
 -- ---- no future ends but by being cancelled
 abbrev pub OnlyCancelled : Option Outcome → Option Outcome → Type 0
@@ -144,4 +144,4 @@ goes-outcomes {s} {p} (settles {q = q} g id future e o k) j =
 goes-outcomes {s} {p} (asks {q = q} g id future members asked e o k) j =
     rw (mark_asked-futures id q future e, get-set_kept outcome_at q.futures id j future (asked_as future) e refl) (goes-outcomes g j)
 goes-outcomes (raises {q = q} g id task n e) j = rw (change_task-futures id _ q) (goes-outcomes g j)
-goes-outcomes (marks {q = q} g id) j = rw (change_task-futures id _ q) (goes-outcomes g j)
+goes-outcomes (sets_must_cancel {q = q} g id) j = rw (change_task-futures id _ q) (goes-outcomes g j)

@@ -1,5 +1,5 @@
 pub mod Answering
-pub mod Circling
+pub mod Cycling
 pub mod Counting
 pub mod Effects
 pub mod Lookups

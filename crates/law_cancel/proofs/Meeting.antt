@@ -6,7 +6,7 @@ use Rattle.model_value.specs.Value.{Outcome}
 use Rattle.model_loop.specs.Parts.{FutureKind, Plain, OfTask, Many, Future, Task, Parts}
 use Rattle.model_loop.specs.Futures.{is_pending_at, made_before}
 use Rattle.model_loop.specs.Tasks.{raise_count}
-use Rattle.model_loop.specs.Cancel.{CancelRequest, Canceller, answers, has_seen, cancel_each, asked_where, marked_unless, cancel_waiter, cancel_unseen}
+use Rattle.model_loop.specs.Cancel.{CancelRequest, Canceller, answers, has_seen, cancel_each, asked_where, must_cancel_unless, cancel_waiter, cancel_unseen}
 use Rattle.model_loop.specs.Cancel.{cancel_task, cancel_kind, cancel_until, cancel_at, cancel_by, cancel_below, cancel_within, cancel_with}
 use Rattle.model_loop.specs.Cancelling.{IsPendingAs, Cancels, done, plain, many, visited, task, no_task, CancelsEach, none, each, CancelsWaiter, waits_not}
 use Rattle.model_loop.specs.Cancelling.{waits}
@@ -138,6 +138,6 @@ mutual
       ∙ ap (then_each first) (only_each e)
 
   only_waiter : (t : ℕ) {o : Option ℕ} {s : List ℕ} {p : Parts} {r : CancelRequest} → CancelsWaiter o s p r
-      → cancel_waiter cancel_with t o s p ≡ marked_unless r.answer t r
+      → cancel_waiter cancel_with t o s p ≡ must_cancel_unless r.answer t r
   only_waiter t waits_not = refl
-  only_waiter t (waits c) = ap (λ (r : CancelRequest). marked_unless r.answer t r) (only_cancel c)
+  only_waiter t (waits c) = ap (λ (r : CancelRequest). must_cancel_unless r.answer t r) (only_cancel c)

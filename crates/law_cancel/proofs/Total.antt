@@ -7,7 +7,7 @@ use Rattle.model_value.specs.Value.{Outcome}
 use Rattle.model_loop.specs.Parts.{FutureKind, Plain, OfTask, Many, Future, Task, Parts}
 use Rattle.model_loop.specs.Futures.{made_before}
 use Rattle.model_loop.specs.Tasks.{raise_count}
-use Rattle.model_loop.specs.Cancel.{CancelRequest, Canceller, has_seen, cancel_each, asked_where, marked_unless, cancel_waiter, cancel_unseen, cancel_task}
+use Rattle.model_loop.specs.Cancel.{CancelRequest, Canceller, has_seen, cancel_each, asked_where, must_cancel_unless, cancel_waiter, cancel_unseen, cancel_task}
 use Rattle.model_loop.specs.Cancel.{cancel_kind, cancel_until, cancel_at, cancel_by, cancel_below, cancel_within, cancel_with}
 use Rattle.law_cancel.proofs.Effects.{length-change_task}
 use Rattle.law_cancel.proofs.Seen.{left, left_le, left-push}
@@ -49,7 +49,7 @@ module _ (F G V W : Canceller) (id : ℕ) (s : List ℕ) (p : Parts)
     where
       go : (waiter : Option ℕ) → cancel_waiter V t waiter (s ++ t ∷ []) (raise_count t p) ≡ cancel_waiter W t waiter (s ++ t ∷ []) (raise_count t p)
       go None = refl
-      go (Some w) = ap (λ (r : CancelRequest). marked_unless r.answer t r) (waiter_same t task w n e)
+      go (Some w) = ap (λ (r : CancelRequest). must_cancel_unless r.answer t r) (waiter_same t task w n e)
 
   task_same : (seen : Bool) (t : ℕ) → has_seen s t ≡ seen → cancel_task V seen t s p ≡ cancel_task W seen t s p
   task_same true t n = refl

@@ -5,8 +5,8 @@ use Rattle.model_value.specs.declared.outcome.Outcome.TheVariants.{Cancelled}
 use Rattle.model_value.specs.Value.{Outcome}
 use Rattle.model_loop.specs.Parts.{FutureKind, Plain, OfTask, Many, Future, Task, Parts}
 use Rattle.model_loop.specs.Futures.{made_before, settle, mark_asked}
-use Rattle.model_loop.specs.Tasks.{mark, raise_count}
-use Rattle.model_loop.specs.Cancel.{CancelRequest, Canceller, has_seen, cancel_each, asked_where, marked_unless, cancel_waiter, cancel_unseen, cancel_task}
+use Rattle.model_loop.specs.Tasks.{set_must_cancel, raise_count}
+use Rattle.model_loop.specs.Cancel.{CancelRequest, Canceller, has_seen, cancel_each, asked_where, must_cancel_unless, cancel_waiter, cancel_unseen, cancel_task}
 use Rattle.model_loop.specs.Cancel.{cancel_kind, cancel_until, cancel_at, cancel_by, cancel_below, cancel_within, cancel_with}
 use Rattle.law_cancel.proofs.Lookups.{get-set_kept}
 use Rattle.law_cancel.proofs.Effects.{settle-futures, settle-tasks, done_as, mark_asked-futures, mark_asked-tasks, asked_as, length-change_task}
@@ -25,15 +25,15 @@ pub data Goes (s : List ℕ) (p : Parts) : List ℕ → Parts → Type 0 where
   -- a task that wasn't visited counts
   raises : {t : List ℕ} {q : Parts} → Goes s p t q → (id : ℕ) (task : Task) → has_seen t id ≡ false → slice_get q.tasks id ≡ Some task
       → Goes s p (t ++ id ∷ []) (raise_count id q)
-  -- a task is marked
-  marks : {t : List ℕ} {q : Parts} → Goes s p t q → (id : ℕ) → Goes s p t (mark id q)
+  -- a task must cancel
+  sets_must_cancel : {t : List ℕ} {q : Parts} → Goes s p t q → (id : ℕ) → Goes s p t (set_must_cancel id q)
 
 pub goes_on : {s t : List ℕ} {p q : Parts} {u : List ℕ} {r : Parts} → Goes s p t q → Goes t q u r → Goes s p u r
 goes_on g begins = g
 goes_on g (settles h id future e o k) = settles (goes_on g h) id future e o k
 goes_on g (asks h id future members asked e o k) = asks (goes_on g h) id future members asked e o k
 goes_on g (raises h id task n e) = raises (goes_on g h) id task n e
-goes_on g (marks h id) = marks (goes_on g h) id
+goes_on g (sets_must_cancel h id) = sets_must_cancel (goes_on g h) id
 
 -- the tasks stay as many
 pub goes-tasks : {s : List ℕ} {p : Parts} {t : List ℕ} {q : Parts} → Goes s p t q → length q.tasks ≡ length p.tasks
@@ -41,7 +41,7 @@ goes-tasks begins = refl
 goes-tasks (settles {q = q} g id future e o k) = ap length (settle-tasks id Cancelled q) ∙ goes-tasks g
 goes-tasks (asks {q = q} g id future members asked e o k) = ap length (mark_asked-tasks id q) ∙ goes-tasks g
 goes-tasks (raises {q = q} g id task n e) = length-change_task id _ q ∙ goes-tasks g
-goes-tasks (marks {q = q} g id) = length-change_task id _ q ∙ goes-tasks g
+goes-tasks (sets_must_cancel {q = q} g id) = length-change_task id _ q ∙ goes-tasks g
 
 -- more and more tasks were visited
 pub goes-seen : {s : List ℕ} {p : Parts} {t : List ℕ} {q : Parts} → Goes s p t q → (u : List ℕ) × (t ≡ s ++ u)
@@ -51,7 +51,7 @@ goes-seen (asks g id future members asked e o k) = goes-seen g
 goes-seen {s} (raises g id task n e) =
     let h = goes-seen g in
     (h.0 ++ id ∷ [], ap (λ (x : List ℕ). x ++ id ∷ []) h.1 ∙ append_assoc s h.0 (id ∷ []))
-goes-seen (marks g id) = goes-seen g
+goes-seen (sets_must_cancel g id) = goes-seen g
 
 pub goes-left : {s : List ℕ} {p : Parts} {t : List ℕ} {q : Parts} (n : ℕ) → Goes s p t q → left n t ≤ left n s
 goes-left {s} n g = let h = goes-seen g in rw h.1 (left_falls n s h.0)
@@ -80,7 +80,7 @@ goes-many (asks {q = q} g id future members asked e o k) j =
     ∙ get-set_kept is_pending_many q.futures id j future (asked_as future) e (rw (o, k)) ∙ goes-many g j
 goes-many (raises {q = q} g id task n e) j =
     ap (λ (fs : List Future). is_pending_many (slice_get fs j)) (change_task-futures id _ q) ∙ goes-many g j
-goes-many (marks {q = q} g id) j =
+goes-many (sets_must_cancel {q = q} g id) j =
     ap (λ (fs : List Future). is_pending_many (slice_get fs j)) (change_task-futures id _ q) ∙ goes-many g j
 
 -- ---- a request is such a row
@@ -123,14 +123,14 @@ asked_row s p true id r g h =
     let m = many_there (slice_get r.parts.futures id) h in
     asks g id m.future m.members m.asked m.there m.pending m.many
 
-marked_row : (s : List ℕ) (p : Parts) (answer : Bool) (task : ℕ) (r : CancelRequest) → Row s p r → Row s p (marked_unless answer task r)
-marked_row s p true task r g = g
-marked_row s p false task r g = marks g task
+must_cancel_row : (s : List ℕ) (p : Parts) (answer : Bool) (task : ℕ) (r : CancelRequest) → Row s p r → Row s p (must_cancel_unless answer task r)
+must_cancel_row s p true task r g = g
+must_cancel_row s p false task r g = sets_must_cancel g task
 
 waiter_row : (cancel : Canceller) → IsRow cancel → (task : ℕ) (waiter : Option ℕ) (s : List ℕ) (p : Parts) → Row s p (cancel_waiter cancel task waiter s p)
-waiter_row cancel row task None s p = marks begins task
+waiter_row cancel row task None s p = sets_must_cancel begins task
 waiter_row cancel row task (Some waiter) s p =
-    let r = cancel waiter s p in marked_row s p r.answer task r (row waiter s p)
+    let r = cancel waiter s p in must_cancel_row s p r.answer task r (row waiter s p)
 
 unseen_row : (cancel : Canceller) → IsRow cancel → (id : ℕ) (o : Option Task) (s : List ℕ) (p : Parts) → slice_get p.tasks id ≡ o → has_seen s id ≡ false
     → Row s p (cancel_unseen cancel id o s p)

@@ -1,5 +1,5 @@
-//! Laws of cancel requests, and of waits that would stand in a circle.
+//! Laws of cancel requests, and of waits that would stand in a cycle.
 #![tactic(auto)]
 
 pub mod cancels;
-pub mod circles;
+pub mod cycles;

@@ -25,7 +25,7 @@ use Rattle.model_value.specs.Input.{Input}
 use Rattle.model_machine.specs.Replies.{RequestReply, Answers, Raises, Halts, decides, given, numbered_if, replied, reply, drains, drains_as, reads}
 use Rattle.model_machine.specs.Replies.{reads_as, reads_all, reads_all_as, streams_change, waits_no_more}
 use Rattle.model_machine.specs.Sound.{IsClosed, sends_made}
-use Rattle.model_machine.specs.State.{Standing, Asked, Sleeping, Leaving, Serving, Connecting, Yielding, Reading, ReadingAll, State, with_streams}
+use Rattle.model_machine.specs.State.{ResumePoint, Asked, Sleeping, Leaving, Serving, Connecting, Yielding, Reading, ReadingAll, State, with_streams}
 use Rattle.model_machine.specs.Extra.{Extra}
 use Rattle.model_machine.specs.Turn.{effect, has_returned, made_by, streams_go}
 use Rattle.model_machine.specs.Went.{Goes}
@@ -207,8 +207,8 @@ module _ {S : Type 0} (s : State S) (closed : IsClosed s) where
   gives_up_none on (OfChild pipe id) = ap (λ streams. with_streams (give_up_read on (OfChild pipe id) streams) s) closed ∙ unchanged
 
   -- What is heard at such a request, where nothing is open: the input, or an answer that names no task.
-  pub decides_none : (added : Extra S) (task : ℕ) (standing : Standing) (heard : Input) → stands_at_streams standing ≡ true
-      → (said : Input) × (decides added standing task heard s ≡ replied said s)
+  pub decides_none : (added : Extra S) (task : ℕ) (resume_point : ResumePoint) (heard : Input) → stands_at_streams resume_point ≡ true
+      → (said : Input) × (decides added resume_point task heard s ≡ replied said s)
       × ((made : ℕ) → sends_made made heard ≡ true → sends_made made said ≡ true)
   decides_none added task (Connecting conn) (Send value) is = (Send value, refl, λ made h. h)
   decides_none added task (Connecting conn) (Throw fault) is = (Throw fault, drops_none conn fault, λ made h. h)

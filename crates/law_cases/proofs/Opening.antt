@@ -251,7 +251,7 @@ module _ (own : ℕ → Bool) (first : ℕ) where
       one_child id (lose_child id broken) s kept (λ limit Left p h each. child_loses own limit Left first each id broken p h)
   acts returned (action.Made id) s kept = still first s kept
   acts returned (action.Step task) s kept = still first s kept
-  acts returned (action.StepInCircle task circle) s kept = still first s kept
+  acts returned (action.StepInCycle task cycle) s kept = still first s kept
   acts returned (action.Wakeup task) s kept = still first s kept
   acts returned (action.SleepDone task future) s kept = still first s kept
   acts returned (action.GroupDone group task) s kept = still first s kept

@@ -45,7 +45,7 @@ use Rattle.model_machine.specs.Replies.{reads, reads_all, reads_all_as, reads_as
 use Rattle.model_machine.specs.Replies.{streams_change, streams_do, to_port, to_port_if, waits_no_more}
 use Rattle.model_machine.specs.Replies.{writes_as}
 use Rattle.model_machine.specs.Sound.{AreStreamsFutures, IsOpenedAt, IsOpenedReader, IsOpenedWriter, stands_at}
-use Rattle.model_machine.specs.State.{Standing, Asked, Sleeping, Leaving, Serving, Connecting, Yielding, Reading, ReadingAll, State, with_streams}
+use Rattle.model_machine.specs.State.{ResumePoint, Asked, Sleeping, Leaving, Serving, Connecting, Yielding, Reading, ReadingAll, State, with_streams}
 use Rattle.law_cases.specs.Trees.{AllWaits, AnswersStreams, ConnectWaits, ConnectsStreams, DrainWaits, ExitWaits, IsKnown}
 use Rattle.law_cases.specs.Trees.{IsMade, Keeping, KeepsStreams, ReadWaits, WaitsNever}
 use Rattle.law_cases.proofs.Composing.{streams_more}
@@ -121,7 +121,7 @@ module _ {S : Type 0} (s t : State S) (streams : Streams) (it : IsStreamsEnd s t
   reader_on (OfConn id) h = let a = it.connections in omega (arith, a, h)
   reader_on (OfChild pipe id) h = let a = it.children in omega (arith, a, h)
 
-module _ {S : Type 0} (task : ℕ) (stood : Standing) (s : State S) (asked : Request) where
+module _ {S : Type 0} (task : ℕ) (stood : ResumePoint) (s : State S) (asked : Request) where
   abbrev Is : RequestReply S → Type 0
   Is it = StreamReplies task stood s asked it
 
@@ -379,12 +379,12 @@ module _ {S : Type 0} (added : Extra S) (task : ℕ) (s : State S) (kept : AreSt
   streams_reply _ is = absurd (false≢true is)
 
 -- ---- what a task stands at: a read that was resumed waits no more
-abbrev pub woken_at : {S : Type 0} → Standing → State S → State S
+abbrev pub woken_at : {S : Type 0} → ResumePoint → State S → State S
 woken_at (Reading from op on) s = waits_no_more on from s
 woken_at (ReadingAll from taken on) s = waits_no_more on from s
 woken_at _ s = s
 
-pub woken_kept : {S : Type 0} (standing : Standing) (s : State S) → AreStreamsFutures s → AreStreamsFutures (woken_at standing s)
+pub woken_kept : {S : Type 0} (resume_point : ResumePoint) (s : State S) → AreStreamsFutures s → AreStreamsFutures (woken_at resume_point s)
 woken_kept Asked s kept = kept
 woken_kept (Sleeping tag) s kept = kept
 woken_kept (Leaving group) s kept = kept
@@ -399,10 +399,11 @@ drain_stands whom (request.Drain stream) h = refl
 drain_stands whom _ h = absurd (false≢true h)
 
 -- either the input is handed on, or a tree goes on
-pub streams_decide : {S : Type 0} (added : Extra S) (task : ℕ) (s : State S) → AreStreamsFutures s → (asked : Request) (standing : Standing) (input : Input)
-    → stands_at_streams standing ≡ true → stands_at standing asked ≡ true
-    → ((value : Value) × (input ≡ Send value) × (decides added standing task input s ≡ Answers value s))
-    ⊎ StreamReplies task standing (woken_at standing s) asked (decides added standing task input s)
+pub streams_decide : {S : Type 0} (added : Extra S) (task : ℕ) (s : State S) → AreStreamsFutures s
+    → (asked : Request) (resume_point : ResumePoint) (input : Input)
+    → stands_at_streams resume_point ≡ true → stands_at resume_point asked ≡ true
+    → ((value : Value) × (input ≡ Send value) × (decides added resume_point task input s ≡ Answers value s))
+    ⊎ StreamReplies task resume_point (woken_at resume_point s) asked (decides added resume_point task input s)
 streams_decide added task s kept asked (Connecting conn) (Send value) is may = inl (value, refl, refl)
 streams_decide added task s kept asked (Connecting conn) (Throw fault) is may = inr (drops_is task (Connecting conn) s asked kept conn fault)
 streams_decide added task s kept asked (Yielding whom) (Send value) is may =

@@ -2,7 +2,7 @@
 use Rattle.std.specs.Prelude.{Bool, true, false}
 use Rattle.model_value.specs.declared.request.Request.TheVariants as request
 use Rattle.model_value.specs.Request.{Request}
-use Rattle.model_machine.specs.State.{Standing, Asked, Sleeping, Leaving, Serving, Connecting, Yielding, Reading, ReadingAll}
+use Rattle.model_machine.specs.State.{ResumePoint, Asked, Sleeping, Leaving, Serving, Connecting, Yielding, Reading, ReadingAll}
 
 abbrev pub is_to_streams : Request → Bool
 is_to_streams (request.Listen port coroutine) = true
@@ -24,7 +24,7 @@ is_to_streams (request.ReturnCode child) = true
 is_to_streams (request.Kill child) = true
 is_to_streams _ = false
 
-abbrev pub stands_at_streams : Standing → Bool
+abbrev pub stands_at_streams : ResumePoint → Bool
 stands_at_streams Asked = false
 stands_at_streams (Sleeping tag) = false
 stands_at_streams (Leaving group) = false

@@ -10,20 +10,20 @@ use Rattle.model_loop.specs.Futures.{is_pending}
 use Rattle.model_loop.specs.Tasks.{next_task, pause}
 use Rattle.model_stream.specs.Streams.{Streams}
 use Rattle.model_machine.specs.Outcomes.{input_of}
-use Rattle.model_machine.specs.Replies.{RequestReply, Answers, Raises, Rests, Halts, ended, most_ids, replied, waits}
+use Rattle.model_machine.specs.Replies.{RequestReply, Answers, Raises, Suspends, Halts, ended, most_ids, replied, waits}
 use Rattle.model_machine.specs.Sound.{IsOpenedAt, IsOpenedWriter, stands_at}
-use Rattle.model_machine.specs.State.{Standing, Asked, Yielding, State, stands, unbooked_in, with_streams}
+use Rattle.model_machine.specs.State.{ResumePoint, Asked, Yielding, State, stands, unbooked_in, with_streams}
 use Rattle.model_machine.specs.Turn.{handled_if}
 use Rattle.model_machine.specs.Went.{Went, Goes, Stops}
 use Rattle.law_cases.specs.Cases.{NamesNoTask}
 use Rattle.law_cases.specs.Closed.{stands_at_streams}
 use Rattle.law_cases.specs.TreeEnd.{IsStreamsEnd, IsTreeEnd}
 
-pub data StreamReplies {S : Type 0} (task : ℕ) (stood : Standing) (s : State S) (asked : Request) : RequestReply S → Type 0 where
+pub data StreamReplies {S : Type 0} (task : ℕ) (stood : ResumePoint) (s : State S) (asked : Request) : RequestReply S → Type 0 where
   refuses : (fault : Exc) → StreamReplies task stood s asked (Raises fault s)
   tells : (value : Value) → NamesNoTask value → StreamReplies task stood s asked (Answers value s)
   hands_on : (on : ℕ) (outcome : Outcome) → ended s on ≡ Some outcome → StreamReplies task stood s asked (replied (input_of outcome) s)
-  awaits : (on : ℕ) → is_pending s.loop.parts on ≡ true → stands_at Asked asked ≡ true → StreamReplies task stood s asked (Rests (waits task on s))
+  awaits : (on : ℕ) → is_pending s.loop.parts on ≡ true → stands_at Asked asked ≡ true → StreamReplies task stood s asked (Suspends (waits task on s))
   -- in a tree a call has no answer that fits
   halts : (how : End) (last : State S) → IsTreeEnd s last → StreamReplies task stood s asked (Halts how last)
   -- after a tree
@@ -32,14 +32,14 @@ pub data StreamReplies {S : Type 0} (task : ℕ) (stood : Standing) (s : State S
   raises : (t : State S) (streams : Streams) (fault : Exc) → IsStreamsEnd s t streams
       → StreamReplies task stood s asked (Raises fault (with_streams streams t))
   waits_on : (t : State S) (streams : Streams) (on : ℕ) → IsStreamsEnd s t streams → is_pending t.loop.parts on ≡ true
-      → stands_at Asked asked ≡ true → StreamReplies task stood s asked (Rests (waits task on (with_streams streams t)))
-  stands_on : (t : State S) (streams : Streams) (standing : Standing) (on : ℕ) → IsStreamsEnd s t streams
-      → is_pending t.loop.parts on ≡ true → stands_at_streams standing ≡ true → stands_at standing asked ≡ true
-      → (IsOpenedAt s.streams stood → IsOpenedAt streams standing)
-      → StreamReplies task stood s asked (Rests (stands standing task (waits task on (with_streams streams t))))
+      → stands_at Asked asked ≡ true → StreamReplies task stood s asked (Suspends (waits task on (with_streams streams t)))
+  stands_on : (t : State S) (streams : Streams) (resume_point : ResumePoint) (on : ℕ) → IsStreamsEnd s t streams
+      → is_pending t.loop.parts on ≡ true → stands_at_streams resume_point ≡ true → stands_at resume_point asked ≡ true
+      → (IsOpenedAt s.streams stood → IsOpenedAt streams resume_point)
+      → StreamReplies task stood s asked (Suspends (stands resume_point task (waits task on (with_streams streams t))))
   yields : (t : State S) (streams : Streams) (whom : Handed) → IsStreamsEnd s t streams → stands_at (Yielding whom) asked ≡ true
       → (IsOpenedAt s.streams stood → IsOpenedWriter streams whom)
-      → StreamReplies task stood s asked (Rests (stands (Yielding whom) task (unbooked_in (pause task) (with_streams streams t))))
+      → StreamReplies task stood s asked (Suspends (stands (Yielding whom) task (unbooked_in (pause task) (with_streams streams t))))
 
 pub data StreamGoes {S : Type 0} (s : State S) : Went S → Type 0 where
   stays_so : StreamGoes s (Goes s)

@@ -6,15 +6,15 @@ use Rattle.std.specs.List.{count_by}
 use Rattle.std.proofs.lemmas.Bool.{cases_eq, cases_Bool, eq-eqb, ne_eqb, ltb-false, ltb-true}
 use Rattle.std.proofs.lemmas.List.Sums.{sum_by-cons}
 use Rattle.model_value.specs.Number.{most}
-use Rattle.model_value.specs.Action.{Circle}
+use Rattle.model_value.specs.Action.{CycleKind}
 use Rattle.model_value.specs.declared.action.Action.TheVariants.{Wakeup}
 use Rattle.model_loop.specs.Parts.{Task, Parts}
-use Rattle.model_loop.specs.Tasks.{cancelling, one_more, uncancel, future_of, lives, is_marked, unmark}
+use Rattle.model_loop.specs.Tasks.{cancelling, one_more, uncancel, future_of, lives, must_cancel_of, clear_must_cancel}
 use Rattle.model_loop.specs.Numbered.{occurrences}
 use Rattle.model_loop.specs.Cancel.{has_seen, cancel}
 use Rattle.model_loop.specs.Ledger.{Origin, LedgerEntry, Asked, Raised, Took, raised_among, ask_cancel, request_where, request_each, uncancel_by, ByWait}
 use Rattle.model_loop.specs.Futures.{register}
-use Rattle.model_loop.specs.Circles.{circle}
+use Rattle.model_loop.specs.Cycles.{cycle}
 use Rattle.model_loop.specs.Suspend.{wait_on, cancel_wait, suspend_unless, suspend}
 use Rattle.model_loop.specs.Balance.{raises, lowers, Balances}
 use Rattle.law_cancel.proofs.Counting.{goes-counts, goes-once, occurrences-unseen, change_task-kept}
@@ -183,28 +183,28 @@ wait_on-count task on p u =
     change_task-kept count_at task _ (register on (Wakeup task) p) (λ t. refl) u
     ∙ ap (λ (ts : List Task). count_at (slice_get ts u)) (register-tasks on (Wakeup task) p)
 
-unmark_if-count : (b : Bool) (task : ℕ) (p : Parts) (u : ℕ) → cancelling (cond b (unmark task p) p) u ≡ cancelling p u
-unmark_if-count true task p u = change_task-kept count_at task _ p (λ t. refl) u
-unmark_if-count false task p u = refl
+clear_must_cancel_if-count : (b : Bool) (task : ℕ) (p : Parts) (u : ℕ) → cancelling (cond b (clear_must_cancel task p) p) u ≡ cancelling p u
+clear_must_cancel_if-count true task p u = change_task-kept count_at task _ p (λ t. refl) u
+clear_must_cancel_if-count false task p u = refl
 
 pub suspend_balances : (task on : ℕ) (p : Parts) → Balances p (suspend task on p)
-suspend_balances task on p u = at (circle p task on)
+suspend_balances task on p u = at (cycle p task on)
   where
     kept : cancelling (wait_on task on p) u ≡ cancelling p u
     kept = wait_on-count task on p u
 
-    marked : (b : Bool) → cancelling (cancel_wait b task on (wait_on task on p)).parts u + count_by (lowers u)
+    must_cancel : (b : Bool) → cancelling (cancel_wait b task on (wait_on task on p)).parts u + count_by (lowers u)
         (cancel_wait b task on (wait_on task on p)).entries ≡ cancelling p u + count_by (raises u) (cancel_wait b task on (wait_on task on p)).entries
-    marked false = ap (λ n. n + 0) kept
-    marked true =
+    must_cancel false = ap (λ n. n + 0) kept
+    must_cancel true =
         let asked = ask_cancel (ByWait task) on (wait_on task on p) in
-        let k = unmark_if-count (cancel on (wait_on task on p)).answer task asked.parts u in
+        let k = clear_must_cancel_if-count (cancel on (wait_on task on p)).answer task asked.parts u in
         ap (λ n. n + count_by (lowers u) asked.entries) k
         ∙ request_balances (ByWait task) on (wait_on task on p) u
         ∙ ap (λ n. n + count_by (raises u) asked.entries) kept
 
-    at : (o : Option Circle)
+    at : (o : Option CycleKind)
         → cancelling (suspend_unless o task on p).parts u + count_by (lowers u) (suspend_unless o task on p).entries ≡ cancelling p u + count_by (raises u)
         (suspend_unless o task on p).entries
     at (Some why) = refl
-    at None = marked (is_marked p task)
+    at None = must_cancel (must_cancel_of p task)

@@ -21,7 +21,8 @@ use Rattle.law_cancel.proofs.Effects.{mark_asked-tasks, register-tasks, settle-t
 use Rattle.law_changes.proofs.Counting.{count-append}
 use Rattle.law_changes.proofs.Balancing.{count_at, request_balances, uncancel_balances}
 use Rattle.law_changes.specs.Changes.{PartsChange, CallsSoon, CallsLater, Revokes, MakesFuture, Settles, Registers, KeepsAsked, MakesTask, WaitsFor}
-use Rattle.law_changes.specs.Changes.{Marks, Unmarks, Counts, Uncounts, Passes, FallsDue, LeavesPending, MayAlone, made_of_parts, LoopChange, OfParts}
+use Rattle.law_changes.specs.Changes.{SetsMustCancel, ClearsMustCancel, Counts, Uncounts, Passes, FallsDue, LeavesPending, MayAlone, made_of_parts, LoopChange}
+use Rattle.law_changes.specs.Changes.{OfParts}
 use Rattle.law_changes.specs.Changes.{MakesTimeout, ChangesTimeout, MakesGroup, ChangesGroup, AsksCancel, TakesBack, BeginsExit, MayInLoop}
 use Rattle.law_changes.specs.Changes.{made_of_loop}
 use Rattle.law_changes.specs.Reaches.{LoopReaches}
@@ -66,8 +67,8 @@ part_counts runner (Registers future action) p may = tasks_count (register futur
 part_counts runner (KeepsAsked future) p may = tasks_count (mark_asked future) p (mark_asked-tasks future p)
 part_counts runner MakesTask p may = spawn_counts p
 part_counts runner (WaitsFor id on) p may = λ task. change_task-kept count_at id _ p (λ t. refl) task
-part_counts runner (Marks id) p may = λ task. change_task-kept count_at id _ p (λ t. refl) task
-part_counts runner (Unmarks id) p may = λ task. change_task-kept count_at id _ p (λ t. refl) task
+part_counts runner (SetsMustCancel id) p may = λ task. change_task-kept count_at id _ p (λ t. refl) task
+part_counts runner (ClearsMustCancel id) p may = λ task. change_task-kept count_at id _ p (λ t. refl) task
 part_counts runner (Counts id) p may = absurd may
 part_counts runner (Uncounts id) p may = absurd may
 part_counts runner (Passes now) p may = absurd cc

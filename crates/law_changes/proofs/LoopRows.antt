@@ -2,7 +2,7 @@
 use Rattle.std.proofs.Common.{ℕ, ℤ, refl, sym, append-nil, Bool, true, false, List, ◌++◌}
 use Rattle.std.proofs.Common.{Option, Some, None, if◌then◌else◌}
 use Rattle.std.specs.List.{range_with_len}
-use Rattle.model_value.specs.Action.{Circle}
+use Rattle.model_value.specs.Action.{CycleKind}
 use Rattle.model_value.specs.declared.action.Action.TheVariants as action
 use Rattle.model_value.specs.Input.{Input}
 use Rattle.model_value.specs.Value.{Exc}
@@ -13,8 +13,8 @@ use Rattle.model_loop.specs.Ledger.{Origin, ByEnd, ByTimeout, ByWait, ask_cancel
 use Rattle.model_loop.specs.Ledger.{uncancel_by}
 use Rattle.model_loop.specs.Loop.{Loop, TimeoutState, Created, Active, Expiring, Expired, Finished, book}
 use Rattle.model_loop.specs.Parts.{Parts}
-use Rattle.model_loop.specs.Tasks.{future_of, is_marked, next_task, unmark}
-use Rattle.model_loop.specs.Circles.{circle}
+use Rattle.model_loop.specs.Tasks.{future_of, must_cancel_of, next_task, clear_must_cancel}
+use Rattle.model_loop.specs.Cycles.{cycle}
 use Rattle.model_loop.specs.Handles.{soon}
 use Rattle.model_loop.specs.Suspend.{cancel_wait, suspend, suspend_unless, wait_on}
 use Rattle.model_loop.specs.Timeouts.{enter_timeout, exit_timeout, fire, is_active, leave_from, make_timeout, next_timeout, reschedule}
@@ -22,7 +22,7 @@ use Rattle.model_loop.specs.Timeouts.{reschedule_where, schedule}
 use Rattle.model_loop.specs.Timeouts.{timeout_of, without_handle}
 use Rattle.law_changes.specs.Blocks.{OfSchedule, gives_up, fires_soon, fires_later, tags, OfGroup, changes, aborts, waits, wakes, OfTold, in_told, requests}
 use Rattle.law_changes.specs.Blocks.{asks, OfTaking, in_taking, takes, OfEnding, in_ending, ends, OfCreating, in_creating, spawns, registers}
-use Rattle.law_changes.specs.Changes.{LoopChange, MayInLoop, CallsSoon, Registers, Unmarks, WaitsFor, OfParts, MakesTimeout}
+use Rattle.law_changes.specs.Changes.{LoopChange, MayInLoop, CallsSoon, Registers, ClearsMustCancel, WaitsFor, OfParts, MakesTimeout}
 use Rattle.law_changes.specs.Changes.{ChangesTimeout, MakesGroup, ChangesGroup, AsksCancel, TakesBack, BeginsExit}
 use Rattle.law_changes.specs.Reaches.{ReachAlone, LoopReaches, stays, goes}
 use Rattle.law_changes.proofs.BlockRows.{as_ledger, each_in, schedule_in, without_in, child_done_in, heard_in, taken_in, wait_or_end_in, create_in}
@@ -123,7 +123,7 @@ module _ (r : Option ℕ) where
 
 -- ---- the task that runs waits
 pub suspend_row : (task id : ℕ) (l : Loop) → LoopReaches (Some task) l (book (suspend task id) l)
-suspend_row task id l = at (circle l.parts task id)
+suspend_row task id l = at (cycle l.parts task id)
   where
     waits : LoopReaches (Some task) l (record l { parts = wait_on task id l.parts })
     waits = goes (one (OfParts (Registers id (action.Wakeup task))) refl) (OfParts (WaitsFor task (Some id))) refl
@@ -132,17 +132,17 @@ suspend_row task id l = at (circle l.parts task id)
     asked = on waits (one (AsksCancel (ByWait task) id) tt)
 
     answered : (b : Bool) → LoopReaches (Some task) l (record l {
-      parts = let q = (ask_cancel (ByWait task) id (wait_on task id l.parts)).parts in if b then unmark task q else q;
+      parts = let q = (ask_cancel (ByWait task) id (wait_on task id l.parts)).parts in if b then clear_must_cancel task q else q;
       ledger = l.ledger ++ (ask_cancel (ByWait task) id (wait_on task id l.parts)).entries;
     })
-    answered true = goes asked (OfParts (Unmarks task)) refl
+    answered true = goes asked (OfParts (ClearsMustCancel task)) refl
     answered false = asked
 
     cancelled : (b : Bool) → LoopReaches (Some task) l (book (λ q. cancel_wait b task id (wait_on task id l.parts)) l)
     cancelled true = answered (request (ByWait task) id (wait_on task id l.parts)).answer
     cancelled false = as_ledger l (wait_on task id l.parts) (sym (append-nil l.ledger)) waits
 
-    at : (o : Option Circle) → LoopReaches (Some task) l (book (λ q. suspend_unless o task id l.parts) l)
+    at : (o : Option CycleKind) → LoopReaches (Some task) l (book (λ q. suspend_unless o task id l.parts) l)
     at (Some why) =
-        as_ledger l (soon (action.StepInCircle task why) l.parts) (sym (append-nil l.ledger)) (one (OfParts (CallsSoon (action.StepInCircle task why))) refl)
-    at None = cancelled (is_marked l.parts task)
+        as_ledger l (soon (action.StepInCycle task why) l.parts) (sym (append-nil l.ledger)) (one (OfParts (CallsSoon (action.StepInCycle task why))) refl)
+    at None = cancelled (must_cancel_of l.parts task)

@@ -4,7 +4,7 @@ use Rattle.model_loop.specs.Loop.{Loop}
 use Rattle.model_loop.specs.Parts.{Parts}
 use Rattle.law_changes.specs.Changes.{OfParts, MakesTimeout, ChangesTimeout, MakesGroup, ChangesGroup, AsksCancel, TakesBack, BeginsExit, Uncounts}
 use Rattle.law_changes.specs.Changes.{PartsChange, CallsSoon, CallsLater, Revokes, MakesFuture, Settles, Registers, KeepsAsked, MakesTask, WaitsFor}
-use Rattle.law_changes.specs.Changes.{Marks, Unmarks, Counts, Passes, FallsDue, LeavesPending, MayAlone, MayInParts}
+use Rattle.law_changes.specs.Changes.{SetsMustCancel, ClearsMustCancel, Counts, Passes, FallsDue, LeavesPending, MayAlone, MayInParts}
 use Rattle.law_changes.specs.Reaches.{LoopReaches, PartsReach, stays, goes}
 use Rattle.law_changes.proofs.PartsRows.{cancel_row}
 use Rattle.law_changes.proofs.Folds.{on}
@@ -21,8 +21,8 @@ alone r (Registers future action) p may = may
 alone r (KeepsAsked future) p may = may
 alone r MakesTask p may = may
 alone r (WaitsFor task on) p may = may
-alone r (Marks task) p may = may
-alone r (Unmarks task) p may = may
+alone r (SetsMustCancel task) p may = may
+alone r (ClearsMustCancel task) p may = may
 alone r (Passes now) p may = may
 alone r FallsDue p may = may
 alone r (LeavesPending rest) p may = may

@@ -1,22 +1,24 @@
 -- What the loop does to its parts is a row of changes.
 use Rattle.std.proofs.Common.{ℕ, zero, suc, refl, Bool, true, false, List, [], ◌∷◌, ◌++◌, Option, Some, None, Result, Ok, Err, length, slice_get}
 use Rattle.std.proofs.Common.{if◌then◌else◌}
-use Rattle.model_value.specs.Action.{Circle}
-use Rattle.model_value.specs.declared.action.Action.TheVariants.{StepInCircle, Wakeup}
+use Rattle.model_value.specs.Action.{CycleKind}
+use Rattle.model_value.specs.declared.action.Action.TheVariants.{StepInCycle, Wakeup}
 use Rattle.model_value.specs.declared.outcome.Outcome.TheVariants.{Cancelled}
 use Rattle.model_value.specs.Input.{Input}
 use Rattle.model_value.specs.Value.{Value, Exc, Outcome}
 use Rattle.model_loop.specs.Cancel.{CancelRequest, Canceller, cancel, cancel_at, cancel_below, cancel_by, cancel_each, cancel_kind, cancel_task}
 use Rattle.model_loop.specs.Cancel.{cancel_unseen, cancel_until}
-use Rattle.model_loop.specs.Cancel.{cancel_waiter, cancel_within, asked_where, has_seen, marked_unless}
+use Rattle.model_loop.specs.Cancel.{cancel_waiter, cancel_within, asked_where, has_seen, must_cancel_unless}
 use Rattle.model_loop.specs.Futures.{made_before}
 use Rattle.model_loop.specs.Ledger.{Origin, request_each, request_where}
 use Rattle.model_loop.specs.Parts.{Future, FutureKind, Plain, OfTask, Many, Parts, Task}
-use Rattle.model_loop.specs.Circles.{circle}
+use Rattle.model_loop.specs.Cycles.{cycle}
 use Rattle.model_loop.specs.Suspend.{cancel_wait, suspend, suspend_unless, wait_on}
-use Rattle.model_loop.specs.Tasks.{begin_step, finish, future_of, is_marked, lives, unmark}
-use Rattle.law_changes.specs.Blocks.{OfRequest, cancels, keeps_asked, counts, marks, OfWait, circles, registers_step, begins_wait, in_wait, unmarks}
-use Rattle.law_changes.specs.Changes.{PartsChange, MayInParts, made_of_parts, CallsSoon, Settles, Registers, KeepsAsked, WaitsFor, Marks, Unmarks, Counts}
+use Rattle.model_loop.specs.Tasks.{begin_step, finish, future_of, must_cancel_of, lives, clear_must_cancel}
+use Rattle.law_changes.specs.Blocks.{OfRequest, cancels, keeps_asked, counts, sets_must_cancel, OfWait, cycles, registers_step, begins_wait, in_wait}
+use Rattle.law_changes.specs.Blocks.{clears_must_cancel}
+use Rattle.law_changes.specs.Changes.{PartsChange, MayInParts, made_of_parts, CallsSoon, Settles, Registers, KeepsAsked, WaitsFor, SetsMustCancel}
+use Rattle.law_changes.specs.Changes.{ClearsMustCancel, Counts}
 use Rattle.law_changes.specs.Reaches.{Reaches, ReachAlone, PartsReach, stays, goes}
 use Rattle.law_changes.proofs.Folds.{one, on, widen}
 
@@ -30,12 +32,12 @@ each_row c rows (id ∷ ids) seen p = on (rows id seen p) (each_row c rows ids (
 
 module _ (member waiter : Canceller) (members : ByRows member) (waiters : ByRows waiter) where
   waiter_row : (task : ℕ) (o : Option ℕ) (seen : List ℕ) (p : Parts) → Reaches made_of_parts OfRequest p (cancel_waiter waiter task o seen p).parts
-  waiter_row task None seen p = one (Marks task) (marks task)
+  waiter_row task None seen p = one (SetsMustCancel task) (sets_must_cancel task)
   waiter_row task (Some id) seen p = at (waiter id seen p).answer
     where
-      at : (b : Bool) → Reaches made_of_parts OfRequest p (marked_unless b task (waiter id seen p)).parts
+      at : (b : Bool) → Reaches made_of_parts OfRequest p (must_cancel_unless b task (waiter id seen p)).parts
       at true = waiters id seen p
-      at false = goes (waiters id seen p) (Marks task) (marks task)
+      at false = goes (waiters id seen p) (SetsMustCancel task) (sets_must_cancel task)
 
   unseen_row : (task : ℕ) (o : Option Task) (seen : List ℕ) (p : Parts) → Reaches made_of_parts OfRequest p (cancel_unseen waiter task o seen p).parts
   unseen_row task None seen p = stays
@@ -91,7 +93,7 @@ may_request : (r : Option ℕ) (change : PartsChange) (p : Parts) → OfRequest 
 may_request r _ p (cancels future) = tt
 may_request r _ p (keeps_asked future) = tt
 may_request r _ p (counts task) = tt
-may_request r _ p (marks task) = tt
+may_request r _ p (sets_must_cancel task) = tt
 
 pub cancel_row : (r : Option ℕ) (id : ℕ) (p : Parts) → PartsReach r p (cancel id p).parts
 cancel_row r id p = widen (may_request r) (cancel_in id p)
@@ -99,10 +101,10 @@ cancel_row r id p = widen (may_request r) (cancel_in id p)
 -- ---- the task that runs
 module _ (task : ℕ) where
   pub begin_row : (input : Input) (p : Parts) → ReachAlone (Some task) p (begin_step task input p).parts
-  begin_row input p = goes (one (WaitsFor task None) refl) (Unmarks task) refl
+  begin_row input p = goes (one (WaitsFor task None) refl) (ClearsMustCancel task) refl
 
   pub finish_row : (end : Result Value Exc) (p : Parts) → ReachAlone (Some task) p (finish task end p)
-  finish_row (Ok value) p = goes (one (Unmarks task) refl) (Settles (future_of p task) _) tt
+  finish_row (Ok value) p = goes (one (ClearsMustCancel task) refl) (Settles (future_of p task) _) tt
   finish_row (Err fault) p = one (Settles (future_of p task) _) tt
 
 -- ---- and waits
@@ -111,20 +113,20 @@ module _ (task future : ℕ) where
   waits_in p = goes (one (Registers future (Wakeup task)) registers_step) (WaitsFor task (Some future)) begins_wait
 
   pub suspend_in : (p : Parts) → Reaches made_of_parts (OfWait task future) p (suspend task future p).parts
-  suspend_in p = at (circle p task future)
+  suspend_in p = at (cycle p task future)
     where
       asked : Reaches made_of_parts (OfWait task future) p (cancel future (wait_on task future p)).parts
       asked = on (waits_in p) (widen (λ change q it. in_wait it) (cancel_in future (wait_on task future p)))
 
       answered : (b : Bool) → Reaches made_of_parts (OfWait task future) p
-          (if b then unmark task (cancel future (wait_on task future p)).parts else (cancel future (wait_on task future p)).parts)
-      answered true = goes asked (Unmarks task) unmarks
+          (if b then clear_must_cancel task (cancel future (wait_on task future p)).parts else (cancel future (wait_on task future p)).parts)
+      answered true = goes asked (ClearsMustCancel task) clears_must_cancel
       answered false = asked
 
-      marked : (b : Bool) → Reaches made_of_parts (OfWait task future) p (cancel_wait b task future (wait_on task future p)).parts
-      marked true = answered (cancel future (wait_on task future p)).answer
-      marked false = waits_in p
+      must_cancel : (b : Bool) → Reaches made_of_parts (OfWait task future) p (cancel_wait b task future (wait_on task future p)).parts
+      must_cancel true = answered (cancel future (wait_on task future p)).answer
+      must_cancel false = waits_in p
 
-      at : (o : Option Circle) → Reaches made_of_parts (OfWait task future) p (suspend_unless o task future p).parts
-      at (Some why) = one (CallsSoon (StepInCircle task why)) (circles why)
-      at None = marked (is_marked p task)
+      at : (o : Option CycleKind) → Reaches made_of_parts (OfWait task future) p (suspend_unless o task future p).parts
+      at (Some why) = one (CallsSoon (StepInCycle task why)) (cycles why)
+      at None = must_cancel (must_cancel_of p task)

@@ -4,10 +4,10 @@ use Rattle.std.proofs.Common.{slice_index_or, slice_set, subst, suc, sym, true, 
 use Rattle.model_loop.specs.Handles.{deadline}
 use Rattle.model_loop.specs.Groups.{abort, create, exit_woken, group_of, new_group}
 use Rattle.model_loop.specs.Groups.{wait_or_end, wake_exit}
-use Rattle.model_loop.specs.Circles.{circle}
+use Rattle.model_loop.specs.Cycles.{cycle}
 use Rattle.model_loop.specs.Timeouts.{enter_timeout, is_active, make_timeout, moment, next_timeout, no_timeout, reschedule}
 use Rattle.model_loop.specs.Timeouts.{reschedule_where, schedule, timeout_of, without_handle}
-use Rattle.model_loop.specs.Tasks.{is_marked, cancelling}
+use Rattle.model_loop.specs.Tasks.{must_cancel_of, cancelling}
 use Rattle.model_loop.specs.Loop.{Loop, book}
 use Rattle.model_loop.specs.Ledger.{Asked, Booked, ByAbort, ByWait, LedgerEntry, Origin, Raised, Took, ask_cancel, raised_among, request_each}
 use Rattle.model_loop.specs.Ledger.{uncancel_by}
@@ -22,7 +22,7 @@ use Rattle.law_changes.specs.Reaches.{Reaches}
 use Rattle.law_changes.proofs.BlockRows.{abort_in, create_in, each_in, heard_in, schedule_in, wait_or_end_in, wake_in, without_in}
 use Rattle.law_changes.proofs.Folds.{keep, widen}
 use Rattle.law_changes.specs.Telling.{BooksNone, BooksQuietly, IsOther, Tells, seen_of_group, seen_of_timeout}
-use Rattle.model_value.specs.Action.{Circle}
+use Rattle.model_value.specs.Action.{CycleKind}
 use Rattle.model_loop.specs.Cancel.{cancel}
 use Rattle.model_loop.specs.Parts.{Parts}
 use Rattle.model_loop.specs.Balance.{GroupBalances, is_by_timeout, takes, asks, begins, is_by_group}
@@ -90,15 +90,15 @@ pub by_abort : (group : ℕ) → IsOther (ByAbort group)
 by_abort group = record { timeout = λ id. refl; group = λ id. refl }
 
 pub suspend_none : (task on : ℕ) (p : Parts) → BooksNone (suspend task on p).entries
-suspend_none task on p = at (circle p task on)
+suspend_none task on p = at (cycle p task on)
   where
-    marked : (b : Bool) → BooksNone (cancel_wait b task on (wait_on task on p)).entries
-    marked false = none_nil
-    marked true = request_none (ByWait task) on (wait_on task on p) (by_wait task)
+    must_cancel : (b : Bool) → BooksNone (cancel_wait b task on (wait_on task on p)).entries
+    must_cancel false = none_nil
+    must_cancel true = request_none (ByWait task) on (wait_on task on p) (by_wait task)
 
-    at : (o : Option Circle) → BooksNone (suspend_unless o task on p).entries
+    at : (o : Option CycleKind) → BooksNone (suspend_unless o task on p).entries
     at (Some why) = none_nil
-    at None = marked (is_marked p task)
+    at None = must_cancel (must_cancel_of p task)
 
 -- ---- such changes keep what the ledger tells
 told_on : (f : LedgerEntry → Bool) (l q : Loop) (b : BooksQuietly l q) → count_by f b.more ≡ 0 → (was now : Bool) → now ≡ was

@@ -1,7 +1,7 @@
 -- What cancel requests, timeouts and groups change, exactly: a law about one of them is proved of these changes.
 use Rattle.std.specs.Prelude.{◌≡◌, ℕ, true, Bool, List, Option, Some}
-use Rattle.model_value.specs.Action.{Circle}
-use Rattle.model_value.specs.declared.action.Action.TheVariants.{StepInCircle, Wakeup, Fires, GroupDone}
+use Rattle.model_value.specs.Action.{CycleKind}
+use Rattle.model_value.specs.declared.action.Action.TheVariants.{StepInCycle, Wakeup, Fires, GroupDone}
 use Rattle.model_value.specs.declared.outcome.Outcome.TheVariants.{Value as Returned, Cancelled}
 use Rattle.model_value.specs.Value.{Nothing, Exc}
 use Rattle.model_loop.specs.Groups.{group_of}
@@ -10,24 +10,24 @@ use Rattle.model_loop.specs.Loop.{Group, Loop}
 use Rattle.model_loop.specs.Parts.{Plain, Parts}
 use Rattle.model_loop.specs.Timeouts.{timeout_of}
 use Rattle.law_changes.specs.Changes.{PartsChange, CallsSoon, CallsLater, Revokes, MakesFuture, Settles, Registers, KeepsAsked, MakesTask, WaitsFor}
-use Rattle.law_changes.specs.Changes.{Counts, Marks, Unmarks, LoopChange, OfParts, ChangesTimeout}
+use Rattle.law_changes.specs.Changes.{Counts, SetsMustCancel, ClearsMustCancel, LoopChange, OfParts, ChangesTimeout}
 use Rattle.law_changes.specs.Changes.{ChangesGroup, AsksCancel, TakesBack}
 
--- ---- a request to cancel: futures are cancelled, or keep that they were asked; tasks are counted and marked
+-- ---- a request to cancel: futures are cancelled, or keep that they were asked; tasks are counted and must cancel
 pub data OfRequest : PartsChange → Parts → Type 0 where
   cancels : {p : Parts} (future : ℕ) → OfRequest (Settles future Cancelled) p
   keeps_asked : {p : Parts} (future : ℕ) → OfRequest (KeepsAsked future) p
   counts : {p : Parts} (task : ℕ) → OfRequest (Counts task) p
-  marks : {p : Parts} (task : ℕ) → OfRequest (Marks task) p
+  sets_must_cancel : {p : Parts} (task : ℕ) → OfRequest (SetsMustCancel task) p
 
--- ---- a task waits for a future: it is woken when that is done, and one that is marked cancels what it waits for, which takes
--- the mark away; in a circle its next step throws
+-- ---- a task waits for a future: it is woken when that is done, and one that must cancel cancels what it waits for, which
+-- clears must_cancel; in a cycle its next step throws
 pub data OfWait (task on : ℕ) : PartsChange → Parts → Type 0 where
-  circles : {p : Parts} (why : Circle) → OfWait task on (CallsSoon (StepInCircle task why)) p
+  cycles : {p : Parts} (why : CycleKind) → OfWait task on (CallsSoon (StepInCycle task why)) p
   registers_step : {p : Parts} → OfWait task on (Registers on (Wakeup task)) p
   begins_wait : {p : Parts} → OfWait task on (WaitsFor task (Some on)) p
   in_wait : {change : PartsChange} {p : Parts} → OfRequest change p → OfWait task on change p
-  unmarks : {p : Parts} → OfWait task on (Unmarks task) p
+  clears_must_cancel : {p : Parts} → OfWait task on (ClearsMustCancel task) p
 
 -- ---- a timeout is scheduled: its old handle is given up, and it gets a new one
 pub data OfSchedule (id : ℕ) : LoopChange → Loop → Type 0 where

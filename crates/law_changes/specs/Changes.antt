@@ -9,7 +9,7 @@ use Rattle.model_loop.specs.Ledger.{Began, Origin, ask_cancel, uncancel_by}
 use Rattle.model_loop.specs.Loop.{Group, Loop, Timeout, book, in_parts}
 use Rattle.model_loop.specs.Owning.{is_main_done}
 use Rattle.model_loop.specs.Parts.{FutureKind, Handle, Parts}
-use Rattle.model_loop.specs.Tasks.{mark, raise_count, set_waiter, spawn, uncancel, unmark}
+use Rattle.model_loop.specs.Tasks.{set_must_cancel, raise_count, set_waiter, spawn, uncancel, clear_must_cancel}
 use Rattle.model_loop.specs.Timeouts.{make_timeout, set_timeout}
 
 -- ---- of the parts
@@ -24,8 +24,8 @@ pub data PartsChange : Type 0 where
   KeepsAsked : (future : ℕ) → PartsChange
   MakesTask : PartsChange
   WaitsFor : (task : ℕ) (on : Option ℕ) → PartsChange
-  Marks : (task : ℕ) → PartsChange
-  Unmarks : (task : ℕ) → PartsChange
+  SetsMustCancel : (task : ℕ) → PartsChange
+  ClearsMustCancel : (task : ℕ) → PartsChange
   Counts : (task : ℕ) → PartsChange
   Uncounts : (task : ℕ) → PartsChange
   -- between steps of tasks alone: the time goes on, what comes due is appended, and the first handle is taken out
@@ -43,19 +43,19 @@ made_of_parts (Registers future action) p = register future action p
 made_of_parts (KeepsAsked future) p = mark_asked future p
 made_of_parts MakesTask p = spawn p
 made_of_parts (WaitsFor task on) p = set_waiter task on p
-made_of_parts (Marks task) p = mark task p
-made_of_parts (Unmarks task) p = unmark task p
+made_of_parts (SetsMustCancel task) p = set_must_cancel task p
+made_of_parts (ClearsMustCancel task) p = clear_must_cancel task p
 made_of_parts (Counts task) p = raise_count task p
 made_of_parts (Uncounts task) p = uncancel task p
 made_of_parts (Passes now) p = record p { time = max p.time now }
 made_of_parts FallsDue p = due p
 made_of_parts (LeavesPending rest) p = record p { pending = rest }
 
--- A task's wait and its mark change in its own step alone; the time, timers that fall due and the first handle are seen to
+-- A task's wait and its must_cancel change in its own step alone; the time, timers that fall due and the first handle are seen to
 -- where no task runs. What is called when main is done was registered before.
 abbrev pub MayInParts : (runner : Option ℕ) → PartsChange → Parts → Type 0
 MayInParts runner (WaitsFor task on) p = runner ≡ Some task
-MayInParts runner (Unmarks task) p = runner ≡ Some task
+MayInParts runner (ClearsMustCancel task) p = runner ≡ Some task
 MayInParts runner (Passes now) p = runner ≡ None
 MayInParts runner FallsDue p = runner ≡ None
 MayInParts runner (LeavesPending rest) p = runner ≡ None

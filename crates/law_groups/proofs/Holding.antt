@@ -7,7 +7,7 @@ use Rattle.model_value.specs.Value.{Outcome}
 use Rattle.model_loop.specs.Parts.{Parts}
 use Rattle.model_loop.specs.Loop.{Group, Loop}
 use Rattle.model_loop.specs.Futures.{outcome_at, future_outcome, is_pending, settle}
-use Rattle.model_loop.specs.Tasks.{lives, future_of, is_marked}
+use Rattle.model_loop.specs.Tasks.{lives, future_of, must_cancel_of}
 use Rattle.model_loop.specs.Cancel.{cancel}
 use Rattle.model_loop.specs.Ledger.{Origin, request_where, request_each}
 use Rattle.model_loop.specs.Groups.{failure_in, new_group, group_of, set_group}
@@ -21,7 +21,7 @@ use Rattle.law_groups.specs.Holds.{Holds}
 use Rattle.law_steps.proofs.Settling.{IsSettled, settle_cases, settle_effect}
 use Rattle.law_steps.proofs.Looks.{LooksSame, future_of-same, change_looks_same, asked_looks_same}
 use Rattle.law_steps.proofs.CancelSound.{cancel_sound, settled_sound, same_sound}
-use Rattle.law_steps.proofs.Spreading.{Spreads, begins, settles, asks, raises, marks, as_row, with_spread}
+use Rattle.law_steps.proofs.Spreading.{Spreads, begins, settles, asks, raises, sets_must_cancel, as_row, with_spread}
 use Rattle.law_groups.proofs.Told.{same_told, settled_told, settled-owned, cancel_told, failures_kept}
 
 -- the same futures and tasks are there, and none changes its owner
@@ -59,7 +59,8 @@ cancels_names begins = record { owned = λ t. refl; owners = λ i. refl; plains 
 cancels_names {p = p} (settles {q = q} g id future e o k) = names_on p q _ (settled_names id q _ (settle_effect id Cancelled q future e o)) (cancels_names g)
 cancels_names {p = p} (asks {q = q} g id future members asked e o k) = names_on p q _ (looks_names q _ (asked_looks_same id q future e)) (cancels_names g)
 cancels_names {p = p} (raises {q = q} g id task n e) = names_on p q _ (looks_names q _ (change_looks_same id _ q (λ t. refl) (λ t. refl))) (cancels_names g)
-cancels_names {p = p} (marks {q = q} g id can) = names_on p q _ (looks_names q _ (change_looks_same id _ q (λ t. refl) (λ t. refl))) (cancels_names g)
+cancels_names {p = p} (sets_must_cancel {q = q} g id can) =
+    names_on p q _ (looks_names q _ (change_looks_same id _ q (λ t. refl) (λ t. refl))) (cancels_names g)
 
 -- what holds goes on where names stay and done futures do
 pub holds_to : (r e running excused : Option ℕ) (told heard : ℕ → List ℕ) (groups : ℕ → Group) (p q : Parts) → KeepsOwners p q
@@ -87,7 +88,7 @@ holds_on running excused = holds_to running excused running excused
 
 -- what looks the same
 pub looks_holds : (running excused : Option ℕ) (told heard : ℕ → List ℕ) (groups : ℕ → Group) (p q : Parts) → LooksSame p q
-    → ((task : ℕ) → is_marked q task ≡ true → is_marked p task ≡ true) → Holds running excused told heard groups p
+    → ((task : ℕ) → must_cancel_of q task ≡ true → must_cancel_of p task ≡ true) → Holds running excused told heard groups p
     → Holds running excused told heard groups q
 looks_holds running excused told heard groups p q s fewer h =
     holds_on running excused told heard groups p q (looks_names p q s) (λ id d. s.outcomes id)

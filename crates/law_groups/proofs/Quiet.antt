@@ -15,7 +15,8 @@ use Rattle.law_steps.proofs.Looks.{LooksSame, asked_looks_same, refl_looks, same
 use Rattle.model_value.specs.Action.{Action}
 use Rattle.model_loop.specs.Parts.{Future, FutureKind, Handle, OfTask, Parts, Task}
 use Rattle.model_value.specs.declared.outcome.Outcome.TheVariants.{Cancelled}
-use Rattle.law_changes.specs.Blocks.{OfRequest, cancels, keeps_asked, counts, marks, OfWait, circles, registers_step, begins_wait, in_wait, unmarks}
+use Rattle.law_changes.specs.Blocks.{OfRequest, cancels, keeps_asked, counts, sets_must_cancel, OfWait, cycles, registers_step, begins_wait, in_wait}
+use Rattle.law_changes.specs.Blocks.{clears_must_cancel}
 use Rattle.law_changes.specs.Changes.{PartsChange, made_of_parts}
 use Rattle.law_changes.specs.Reaches.{Reaches}
 use Rattle.law_changes.proofs.Folds.{fold}
@@ -23,7 +24,7 @@ use Rattle.law_changes.proofs.PartsRows.{cancel_in, suspend_in}
 use Rattle.law_steps.proofs.Settling.{settle_cases}
 use Rattle.model_loop.specs.Ways.{steps}
 use Rattle.model_value.specs.Input.{Input}
-use Rattle.model_value.specs.declared.action.Action.TheVariants.{Fires, SleepDone, Step, StepInCircle, Wakeup}
+use Rattle.model_value.specs.declared.action.Action.TheVariants.{Fires, SleepDone, Step, StepInCycle, Wakeup}
 use Rattle.law_groups.specs.Tags.{AddsNoTimes, IsQuiet, KeepsTags, is_deadline}
 use Rattle.std.proofs.lemmas.List.Sums.{sum_by-cons, sum_by_push}
 use Rattle.model_loop.specs.Cancel.{cancel}
@@ -228,14 +229,14 @@ quiet_request _ p (cancels future) are = (
 )
 quiet_request _ p (keeps_asked future) are = (same_callbacks p _ (asked_looks future p) are, mark_asked_quiet future p)
 quiet_request _ p (counts task) are = quiet_task task _ p are
-quiet_request _ p (marks task) are = quiet_task task _ p are
+quiet_request _ p (sets_must_cancel task) are = quiet_task task _ p are
 
 quiet_wait : (task on : ℕ) (change : PartsChange) (p : Parts) → OfWait task on change p → KeepsQuiet p (made_of_parts change p)
-quiet_wait task on _ p (circles why) are = (are, soon_quiet (StepInCircle task why) p refl)
+quiet_wait task on _ p (cycles why) are = (are, soon_quiet (StepInCycle task why) p refl)
 quiet_wait task on _ p registers_step are = (register_callbacks on (Wakeup task) p refl are, register_quiet on (Wakeup task) p refl)
 quiet_wait task on _ p begins_wait are = quiet_task task _ p are
 quiet_wait task on change p (in_wait it) are = quiet_request change p it are
-quiet_wait task on _ p unmarks are = quiet_task task _ p are
+quiet_wait task on _ p clears_must_cancel are = quiet_task task _ p are
 
 module _ {May : PartsChange → Parts → Type 0} (each : (change : PartsChange) (p : Parts) → May change p → KeepsQuiet p (made_of_parts change p)) where
   quiet_row : {p q : Parts} → Reaches made_of_parts May p q → AreCallbacks p → IsQuiet p q

@@ -1,7 +1,7 @@
 -- What a task does in its step keeps what holds of the parts and of all groups.
 use Rattle.std.proofs.Common.{◌≡◌, ℕ, Bool, Err, List, None, Ok, Option, Result, Some, [], ap, cond, false, inl, inr, length, option_map, refl, slice_get}
 use Rattle.std.proofs.Common.{subst, sym, true, ◌∙◌, ◌∷◌, ◌⊎◌}
-use Rattle.model_loop.specs.Tasks.{begin_step, change_task, finish, future_of, is_marked, pause, set_waiter, unmark}
+use Rattle.model_loop.specs.Tasks.{begin_step, change_task, finish, future_of, must_cancel_of, pause, set_waiter, clear_must_cancel}
 use Rattle.model_loop.specs.Suspend.{cancel_wait, suspend, suspend_unless, wait_on}
 use Rattle.model_value.specs.Value.{Exc, Outcome, Value}
 use Rattle.model_loop.specs.Futures.{future_outcome, is_pending, outcome_at, settle}
@@ -10,23 +10,23 @@ use Rattle.law_groups.proofs.Holding.{KeepsOwners, cancels_names, holds_to, look
 use Rattle.model_loop.specs.Ways.{resumes, steps}
 use Rattle.model_loop.specs.Cancel.{cancel}
 use Rattle.std.proofs.lemmas.Bool.{cases_eq, eq-eqb, false≢true}
-use Rattle.law_steps.proofs.Stepping.{begin_sound, finished_sound, resumes_steps, unmark_fewer}
+use Rattle.law_steps.proofs.Stepping.{begin_sound, finished_sound, resumes_steps, clear_must_cancel_fewer}
 use Rattle.model_loop.specs.Parts.{Future, Handle, Parts, Task}
 use Rattle.law_steps.proofs.Spreading.{as_row, with_spread}
 use Rattle.model_loop.specs.Loop.{Group}
 use Rattle.law_steps.proofs.Ending.{pending_there, soon_step_sound}
 use Rattle.law_cancel.proofs.Counting.{change_task-kept, goes-done}
-use Rattle.model_value.specs.declared.action.Action.TheVariants.{Step, StepInCircle}
+use Rattle.model_value.specs.declared.action.Action.TheVariants.{Step, StepInCycle}
 use Rattle.law_steps.proofs.Looks.{change_looks_same, future_of-same}
 use Rattle.law_groups.proofs.StepTold.{begin_told, finished_told, soon_step_told, suspend_told}
 use Rattle.law_groups.specs.Holds.{Holds}
-use Rattle.model_loop.specs.Circles.{circle}
+use Rattle.model_loop.specs.Cycles.{cycle}
 use Rattle.law_steps.proofs.Settling.{IsSettled, settle_effect}
 use Rattle.law_cancel.proofs.Effects.{change_task-futures}
 use Rattle.model_value.specs.declared.outcome.Outcome.TheVariants.{Value as Returned, Cancelled}
 use Rattle.model_value.specs.Input.{Input}
 use Rattle.law_steps.specs.Frames.{taken}
-use Rattle.model_value.specs.Action.{Action, Circle}
+use Rattle.model_value.specs.Action.{Action, CycleKind}
 use Rattle.model_loop.specs.Handles.{soon}
 use Rattle.model_loop.specs.Owning.{is_plain_at, owner_at}
 
@@ -98,32 +98,32 @@ module _ (told heard : ℕ → List ℕ) (groups : ℕ → Group) where
     asked : KeepsOwners p (cancel on (wait_on task on p)).parts
     asked = names_on p (wait_on task on p) _ (cancels_names (with_spread on [] (wait_on task on p))) waits
 
-    answered : (b : Bool) → KeepsOwners p (cond b (unmark task (cancel on (wait_on task on p)).parts) (cancel on (wait_on task on p)).parts)
+    answered : (b : Bool) → KeepsOwners p (cond b (clear_must_cancel task (cancel on (wait_on task on p)).parts) (cancel on (wait_on task on p)).parts)
     answered true =
         names_on p (cancel on (wait_on task on p)).parts _
         (change_names task (λ t. record t { must_cancel = false }) (cancel on (wait_on task on p)).parts (λ t. refl)) asked
     answered false = asked
 
-    marked : (b : Bool) → KeepsOwners p (cancel_wait b task on (wait_on task on p)).parts
-    marked false = waits
-    marked true = answered (cancel on (wait_on task on p)).answer
+    must_cancel : (b : Bool) → KeepsOwners p (cancel_wait b task on (wait_on task on p)).parts
+    must_cancel false = waits
+    must_cancel true = answered (cancel on (wait_on task on p)).answer
 
-    named : (o : Option Circle) → KeepsOwners p (suspend_unless o task on p).parts
-    named (Some why) = same_names p (soon (StepInCircle task why) p) refl refl
-    named None = marked (is_marked p task)
+    named : (o : Option CycleKind) → KeepsOwners p (suspend_unless o task on p).parts
+    named (Some why) = same_names p (soon (StepInCycle task why) p) refl refl
+    named None = must_cancel (must_cancel_of p task)
 
     pub suspend_names : KeepsOwners p (suspend task on p).parts
-    suspend_names = named (circle p task on)
+    suspend_names = named (cycle p task on)
 
-    stay : (j : ℕ) → is_pending p j ≡ false → (o : Option Circle)
+    stay : (j : ℕ) → is_pending p j ≡ false → (o : Option CycleKind)
         → future_outcome (suspend_unless o task on p).parts j ≡ future_outcome p j
     stay j d (Some why) = refl
-    stay j d None = at (is_marked p task)
+    stay j d None = at (must_cancel_of p task)
       where
         kept : future_outcome (cancel on (wait_on task on p)).parts j ≡ future_outcome p j
         kept = ap outcome_at (goes-done (as_row (with_spread on [] (wait_on task on p))) j (w.pends j ∙ d)) ∙ w.outcomes j
 
-        after : (b : Bool) → future_outcome (cond b (unmark task (cancel on (wait_on task on p)).parts)
+        after : (b : Bool) → future_outcome (cond b (clear_must_cancel task (cancel on (wait_on task on p)).parts)
             (cancel on (wait_on task on p)).parts) j ≡ future_outcome p j
         after true = change_outcomes task (λ t. record t { must_cancel = false }) (cancel on (wait_on task on p)).parts j ∙ kept
         after false = kept
@@ -135,7 +135,7 @@ module _ (told heard : ℕ → List ℕ) (groups : ℕ → Group) where
     pub suspend_holds : Holds None None told heard groups (suspend task on p).parts
     suspend_holds =
         holds_to (Some task) (Some task) None None told heard groups p (suspend task on p).parts suspend_names
-        (λ j d. stay j d (circle p task on)) (suspend_sound task on p here h.parts)
+        (λ j d. stay j d (cycle p task on)) (suspend_sound task on p here h.parts)
         (λ g. suspend_told task on p here h.parts g (told g) (groups g) (h.tellings g)) h
 
   -- ---- it ends the task
@@ -165,7 +165,7 @@ module _ (told heard : ℕ → List ℕ) (groups : ℕ → Group) where
   finish_holds task (Err fault) p free h = settle_own_holds task _ p free h
   finish_holds task (Ok value) p free h =
       let s = change_looks_same task _ p (λ t. refl) (λ t. refl) in
-      subst (λ id. Holds None None told heard groups (settle id (cond (is_marked p task) Cancelled (Returned value)) (unmark task p)))
-      (future_of-same p (unmark task p) s.made task (s.owned task))
-      (settle_own_holds task (cond (is_marked p task) Cancelled (Returned value)) (unmark task p) free
-      (looks_holds (Some task) (Some task) told heard groups p (unmark task p) s (unmark_fewer task p) h))
+      subst (λ id. Holds None None told heard groups (settle id (cond (must_cancel_of p task) Cancelled (Returned value)) (clear_must_cancel task p)))
+      (future_of-same p (clear_must_cancel task p) s.made task (s.owned task))
+      (settle_own_holds task (cond (must_cancel_of p task) Cancelled (Returned value)) (clear_must_cancel task p) free
+      (looks_holds (Some task) (Some task) told heard groups p (clear_must_cancel task p) s (clear_must_cancel_fewer task p) h))

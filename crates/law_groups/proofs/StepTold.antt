@@ -4,15 +4,15 @@ use Rattle.std.proofs.Common.{refl, ap, sym, subst, ◌∙◌, inl, inr, arith}
 use Rattle.std.proofs.lemmas.Bool.{cases_eq, false≢true, eq-eqb}
 use Rattle.std.proofs.lemmas.List.Sums.{sum_by-cons}
 use Rattle.std.specs.List.{count_by}
-use Rattle.model_value.specs.Action.{Action, Circle}
-use Rattle.model_value.specs.declared.action.Action.TheVariants.{StepInCircle, GroupDone}
+use Rattle.model_value.specs.Action.{Action, CycleKind}
+use Rattle.model_value.specs.declared.action.Action.TheVariants.{StepInCycle, GroupDone}
 use Rattle.model_loop.specs.Parts.{Handle, Future, Task, Parts}
 use Rattle.model_loop.specs.Loop.{Group}
 use Rattle.model_loop.specs.Handles.{soon}
 use Rattle.model_loop.specs.Futures.{is_pending, is_pending_at}
-use Rattle.model_loop.specs.Tasks.{lives, future_of, change_task, set_waiter, unmark, begin_step, is_marked}
+use Rattle.model_loop.specs.Tasks.{lives, future_of, change_task, set_waiter, clear_must_cancel, begin_step, must_cancel_of}
 use Rattle.model_loop.specs.Cancel.{cancel}
-use Rattle.model_loop.specs.Circles.{circle}
+use Rattle.model_loop.specs.Cycles.{cycle}
 use Rattle.model_loop.specs.Suspend.{wait_on, cancel_wait, suspend_unless, suspend}
 use Rattle.model_loop.specs.Children.{tells, IsTold}
 use Rattle.model_loop.specs.Numbered.{occurrences}
@@ -113,7 +113,7 @@ waiting_to_groups task on p q w = record {
 
 pub suspend_told : (task on : ℕ) (p : Parts) → is_pending p on ≡ true → ArePartsSound (Some task) (Some task) p → (group : ℕ) (told : List ℕ) (it : Group)
     → IsTold p group told it → IsTold (suspend task on p).parts group told it
-suspend_told task on p here sound group told it is = at (circle p task on)
+suspend_told task on p here sound group told it is = at (cycle p task on)
   where
     w : IsWaiting task on p (wait_on task on p)
     w = let u = task_there p task (sound.runs task (eq-eqb task task refl)) in let g = pending_there p on here in
@@ -126,18 +126,18 @@ suspend_told task on p here sound group told it is = at (circle p task on)
     asked = cancel_told None (Some task) (λ other r. absurd (false≢true r)) on (wait_on task on p)
         (waiting_sound task on p (wait_on task on p) w here sound) group told it waits
 
-    answered : (b : Bool) → IsTold (cond b (unmark task (cancel on (wait_on task on p)).parts) (cancel on (wait_on task on p)).parts) group told it
+    answered : (b : Bool) → IsTold (cond b (clear_must_cancel task (cancel on (wait_on task on p)).parts) (cancel on (wait_on task on p)).parts) group told it
     answered true = framed_told _ _
         (change_to_groups task (λ t. record t { must_cancel = false }) (cancel on (wait_on task on p)).parts (λ t. refl)) group told it asked
     answered false = asked
 
-    marked : (b : Bool) → IsTold (cancel_wait b task on (wait_on task on p)).parts group told it
-    marked false = waits
-    marked true = answered (cancel on (wait_on task on p)).answer
+    must_cancel : (b : Bool) → IsTold (cancel_wait b task on (wait_on task on p)).parts group told it
+    must_cancel false = waits
+    must_cancel true = answered (cancel on (wait_on task on p)).answer
 
-    at : (o : Option Circle) → IsTold (suspend_unless o task on p).parts group told it
-    at (Some why) = soon_step_told task (StepInCircle task why) p (eq-eqb task task refl) group told it is
-    at None = marked (is_marked p task)
+    at : (o : Option CycleKind) → IsTold (suspend_unless o task on p).parts group told it
+    at (Some why) = soon_step_told task (StepInCycle task why) p (eq-eqb task task refl) group told it is
+    at None = must_cancel (must_cancel_of p task)
 
 -- a task ends that is no open group's parent
 pub finished_told : (task : ℕ) (p q : Parts) → IsSettled (future_of p task) p q → ArePartsSound (Some task) (Some task) p

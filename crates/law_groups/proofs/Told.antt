@@ -23,7 +23,7 @@ use Rattle.law_steps.proofs.Settling.{IsSettled, settle_effect}
 use Rattle.law_steps.proofs.SettleWays.{none_away, settled-total, settled-home, settled-lives}
 use Rattle.law_steps.proofs.Looks.{LooksSame, future_of-owned, same-lives, change_looks_same, asked_looks_same, follow_tells}
 use Rattle.law_steps.proofs.CancelSound.{is_no_task, cancels_sound}
-use Rattle.law_steps.proofs.Spreading.{Spreads, begins, settles, asks, raises, marks, with_spread}
+use Rattle.law_steps.proofs.Spreading.{Spreads, begins, settles, asks, raises, sets_must_cancel, with_spread}
 
 pub settled-owned : {id : ℕ} {p q : Parts} → IsSettled id p q → (task : ℕ) → own_future q task ≡ own_future p task
 settled-owned s task = ap (λ (ts : List Task). option_map (λ (t : Task). t.future) (slice_get ts task)) s.tasks
@@ -100,7 +100,7 @@ cancels_told running excused covers (asks {q = q} g id future members asked e o 
     same_told q _ (asked_looks_same id q future e) group told it (cancels_told running excused covers g sound group told it is)
 cancels_told running excused covers (raises {q = q} g id task n e) sound group told it is =
     same_told q _ (change_looks_same id _ q (λ t. refl) (λ t. refl)) group told it (cancels_told running excused covers g sound group told it is)
-cancels_told running excused covers (marks {q = q} g id can) sound group told it is =
+cancels_told running excused covers (sets_must_cancel {q = q} g id can) sound group told it is =
     same_told q _ (change_looks_same id _ q (λ t. refl) (λ t. refl)) group told it (cancels_told running excused covers g sound group told it is)
 
 pub cancel_told : (running excused : Option ℕ) → Covers running excused → (id : ℕ) (p : Parts) → ArePartsSound running excused p

@@ -20,7 +20,7 @@ use Rattle.model_hub.specs.Lanes.{serve}
 use Rattle.model_hub.specs.Gathering.{begin, gather, most_waiting}
 use Rattle.model_hub.specs.Select.{said_at, after_poll}
 use Rattle.model_hub.specs.Calls.{answer_to, is_empty, feed_child, offers_write, after_write, after_launching, launch_with, most_children}
-use Rattle.model_hub.specs.Asked.{HubSeen, Asks, PollKeeps, NetKeeps, Keeps}
+use Rattle.model_hub.specs.Asked.{HubSeen, Asks, PollKeeps, NetKeeps, HubKeeps}
 use Rattle.law_hub.proofs.Fitting.{and_first, and_second, select_fits}
 
 -- what is answered fits the call
@@ -98,7 +98,7 @@ net_said asks Failed before now keeps = tt
 net_said asks Memory before now keeps = tt
 
 -- ---- every call
-said_fits : (asks : Call) (others : Others) (hub : Hub) (before now : ℕ) → Keeps asks others before now → SaidFits asks (answer_to asks others hub).1
+said_fits : (asks : Call) (others : Others) (hub : Hub) (before now : ℕ) → HubKeeps asks others before now → SaidFits asks (answer_to asks others hub).1
 said_fits (call.Select wait watched) others hub before now keeps =
     poll_said wait watched others others.polled (serve others.lanes watched hub) before now keeps
 said_fits (call.Listen port) others hub before now keeps = net_said (call.Listen port) others.net before now keeps
@@ -117,7 +117,7 @@ said_fits (call.Launch words) others hub before now keeps =
     let served = serve others.lanes [] hub in launch_said words others.launching served.free served
 said_fits (call.Extra code bytes) others hub before now keeps = refl
 
-asked_fits : (asks : Call) (others : Others) (hub : Hub) (before now : ℕ) (starved : Bool) → Keeps asks others before now
+asked_fits : (asks : Call) (others : Others) (hub : Hub) (before now : ℕ) (starved : Bool) → HubKeeps asks others before now
     → SaidFits asks (cond starved (hub, Memory) (answer_to asks others hub)).1
 asked_fits asks others hub before now true keeps = tt
 asked_fits asks others hub before now false keeps = said_fits asks others hub before now keeps

@@ -28,7 +28,7 @@ use Rattle.model_hub.specs.Gathering.{Gathering, goes_in, offer, offer_all, add,
 use Rattle.model_hub.specs.Gathering.{after_post, gather}
 use Rattle.model_hub.specs.Select.{said_at, after_poll}
 use Rattle.model_hub.specs.Calls.{answer_to, socket, feed_child, offers_write, after_write, after_launching, launch_with, most_children}
-use Rattle.model_hub.specs.Asked.{HubSeen, Asks, PollKeeps, NetKeeps, Keeps, is_fault, faults_in, faults_of}
+use Rattle.model_hub.specs.Asked.{HubSeen, Asks, PollKeeps, NetKeeps, HubKeeps, is_fault, faults_in, faults_of}
 use Rattle.law_hub.proofs.Answered.{of_two}
 
 -- ---- posts that were taken
@@ -193,7 +193,7 @@ module _ (before now : ℕ) (later : before ≤ now) where
       of_two (Counts hub) (nat_lt (length served.children) most_children) (after_launching launching seats free served)
       (served, Got answer.Refused) (λ few. launched_counts launching seats free hub served) tt
 
-  answer_counts : (asks : Call) (others : Others) (hub : Hub) → Keeps asks others before now → Counts hub (answer_to asks others hub)
+  answer_counts : (asks : Call) (others : Others) (hub : Hub) → HubKeeps asks others before now → Counts hub (answer_to asks others hub)
   answer_counts (call.Select wait watched) others hub keeps =
       poll_counts watched others others.polled (serve others.lanes watched hub) keeps
   answer_counts (call.Listen port) others hub keeps = net_counts (call.Listen port) others.lanes others.net hub keeps
@@ -213,7 +213,7 @@ module _ (before now : ℕ) (later : before ≤ now) where
       let served = serve others.lanes [] hub in launch_counts others.launching served.free hub served
   answer_counts (call.Extra code bytes) others hub keeps = tt
 
-  asked_counts : (asks : Call) (others : Others) (hub : Hub) (starved : Bool) → Keeps asks others before now
+  asked_counts : (asks : Call) (others : Others) (hub : Hub) (starved : Bool) → HubKeeps asks others before now
       → Counts hub (cond starved (hub, Memory) (answer_to asks others hub))
   asked_counts asks others hub true keeps = tt
   asked_counts asks others hub false keeps = answer_counts asks others hub keeps

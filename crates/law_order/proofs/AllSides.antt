@@ -37,7 +37,7 @@ use Rattle.law_stream.proofs.Along.{always_if, always_into, always_map}
 use Rattle.law_stream.specs.ChildSteps as children
 use Rattle.law_stream.proofs.Quiet.{AllQuiet}
 use Rattle.law_stream.proofs.SoundConnections.{conn_drains, conn_ends, conn_limits, conn_readable, conn_writable}
-use Rattle.law_order.specs.Fronts.{GoesOn, KeepsFrontBy, Loses, MayGiveUp, Way, way_of}
+use Rattle.law_order.specs.Fronts.{Continues, KeepsFrontBy, Loses, MayGiveUp, Way, way_of}
 use Rattle.law_order.specs.Sides.{AreKept, AreKeptBy, KeepsAll, KeepsAllBy, KeepsAllWith, standing_of}
 use Rattle.law_order.proofs.Among.{always_all, each_child, each_conn, kept_both, kept_by, kept_still, now_child, now_conn, opened_child}
 use Rattle.law_order.proofs.Among.{opened_conn, stands_same}
@@ -54,7 +54,7 @@ no_moves : (whom : Handed) → IsApart whom []
 no_moves whom = apart_start whom
 
 pub unchanged : (s : Streams) → AreKept s [] s
-unchanged s = kept_still GoesOn s s [] refl (λ whom. refl) no_moves
+unchanged s = kept_still Continues s s [] refl (λ whom. refl) no_moves
 
 unchanged_by : (way : Way) (s : Streams) → AreKeptBy way s [] s
 unchanged_by way s = kept_still way s s [] refl (λ whom. refl) no_moves
@@ -111,19 +111,19 @@ module _ (id : ℕ) (s : Streams) where
 
   -- where it goes on
   conn_changes : (change : Connection → Doing Connection)
-      → ((c : Connection) → IsSoundSender c.sender → Always (λ moves after. KeepsFrontBy GoesOn (to.Conn id) [] c.sender moves after.sender) (change c))
+      → ((c : Connection) → IsSoundSender c.sender → Always (λ moves after. KeepsFrontBy Continues (to.Conn id) [] c.sender moves after.sender) (change c))
       → ((c : Connection) → IsFramed (to.Conn id) (change c)) → KeepsAll s (on_one its_connections id change s)
-  conn_changes change here framed_all = conn_ends_by GoesOn change here framed_all
+  conn_changes change here framed_all = conn_ends_by Continues change here framed_all
 
   child_changes : (change : Child → Doing Child)
-      → ((p : Child) → IsSoundSender p.stdin → Always (λ moves after. KeepsFrontBy GoesOn (to.Child id) [] p.stdin moves after.stdin) (change p))
+      → ((p : Child) → IsSoundSender p.stdin → Always (λ moves after. KeepsFrontBy Continues (to.Child id) [] p.stdin moves after.stdin) (change p))
       → ((p : Child) → IsFramed (to.Child id) (change p)) → KeepsAll s (on_one its_children id change s)
-  child_changes change here framed_all = child_ends_by GoesOn change here framed_all
+  child_changes change here framed_all = child_ends_by Continues change here framed_all
 
   module _ {R : Type 0} (other : R) where
     conn_answers : (change : Connection → Doing (Connection × R))
         → ((c : Connection) → IsSoundSender c.sender
-        → Always (λ moves (done : Connection × R). KeepsFrontBy GoesOn (to.Conn id) [] c.sender moves done.0.sender) (change c))
+        → Always (λ moves (done : Connection × R). KeepsFrontBy Continues (to.Conn id) [] c.sender moves done.0.sender) (change c))
         → ((c : Connection) → IsFramed (to.Conn id) (change c)) → KeepsAllWith {R = R} s (asked_one its_connections other id change s)
     conn_answers change here framed_all = at (slice_get s.connections id) refl
       where
@@ -135,12 +135,12 @@ module _ (id : ℕ) (s : Streams) where
         at None e = unchanged s
         at (Some c) e =
             always_into (λ moves (done : Streams × R). AreKept s moves done.0) (λ (done : Connection × R). (now_conn s id done.0, done.1)) (change c)
-            (gather {X = Connection × R} GoesOn s (λ done. now_conn s id done.0) (λ whom. is_same whom (to.Conn id)) (change c) (λ done. refl)
-            (each_conn {X = Connection × R} GoesOn s id [] (change c) (λ done. done.0) c e (here c) (framed_all c)))
+            (gather {X = Connection × R} Continues s (λ done. now_conn s id done.0) (λ whom. is_same whom (to.Conn id)) (change c) (λ done. refl)
+            (each_conn {X = Connection × R} Continues s id [] (change c) (λ done. done.0) c e (here c) (framed_all c)))
 
     child_answers : (change : Child → Doing (Child × R))
         → ((p : Child) → IsSoundSender p.stdin
-        → Always (λ moves (done : Child × R). KeepsFrontBy GoesOn (to.Child id) [] p.stdin moves done.0.stdin) (change p))
+        → Always (λ moves (done : Child × R). KeepsFrontBy Continues (to.Child id) [] p.stdin moves done.0.stdin) (change p))
         → ((p : Child) → IsFramed (to.Child id) (change p)) → KeepsAllWith {R = R} s (asked_one its_children other id change s)
     child_answers change here framed_all = at (slice_get s.children id) refl
       where
@@ -152,8 +152,8 @@ module _ (id : ℕ) (s : Streams) where
         at None e = unchanged s
         at (Some p) e =
             always_into (λ moves (done : Streams × R). AreKept s moves done.0) (λ (done : Child × R). (now_child s id done.0, done.1)) (change p)
-            (gather {X = Child × R} GoesOn s (λ done. now_child s id done.0) (λ whom. is_same whom (to.Child id)) (change p) (λ done. refl)
-            (each_child {X = Child × R} GoesOn s id [] (change p) (λ done. done.0) p e (here p) (framed_all p)))
+            (gather {X = Child × R} Continues s (λ done. now_child s id done.0) (λ whom. is_same whom (to.Child id)) (change p) (λ done. refl)
+            (each_child {X = Child × R} Continues s id [] (change p) (λ done. done.0) p e (here p) (framed_all p)))
 
 -- ---- what opens one
 listen_none : (port : ℕ) (came : Answer) (whom : Handed) → IsApart whom (Heard (call.Listen port) came ∷ [])
@@ -196,8 +196,8 @@ listens port handler s = λ came fit.
     (Ends (add_server (record { handler = handler; is_open = true }) s, Some (length s.servers))) (Ends (s, None))
     (λ is.
     let now = add_server (record { handler = handler; is_open = true }) s in
-    kept_still GoesOn s now (Heard (call.Listen port) came ∷ []) refl (stands_same s now refl refl) (listen_none port came))
-    (λ is. kept_still GoesOn s s (Heard (call.Listen port) came ∷ []) refl (λ whom. refl) (listen_none port came))
+    kept_still Continues s now (Heard (call.Listen port) came ∷ []) refl (stands_same s now refl refl) (listen_none port came))
+    (λ is. kept_still Continues s s (Heard (call.Listen port) came ∷ []) refl (λ whom. refl) (listen_none port came))
 
 pub closes_server : (id : ℕ) (s : Streams) → KeepsAll s (close_server id s)
 closes_server id s = at (slice_get s.servers id)
@@ -213,7 +213,7 @@ closes_server id s = at (slice_get s.servers id)
     at (Some server) =
         always_if (AreKept s) server.is_open (asks (call.CloseServer id) (Ends (closed server))) (Ends s)
         (λ is came fit.
-        kept_still GoesOn s (closed server) (Heard (call.CloseServer id) came ∷ []) refl (stands_same s (closed server) refl refl) (server_none id came))
+        kept_still Continues s (closed server) (Heard (call.CloseServer id) came ∷ []) refl (stands_same s (closed server) refl refl) (server_none id came))
         (λ is. unchanged s)
 
 pub connects : (port next : ℕ) (s : Streams) → KeepsAllWith {R = Option (ℕ × ℕ)} s (connect port next s)
@@ -224,14 +224,14 @@ connects port next s = λ came fit.
     (λ is.
     opened_conn s (connecting next (next + 1)) next (Heard (call.Connect port) came ∷ Did MakeFuture ∷ Did MakeFuture ∷ []) refl
     (connected_none port came))
-    (λ is. kept_still GoesOn s s (Heard (call.Connect port) came ∷ []) refl (λ whom. refl) (connect_none port came))
+    (λ is. kept_still Continues s s (Heard (call.Connect port) came ∷ []) refl (λ whom. refl) (connect_none port came))
 
 pub launches : (words : List (List ℕ)) (next : ℕ) (s : Streams) → KeepsAllWith {R = Option ℕ} s (launch words next s)
 launches words next s = λ came fit.
     always_if (λ moves (done : Streams × Option ℕ). AreKept s (Heard (call.Launch words) came ∷ moves) done.0) (is_child came)
     (Changes MakeFuture (Ends (add_child (new_child next) s, Some (length s.children)))) (Ends (s, None))
     (λ is. opened_child s next (Heard (call.Launch words) came ∷ Did MakeFuture ∷ []) (launched_none words came))
-    (λ is. kept_still GoesOn s s (Heard (call.Launch words) came ∷ []) refl (λ whom. refl) (launch_none words came))
+    (λ is. kept_still Continues s s (Heard (call.Launch words) came ∷ []) refl (λ whom. refl) (launch_none words came))
 
 accepts : (more server handler next : ℕ) (s : Streams) → KeepsAll s (accept_most more server handler next s)
 accepts zero server handler next s = unchanged s
@@ -249,7 +249,7 @@ accepts (suc more) server handler next s =
     kept_both s now after first moves
     (opened_conn s (accepted next handler) next first refl (accepted_none server (length s.connections) came)) rest)
     (accepts more server handler (next + 1) now))
-    (λ is. kept_still GoesOn s s (Heard (call.Accept server) came ∷ []) refl (λ whom. refl) (accept_none server came)))
+    (λ is. kept_still Continues s s (Heard (call.Accept server) came ∷ []) refl (λ whom. refl) (accept_none server came)))
     (λ may. unchanged s)
 
 server_reads : (next id : ℕ) (s : Streams) (found : Option Server) → KeepsAll s (elim found [
@@ -287,7 +287,7 @@ acts next returned (action.LostChild id broken) s =
     child_ends_by id s (Loses (to.Child id) broken) (lose_child id broken) (child_lose_front id broken) (framed.child_lose_framed id broken)
 acts next returned (action.Made id) s = unchanged s
 acts next returned (action.Step task) s = unchanged s
-acts next returned (action.StepInCircle task circle) s = unchanged s
+acts next returned (action.StepInCycle task cycle) s = unchanged s
 acts next returned (action.Wakeup task) s = unchanged s
 acts next returned (action.SleepDone task future) s = unchanged s
 acts next returned (action.GroupDone group task) s = unchanged s
@@ -304,7 +304,7 @@ drains yielded next (to.Conn id) s =
     (mildly.drain_of_mild id yielded next c) (conn_drains id yielded next c sound)) (framed.drain_of_framed id yielded next)
 drains yielded next (to.Child id) s =
     child_answers id s {R = Drain} drain_as.Goes (child.drain_child yielded next)
-    (λ p sound. always_back {A = Child × Drain} {B = Child} (λ moves after. KeepsFrontBy GoesOn (to.Child id) [] p.stdin moves after.stdin) (λ done. done.0)
+    (λ p sound. always_back {A = Child × Drain} {B = Child} (λ moves after. KeepsFrontBy Continues (to.Child id) [] p.stdin moves after.stdin) (λ done. done.0)
     (child.drain_child yielded next p)
     (child_mild id (children.Drains yielded next) p sound tt refl (λ is. refl)
     (mildly.mild_into {A = Child × Drain} {B = Child} (λ done. done.0) (child.drain_child yielded next p) (mildly.child_drain_mild id yielded next p))))
@@ -317,7 +317,8 @@ limits_keep high low (to.Conn id) s =
     (conn_limits id high low c sound)) (λ c. tt)
 limits_keep high low (to.Child id) s =
     child_answers id s {R = Limited} limited.Set (child.limits_child high low)
-    (λ p sound. always_back {A = Child × Limited} {B = Child} (λ moves after. KeepsFrontBy GoesOn (to.Child id) [] p.stdin moves after.stdin) (λ done. done.0)
+    (λ p sound. always_back {A = Child × Limited} {B = Child} (λ moves after. KeepsFrontBy Continues (to.Child id) [] p.stdin moves after.stdin)
+    (λ done. done.0)
     (child.limits_child high low p) (child_mild id (children.SetsLimits high low) p sound tt refl (λ is. refl) tt)) (λ p. tt)
 
 pub ends : (id : ℕ) (s : Streams) → KeepsAll s (write_eof id s)
@@ -364,7 +365,7 @@ gives_up on (OfConn id) s = at (slice_get s.connections id) refl
     at None e = unchanged s
     at (Some c) e =
         let after = record c { receiver = receiver.give_up_read on c.receiver } in
-        kept_still GoesOn s (now_conn s id after) [] refl (λ whom. still_conn whom s id c after e refl) no_moves
+        kept_still Continues s (now_conn s id after) [] refl (λ whom. still_conn whom s id c after e refl) no_moves
 gives_up on (OfChild pipe id) s = at (slice_get s.children id) refl
   where
     same : (pipe : Stream) (r : Receiver) (p : Child) → ((its_pipe pipe).put r p).stdin ≡ p.stdin
@@ -378,13 +379,14 @@ gives_up on (OfChild pipe id) s = at (slice_get s.children id) refl
     at None e = unchanged s
     at (Some p) e =
         let r = receiver.give_up_read on ((its_pipe pipe).get p) in
-        kept_still GoesOn s (now_child s id ((its_pipe pipe).put r p)) [] refl
+        kept_still Continues s (now_child s id ((its_pipe pipe).put r p)) [] refl
         (λ whom. still_child whom s id p ((its_pipe pipe).put r p) e (same pipe r p)) no_moves
 
 pub waits : (next id : ℕ) (s : Streams) → KeepsAllWith {R = ChildWait} s (wait next id s)
 waits next id s =
     child_answers id s {R = ChildWait} (wait_as.Code (pos 0)) (child.wait_child next)
-    (λ p sound. always_back {A = Child × ChildWait} {B = Child} (λ moves after. KeepsFrontBy GoesOn (to.Child id) [] p.stdin moves after.stdin) (λ done. done.0)
+    (λ p sound. always_back {A = Child × ChildWait} {B = Child} (λ moves after. KeepsFrontBy Continues (to.Child id) [] p.stdin moves after.stdin)
+    (λ done. done.0)
     (child.wait_child next p)
     (child_mild id (children.WaitsFor next) p sound tt refl (λ is. refl)
     (mildly.mild_into {A = Child × ChildWait} {B = Child} (λ done. done.0) (child.wait_child next p) (mildly.child_wait_mild id next p))))

@@ -19,7 +19,7 @@ use Rattle.law_stream.proofs.Along.{always_map}
 use Rattle.law_stream.proofs.SoundSends.{new_sound}
 use Rattle.law_order.specs.Frames.{IsApart, IsFramed}
 use Rattle.law_order.proofs.Framing.{framed_hands}
-use Rattle.law_order.specs.Fronts.{GoesOn, KeepsFrontBy, Way}
+use Rattle.law_order.specs.Fronts.{Continues, KeepsFrontBy, Way}
 use Rattle.law_order.proofs.Fronts.{front_as, front_both, front_still}
 use Rattle.law_order.specs.Sides.{AreKept, AreKeptBy, KeepsSide, standing_as, standing_of}
 
@@ -189,7 +189,7 @@ kept_still way s after moves same stands none whom sound = (
 
 -- ---- one is opened
 fresh : (whom : Handed) (moves : List Move) (whole : Bool) (closed_future : ℕ) → IsApart whom moves
-    → KeepsFrontBy GoesOn whom [] (new_sender false 0) moves (new_sender whole closed_future)
+    → KeepsFrontBy Continues whom [] (new_sender false 0) moves (new_sender whole closed_future)
 fresh whom moves whole closed_future none =
     let still = front_still whom (new_sender false 0) moves (new_sound false 0) none in
     record {
@@ -222,19 +222,19 @@ opened_conn s c closed_future moves new none whom sound = (
 )
   where
     at : (whom : Handed) → IsSoundSender (standing_of whom s)
-        → KeepsFrontBy GoesOn whom [] (standing_of whom s) moves (standing_of whom (add_connection c s))
+        → KeepsFrontBy Continues whom [] (standing_of whom s) moves (standing_of whom (add_connection c s))
     at (to.Child other) sound = front_still (to.Child other) (standing_of (to.Child other) s) moves sound (none (to.Child other))
     at (to.Conn other) sound = by (cases_eq other (length s.connections))
       where
         by : (other ≡ length s.connections) ⊎ (other ≡ length s.connections → ⊥)
-            → KeepsFrontBy GoesOn (to.Conn other) [] (standing_of (to.Conn other) s) moves (standing_of (to.Conn other) (add_connection c s))
+            → KeepsFrontBy Continues (to.Conn other) [] (standing_of (to.Conn other) s) moves (standing_of (to.Conn other) (add_connection c s))
         by (inl last) =
-            front_by GoesOn (to.Conn other) [] (new_sender false 0) moves (new_sender false closed_future) s (add_connection c s)
+            front_by Continues (to.Conn other) [] (new_sender false 0) moves (new_sender false closed_future) s (add_connection c s)
             (ap (λ n. conn_as (slice_get s.connections n)) last ∙ ap conn_as (get-end s.connections))
             (ap (λ n. conn_as (slice_get (s.connections ++ c ∷ []) n)) last ∙ ap conn_as (get-push_last s.connections c) ∙ new)
             (fresh (to.Conn other) moves false closed_future (none (to.Conn other)))
         by (inr before) =
-            front_by GoesOn (to.Conn other) [] (standing_of (to.Conn other) s) moves (standing_of (to.Conn other) s) s (add_connection c s) refl
+            front_by Continues (to.Conn other) [] (standing_of (to.Conn other) s) moves (standing_of (to.Conn other) s) s (add_connection c s) refl
             (ap conn_as (get-push_other s.connections c other before))
             (front_still (to.Conn other) (standing_of (to.Conn other) s) moves sound (none (to.Conn other)))
 
@@ -249,27 +249,27 @@ opened_child s closed_future moves none whom sound = (
     p = new_child closed_future
 
     at : (whom : Handed) → IsSoundSender (standing_of whom s)
-        → KeepsFrontBy GoesOn whom [] (standing_of whom s) moves (standing_of whom (add_child (new_child closed_future) s))
+        → KeepsFrontBy Continues whom [] (standing_of whom s) moves (standing_of whom (add_child (new_child closed_future) s))
     at (to.Conn other) sound = front_still (to.Conn other) (standing_of (to.Conn other) s) moves sound (none (to.Conn other))
     at (to.Child other) sound = by (cases_eq other (length s.children))
       where
         by : (other ≡ length s.children) ⊎ (other ≡ length s.children → ⊥)
-            → KeepsFrontBy GoesOn (to.Child other) [] (standing_of (to.Child other) s) moves
+            → KeepsFrontBy Continues (to.Child other) [] (standing_of (to.Child other) s) moves
             (standing_of (to.Child other) (add_child (new_child closed_future) s))
         by (inl last) =
-            front_by GoesOn (to.Child other) [] (new_sender false 0) moves (new_sender true closed_future) s (add_child (new_child closed_future) s)
+            front_by Continues (to.Child other) [] (new_sender false 0) moves (new_sender true closed_future) s (add_child (new_child closed_future) s)
             (ap (λ n. child_as (slice_get s.children n)) last ∙ ap child_as (get-end s.children))
             (ap (λ n. child_as (slice_get (s.children ++ new_child closed_future ∷ []) n)) last
             ∙ ap child_as (get-push_last s.children (new_child closed_future)))
             (fresh (to.Child other) moves true closed_future (none (to.Child other)))
         by (inr before) =
-            front_by GoesOn (to.Child other) [] (standing_of (to.Child other) s) moves (standing_of (to.Child other) s) s
+            front_by Continues (to.Child other) [] (standing_of (to.Child other) s) moves (standing_of (to.Child other) s) s
             (add_child (new_child closed_future) s) refl (ap child_as (get-push_other s.children (new_child closed_future) other before))
             (front_still (to.Child other) (standing_of (to.Child other) s) moves sound (none (to.Child other)))
 
 -- ---- one after another
-pub side_both : (whom : Handed) (piece last : List ℕ) (s mid after : Streams) (moves more : List Move) → KeepsSide GoesOn whom piece s moves mid
-    → KeepsSide GoesOn whom last mid more after → KeepsSide GoesOn whom (piece ++ last) s (moves ++ more) after
+pub side_both : (whom : Handed) (piece last : List ℕ) (s mid after : Streams) (moves more : List Move) → KeepsSide Continues whom piece s moves mid
+    → KeepsSide Continues whom last mid more after → KeepsSide Continues whom (piece ++ last) s (moves ++ more) after
 side_both whom piece last s mid after moves more first second =
     record {
       written = second.written ∙ ap (λ bytes. bytes ++ last) first.written ∙ append_assoc (written_to whom s.written) piece last;

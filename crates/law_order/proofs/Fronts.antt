@@ -18,7 +18,7 @@ use Rattle.law_order.specs.Frames.{IsApart}
 use Rattle.law_order.specs.Mild.{good_losses}
 use Rattle.law_order.proofs.Framing.{apart_taken}
 use Rattle.law_order.proofs.Mildly.{good_fewer}
-use Rattle.law_order.specs.Fronts.{EndsAs, GoesOn, IsFront, IsGood, IsRegular, KeepsFrontBy, Loses, MayGiveUp, Way}
+use Rattle.law_order.specs.Fronts.{EndsAs, Continues, IsFront, IsGood, IsRegular, KeepsFrontBy, Loses, MayGiveUp, Way}
 
 no_true : (b : Bool) → b ≡ false → b ≡ true → ⊥
 no_true true none is = let bad : ⊥ = cc in bad
@@ -111,7 +111,7 @@ regular_of whom ran piece s moves after none keeps =
 
 pub front_of : (whom : Handed) (ran : ℕ) (piece : List ℕ) (s : Sender) (moves : List Move) (after : Sender) → IsSoundSender s → ran ≡ 0
     → (s.writer.ended ≡ true → piece ≡ []) → IsGood whom piece s moves → KeepsSender whom ran piece s moves after
-    → KeepsFrontBy GoesOn whom piece s moves after
+    → KeepsFrontBy Continues whom piece s moves after
 front_of whom ran piece s moves after sound none mute good keeps =
     record {
       sound = keeps.sound;
@@ -149,7 +149,7 @@ pub still_rest : (written handed : List ℕ) (whom : Handed) (moves : List Move)
 still_rest written handed whom moves rest none front =
     append-nil written ∙ front ∙ ap (λ bytes. bytes ++ rest) (sym (append-nil handed) ∙ ap (λ bytes. handed ++ bytes) (sym none))
 
-pub front_still : (whom : Handed) (s : Sender) (moves : List Move) → IsSoundSender s → IsApart whom moves → KeepsFrontBy GoesOn whom [] s moves s
+pub front_still : (whom : Handed) (s : Sender) (moves : List Move) → IsSoundSender s → IsApart whom moves → KeepsFrontBy Continues whom [] s moves s
 front_still whom s moves sound apart =
     let none = apart.hands in
     let no = apart.loses in
@@ -175,12 +175,12 @@ front_still whom s moves sound apart =
 -- what goes on may as well end so
 as_any : (way : Way) (whom : Handed) (piece : List ℕ) (s : Sender) (moves : List Move) (after : Sender) → IsRegular whom piece s moves after
     → EndsAs way whom piece s moves after
-as_any GoesOn whom piece s moves after it = it
+as_any Continues whom piece s moves after it = it
 as_any (MayGiveUp conn) whom piece s moves after it = inl it
 as_any (Loses who broken) whom piece s moves after it = inl it
 
 pub front_as : (way : Way) (whom : Handed) (piece : List ℕ) (s : Sender) (moves : List Move) (after : Sender)
-    → KeepsFrontBy GoesOn whom piece s moves after → KeepsFrontBy way whom piece s moves after
+    → KeepsFrontBy Continues whom piece s moves after → KeepsFrontBy way whom piece s moves after
 front_as way whom piece s moves after it =
     record {
       sound = it.sound;
@@ -233,7 +233,7 @@ module _ (whom : Handed) (piece : List ℕ) (s : Sender) (moves more : List Move
       }
 
   ends_after : (way : Way) → EndsAs way whom piece s more after → EndsAs way whom piece s (moves ++ more) after
-  ends_after GoesOn it = regular_after it
+  ends_after Continues it = regular_after it
   ends_after (MayGiveUp conn) (inl it) = inl (regular_after it)
   ends_after (MayGiveUp conn) (inr it) = inr (it.0, closes_same ∙ it.1)
   ends_after (Loses who broken) (inl it) = inl (regular_after it)
@@ -256,8 +256,8 @@ module _ (whom : Handed) (piece : List ℕ) (s : Sender) (moves more : List Move
       }
 
 -- two that go on
-module _ (whom : Handed) (piece last : List ℕ) (s mid after : Sender) (moves more : List Move) (first : KeepsFrontBy GoesOn whom piece s moves mid)
-    (second : KeepsFrontBy GoesOn whom last mid more after) where
+module _ (whom : Handed) (piece last : List ℕ) (s mid after : Sender) (moves more : List Move) (first : KeepsFrontBy Continues whom piece s moves mid)
+    (second : KeepsFrontBy Continues whom last mid more after) where
   both_rest : (written handed rest : List ℕ) → (written ++ piece) ++ last ≡ ((handed ++ handed_in whom moves) ++ handed_in whom more) ++ rest
       → written ++ (piece ++ last) ≡ (handed ++ handed_in whom (moves ++ more)) ++ rest
   both_rest written handed rest front =
@@ -314,7 +314,7 @@ module _ (whom : Handed) (piece last : List ℕ) (s mid after : Sender) (moves m
         closes = let sum = closes_both whom moves more in let a = one.closes in let b = two.closes in omega (arith, sum, a, b);
       }
 
-  pub front_both : KeepsFrontBy GoesOn whom (piece ++ last) s (moves ++ more) after
+  pub front_both : KeepsFrontBy Continues whom (piece ++ last) s (moves ++ more) after
   front_both =
       record {
         sound = second.sound;

@@ -14,7 +14,7 @@ use Rattle.law_order.proofs.Moves.{first_goes, first_runs, loss_of, losses_count
 use Rattle.law_order.proofs.Parts.{losses_of}
 use Rattle.law_stream.specs.SoundSenders.{outlet_of}
 use Rattle.law_stream.specs.Ways.{Move, Did, Heard, one_if, told_by}
-use Rattle.law_order.specs.Fronts.{GoesOn, Loses, MayGiveUp, Way}
+use Rattle.law_order.specs.Fronts.{Continues, Loses, MayGiveUp, Way}
 use Rattle.law_order.specs.Sides.{AreKeptBy, standing_of}
 use Rattle.law_walk.specs.Walks.{In, made_on}
 use Rattle.law_order.specs.Order.{IsLostOnce, losses_ran}
@@ -110,7 +110,7 @@ lost_kept =
       loops = λ s events p q quiet it. lost_loops s events p it q quiet;
       taken = λ s events p handle rest first dead it. lost_taken s events p it handle rest first dead;
       runs = λ s events p handle rest first live it. lost_runs s events p it handle rest first live;
-      tree = λ s events p moves after kept it. lost_tree s events p it GoesOn moves after kept;
+      tree = λ s events p moves after kept it. lost_tree s events p it Continues moves after kept;
       gives_up = λ conn s events p moves after giving kept it. lost_tree s events p it (MayGiveUp conn) moves after kept;
       loses = λ who broken s events p handle rest first live is moves after kept it.
           lost_loses who broken s events p it handle rest first live is moves after kept;

@@ -12,7 +12,7 @@ use Rattle.model_stream.specs.Streams.{Streams}
 use Rattle.law_order.specs.Quiet.{IsQuiet as Quiet}
 use Rattle.law_stream.specs.SoundSenders.{outlet_of}
 use Rattle.law_stream.specs.Ways.{Move, Did, Heard, handed_in, told_by}
-use Rattle.law_order.specs.Fronts.{GoesOn, IsFront, Loses, MayGiveUp, Way}
+use Rattle.law_order.specs.Fronts.{Continues, IsFront, Loses, MayGiveUp, Way}
 use Rattle.law_order.specs.Sides.{AreKept, AreKeptBy, standing_of}
 use Rattle.law_walk.specs.Walks.{made_on}
 use Rattle.law_order.specs.Order.{AreInOrder, IsOver, closes_asked, losses_ran, may_give_up}
@@ -115,7 +115,7 @@ order_kept =
       loops = λ s events p q quiet ordered. ordered;
       taken = λ s events p handle rest first dead ordered. ordered;
       runs = λ s events p handle rest first live ordered. order_quiet s events (event.Ran handle.action ∷ []) p p (ran_hands handle.action) ordered;
-      tree = λ s events p moves after kept ordered. order_tree GoesOn s events p (made_on moves p) moves after kept ordered;
+      tree = λ s events p moves after kept ordered. order_tree Continues s events p (made_on moves p) moves after kept ordered;
       gives_up = λ conn s events p moves after giving kept ordered.
           order_tree (MayGiveUp conn) s events p (made_on moves p) moves after kept ordered;
       loses = λ who broken s events p handle rest first live is moves after kept ordered.
@@ -155,7 +155,7 @@ over_kept whom bytes =
       taken = λ s events p handle rest first dead it. over_same whom bytes s events p (record p { pending = rest }) it;
       runs = λ s events p handle rest first live it.
           over_quiet whom bytes s events (event.Ran handle.action ∷ []) p (record p { pending = rest }) (ran_hands handle.action) it;
-      tree = λ s events p moves after kept it. over_tree whom bytes GoesOn s events p (made_on moves p) moves after kept it;
+      tree = λ s events p moves after kept it. over_tree whom bytes Continues s events p (made_on moves p) moves after kept it;
       gives_up = λ conn s events p moves after giving kept it.
           over_tree whom bytes (MayGiveUp conn) s events p (made_on moves p) moves after kept it;
       loses = λ who broken s events p handle rest first live is moves after kept it.

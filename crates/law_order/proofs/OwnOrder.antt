@@ -35,7 +35,7 @@ use Rattle.law_order.specs.Frames.{IsApart}
 use Rattle.law_order.specs.Mild.{IsMild, good_losses, is_good_loss}
 use Rattle.law_order.proofs.Framing.{apart_did, apart_start, none_and}
 use Rattle.law_order.proofs.Mildly.{child_write_mild, mild_along, mild_into, settle_mild, tell_mild, write_to_mild}
-use Rattle.law_order.specs.Fronts.{GoesOn, IsFront, IsGood, IsLoss, KeepsFrontBy, Loses, MayGiveUp, Way}
+use Rattle.law_order.specs.Fronts.{Continues, IsFront, IsGood, IsLoss, KeepsFrontBy, Loses, MayGiveUp, Way}
 use Rattle.law_order.proofs.Fronts.{front_after, front_as, front_of, front_still, none_good, none_handed, over_front}
 
 -- ---- what makes and settles futures alone
@@ -155,17 +155,17 @@ module _ (id : ℕ) where
   abbrev pub Keeps : (way : Way) (piece : List ℕ) → Sender → List Move → Connection → Type 0
   Keeps way piece s moves after = KeepsFrontBy way (to.Conn id) piece s moves after.sender
 
-  still : (c : Connection) → IsSoundSender c.sender → KeepsFrontBy GoesOn (to.Conn id) [] c.sender [] c.sender
+  still : (c : Connection) → IsSoundSender c.sender → KeepsFrontBy Continues (to.Conn id) [] c.sender [] c.sender
   still c sound = front_still (to.Conn id) c.sender [] sound (apart_start (to.Conn id))
 
   -- whatever keeps its sender
   pub conn_front : {A : Type 0} (get : A → Sender) (piece : List ℕ) (c : Connection) (doing : Doing A) → IsSoundSender c.sender
       → (c.sender.writer.ended ≡ true → piece ≡ []) → Always (λ moves result. IsGood (to.Conn id) piece c.sender moves) doing
       → Always (λ moves result. KeepsSender (to.Conn id) 0 piece c.sender moves (get result)) doing
-      → Always (λ moves result. KeepsFrontBy GoesOn (to.Conn id) piece c.sender moves (get result)) doing
+      → Always (λ moves result. KeepsFrontBy Continues (to.Conn id) piece c.sender moves (get result)) doing
   conn_front get piece c doing sound mute good here =
       always_map (λ moves result. KeepsSender (to.Conn id) 0 piece c.sender moves (get result) × IsGood (to.Conn id) piece c.sender moves)
-      (λ moves result. KeepsFrontBy GoesOn (to.Conn id) piece c.sender moves (get result)) doing
+      (λ moves result. KeepsFrontBy Continues (to.Conn id) piece c.sender moves (get result)) doing
       (λ moves result it. front_of (to.Conn id) 0 piece c.sender moves (get result) sound refl mute it.1 it.0)
       (always_both (λ moves result. KeepsSender (to.Conn id) 0 piece c.sender moves (get result))
       (λ moves result. IsGood (to.Conn id) piece c.sender moves) doing here good)
@@ -173,27 +173,27 @@ module _ (id : ℕ) where
   -- what writes nothing, and schedules no loss without an exception
   pub conn_mild : {A : Type 0} (get : A → Sender) (c : Connection) (doing : Doing A) → IsSoundSender c.sender → IsMild doing
       → Always (λ moves result. KeepsSender (to.Conn id) 0 [] c.sender moves (get result)) doing
-      → Always (λ moves result. KeepsFrontBy GoesOn (to.Conn id) [] c.sender moves (get result)) doing
+      → Always (λ moves result. KeepsFrontBy Continues (to.Conn id) [] c.sender moves (get result)) doing
   conn_mild get c doing sound mild here =
       conn_front get [] c doing sound (λ is. refl) (mild_good (to.Conn id) [] c.sender doing mild) here
 
   pub write_front : (piece : List ℕ) (c : Connection) → IsSoundSender c.sender
       → Always (λ moves (done : Connection × Wrote).
-      KeepsFrontBy GoesOn (to.Conn id) (written_of (put_answer piece c.sender.writer) piece) c.sender moves done.0.sender) (write_to id piece c)
+      KeepsFrontBy Continues (to.Conn id) (written_of (put_answer piece c.sender.writer) piece) c.sender moves done.0.sender) (write_to id piece c)
   write_front piece c sound =
       let written = written_of (put_answer piece c.sender.writer) piece in
       conn_front {A = Connection × Wrote} (λ done. done.0.sender) written c (write_to id piece c) sound (dropped piece c.sender.writer)
       (mild_good (to.Conn id) written c.sender (write_to id piece c) (write_to_mild id piece c)) (conn_writes id piece c sound)
 
-  pub close_front : (c : Connection) → IsSoundSender c.sender → Always (Keeps GoesOn [] c.sender) (close id c)
+  pub close_front : (c : Connection) → IsSoundSender c.sender → Always (Keeps Continues [] c.sender) (close id c)
   close_front c sound =
       conn_front (λ after. after.sender) [] c (close id c) sound (λ is. refl)
       (always_into (λ moves (after : Connection). IsGood (to.Conn id) [] c.sender moves) (λ after. record c { sender = after })
       (close_sender (outlet id) c.sender) (close_good (to.Conn id) c.sender sound)) (conn_closes id c sound)
 
-  pub handled_front : (returned : Bool) (c : Connection) → IsSoundSender c.sender → Always (Keeps GoesOn [] c.sender) (handler_done id returned c)
+  pub handled_front : (returned : Bool) (c : Connection) → IsSoundSender c.sender → Always (Keeps Continues [] c.sender) (handler_done id returned c)
   handled_front returned c sound =
-      always_if (Keeps GoesOn [] c.sender) returned (Ends c) (close id c) (λ _. still c sound) (λ _. close_front c sound)
+      always_if (Keeps Continues [] c.sender) returned (Ends c) (close id c) (λ _. still c sound) (λ _. close_front c sound)
 
   -- its reader is told first
   pub lose_front : (broken : Bool) (c : Connection) → IsSoundSender c.sender
@@ -216,13 +216,13 @@ module _ (id : ℕ) where
       (loss_front (to.Conn id) broken c.sender sound)))
       (quiet_hands (to.Conn id) (receive_loss fault c.receiver) (quiet_step (receivers.IsLost fault) c.receiver))))
 
-  pub start_front : (c : Connection) → IsSoundSender c.sender → Always (Keeps GoesOn [] c.sender) (Ends (start_read c))
+  pub start_front : (c : Connection) → IsSoundSender c.sender → Always (Keeps Continues [] c.sender) (Ends (start_read c))
   start_front c sound = still c sound
 
-  pub up_front : (c : Connection) → IsSoundSender c.sender → Always (Keeps GoesOn [] c.sender) (up id c)
+  pub up_front : (c : Connection) → IsSoundSender c.sender → Always (Keeps Continues [] c.sender) (up id c)
   up_front c sound = at c.making
     where
-      at : (making : Option ℕ) → Always (Keeps GoesOn [] c.sender) (elim making [ Some future ↦ stand_up id future c | None ↦ Ends c ])
+      at : (making : Option ℕ) → Always (Keeps Continues [] c.sender) (elim making [ Some future ↦ stand_up id future c | None ↦ Ends c ])
       at (Some future) = front_still (to.Conn id) c.sender _ sound (record { hands = refl; loses = refl; closes = refl })
       at None = still c sound
 
@@ -258,18 +258,18 @@ module _ (id : ℕ) where
       always_if (Keeps (MayGiveUp id) [] c.sender) (is_some c.making) (asks (call.Close id) (Ends (unmade c))) (close id c)
       (λ is came fit. unmade_front c _ sound (ap (λ bytes. bytes ++ []) (closes_hands (to.Conn id) came)) refl refl (one_close (to.Conn id)))
       (λ is.
-      always_map (Keeps GoesOn [] c.sender) (Keeps (MayGiveUp id) [] c.sender) (close id c)
+      always_map (Keeps Continues [] c.sender) (Keeps (MayGiveUp id) [] c.sender) (close id c)
       (λ moves after keeps. front_as (MayGiveUp id) (to.Conn id) [] c.sender moves after.sender keeps) (close_front c sound))
 
   -- what is done with its receiver, with an answer
   pub take_front : {R : Type 0} (change : Receiver → Doing (Receiver × R)) → ((r : Receiver) → AllQuiet (change r)) → (c : Connection)
       → IsSoundSender c.sender
-      → Always (λ moves (done : Connection × R). KeepsFrontBy GoesOn (to.Conn id) [] c.sender moves done.0.sender) (asked_on its_receiver change c)
+      → Always (λ moves (done : Connection × R). KeepsFrontBy Continues (to.Conn id) [] c.sender moves done.0.sender) (asked_on its_receiver change c)
   take_front {R} change quiet c sound =
-      always_into (λ moves (done : Connection × R). KeepsFrontBy GoesOn (to.Conn id) [] c.sender moves done.0.sender)
+      always_into (λ moves (done : Connection × R). KeepsFrontBy Continues (to.Conn id) [] c.sender moves done.0.sender)
       (λ (done : Receiver × R). (record c { receiver = done.0 }, done.1)) (change c.receiver)
       (always_map (λ moves (done : Receiver × R). IsApart (to.Conn id) moves)
-      (λ moves (done : Receiver × R). KeepsFrontBy GoesOn (to.Conn id) [] c.sender moves c.sender) (change c.receiver)
+      (λ moves (done : Receiver × R). KeepsFrontBy Continues (to.Conn id) [] c.sender moves c.sender) (change c.receiver)
       (λ moves done none. front_still (to.Conn id) c.sender moves sound none) (quiet_hands (to.Conn id) (change c.receiver) (quiet c.receiver)))
 
 -- ---- a child
@@ -281,11 +281,11 @@ module _ (id : ℕ) where
   child_front : (step : children.ChildStep) (p : Child) → IsSoundSender p.stdin → children.May step p → children.ran_in step ≡ 0
       → (p.stdin.writer.ended ≡ true → children.written_in step p ≡ [])
       → Always (λ moves (after : Child). IsGood (to.Child id) (children.written_in step p) p.stdin moves) (children.done id step p)
-      → Always (ChildKeeps GoesOn (children.written_in step p) p.stdin) (children.done id step p)
+      → Always (ChildKeeps Continues (children.written_in step p) p.stdin) (children.done id step p)
   child_front step p sound may none mute good =
       let Good = λ (moves : List Move) (after : Child). IsGood (to.Child id) (children.written_in step p) p.stdin moves in
       let Kept = children.KeepsChild id (children.ran_in step) (children.written_in step p) p in
-      always_map (λ moves after. Kept moves after × Good moves after) (ChildKeeps GoesOn (children.written_in step p) p.stdin) (children.done id step p)
+      always_map (λ moves after. Kept moves after × Good moves after) (ChildKeeps Continues (children.written_in step p) p.stdin) (children.done id step p)
       (λ moves after it.
       front_of (to.Child id) (children.ran_in step) (children.written_in step p) p.stdin moves after.stdin sound none mute it.1 it.0)
       (always_both Kept Good (children.done id step p) (child_order.step_keeps id step p sound may) good)
@@ -293,12 +293,12 @@ module _ (id : ℕ) where
   -- one that schedules no loss without an exception
   pub child_mild : (step : children.ChildStep) (p : Child) → IsSoundSender p.stdin → children.May step p → children.ran_in step ≡ 0
       → (p.stdin.writer.ended ≡ true → children.written_in step p ≡ []) → IsMild (children.done id step p)
-      → Always (ChildKeeps GoesOn (children.written_in step p) p.stdin) (children.done id step p)
+      → Always (ChildKeeps Continues (children.written_in step p) p.stdin) (children.done id step p)
   child_mild step p sound may none mute mild =
       child_front step p sound may none mute (mild_good (to.Child id) (children.written_in step p) p.stdin (children.done id step p) mild)
 
   pub child_write_front : (piece : List ℕ) (p : Child) → IsSoundSender p.stdin
-      → Always (ChildKeeps GoesOn (children.written_to piece p) p.stdin) (children.done id (children.Writes piece) p)
+      → Always (ChildKeeps Continues (children.written_to piece p) p.stdin) (children.done id (children.Writes piece) p)
   child_write_front piece p sound =
       child_mild (children.Writes piece) p sound tt refl (λ over. by over (is_closing p.stdin))
       (mild_into {A = Child × Wrote} {B = Child} (λ done. done.0) (write_child id piece p) (child_write_mild id piece p))
@@ -307,7 +307,7 @@ module _ (id : ℕ) where
       by over true = refl
       by over false = dropped piece p.stdin.writer over
 
-  pub child_close_front : (p : Child) → IsSoundSender p.stdin → Always (ChildKeeps GoesOn [] p.stdin) (close_child id p)
+  pub child_close_front : (p : Child) → IsSoundSender p.stdin → Always (ChildKeeps Continues [] p.stdin) (close_child id p)
   child_close_front p sound =
       child_front children.Closes p sound tt refl (λ is. refl)
       (always_into (λ moves (after : Child). IsGood (to.Child id) [] p.stdin moves) (λ after. record p { stdin = after })
@@ -325,7 +325,7 @@ module _ (id : ℕ) where
       by live true is = none_good (to.Child id) [] p.stdin (Did (CallSoon ((inlet id).loses true)) ∷ []) refl
       by live false is = λ some written handed front. all_handed written handed p.stdin front live (nothing_by p.stdin.writer.unsent is)
 
-  pub tell_front : (item : ChildItem (List ℕ)) (p : Child) → IsSoundSender p.stdin → Always (ChildKeeps GoesOn [] p.stdin) (tell_child id item p)
+  pub tell_front : (item : ChildItem (List ℕ)) (p : Child) → IsSoundSender p.stdin → Always (ChildKeeps Continues [] p.stdin) (tell_child id item p)
   tell_front Broken p sound = child_front (children.IsTold Broken) p sound tt refl (λ is. refl) (break_good p)
   tell_front (Out bytes) p sound =
       child_mild (children.IsTold (Out bytes)) p sound tt refl (λ is. refl) (tell_mild id (Out bytes) p (λ is. let bad : ⊥ = cc in bad))
@@ -344,16 +344,16 @@ module _ (id : ℕ) where
 
   pub pipe_front : {R : Type 0} (from : Stream) (change : Receiver → Doing (Receiver × R)) → ((r : Receiver) → AllQuiet (change r)) → (p : Child)
       → IsSoundSender p.stdin
-      → Always (λ moves (done : Child × R). KeepsFrontBy GoesOn (to.Child id) [] p.stdin moves done.0.stdin) (asked_on (its_pipe from) change p)
+      → Always (λ moves (done : Child × R). KeepsFrontBy Continues (to.Child id) [] p.stdin moves done.0.stdin) (asked_on (its_pipe from) change p)
   pipe_front {R} stream.Out change quiet p sound =
-      always_into (λ moves (done : Child × R). KeepsFrontBy GoesOn (to.Child id) [] p.stdin moves done.0.stdin)
+      always_into (λ moves (done : Child × R). KeepsFrontBy Continues (to.Child id) [] p.stdin moves done.0.stdin)
       (λ (done : Receiver × R). (record p { out = done.0 }, done.1)) (change p.out)
       (always_map (λ moves (done : Receiver × R). IsApart (to.Child id) moves)
-      (λ moves (done : Receiver × R). KeepsFrontBy GoesOn (to.Child id) [] p.stdin moves p.stdin) (change p.out)
+      (λ moves (done : Receiver × R). KeepsFrontBy Continues (to.Child id) [] p.stdin moves p.stdin) (change p.out)
       (λ moves done none. front_still (to.Child id) p.stdin moves sound none) (quiet_hands (to.Child id) (change p.out) (quiet p.out)))
   pipe_front {R} stream.Errs change quiet p sound =
-      always_into (λ moves (done : Child × R). KeepsFrontBy GoesOn (to.Child id) [] p.stdin moves done.0.stdin)
+      always_into (λ moves (done : Child × R). KeepsFrontBy Continues (to.Child id) [] p.stdin moves done.0.stdin)
       (λ (done : Receiver × R). (record p { errs = done.0 }, done.1)) (change p.errs)
       (always_map (λ moves (done : Receiver × R). IsApart (to.Child id) moves)
-      (λ moves (done : Receiver × R). KeepsFrontBy GoesOn (to.Child id) [] p.stdin moves p.stdin) (change p.errs)
+      (λ moves (done : Receiver × R). KeepsFrontBy Continues (to.Child id) [] p.stdin moves p.stdin) (change p.errs)
       (λ moves done none. front_still (to.Child id) p.stdin moves sound none) (quiet_hands (to.Child id) (change p.errs) (quiet p.errs)))

@@ -18,8 +18,9 @@ use Rattle.model_loop.specs.Tasks.{change_task, next_task, spawn}
 use Rattle.model_loop.specs.Totals.{callbacks_at, callbacks_of}
 use Rattle.model_stream.specs.Doing.{CallSoon}
 use Rattle.law_cancel.proofs.Lookups.{get-set_kept}
-use Rattle.law_changes.specs.Changes.{PartsChange, CallsSoon, CallsLater, Revokes, MakesFuture, Settles, Registers, KeepsAsked, MakesTask, WaitsFor, Marks}
-use Rattle.law_changes.specs.Changes.{Unmarks, Counts, Uncounts, Passes, FallsDue, LeavesPending, made_of_parts}
+use Rattle.law_changes.specs.Changes.{PartsChange, CallsSoon, CallsLater, Revokes, MakesFuture, Settles, Registers, KeepsAsked, MakesTask, WaitsFor}
+use Rattle.law_changes.specs.Changes.{SetsMustCancel}
+use Rattle.law_changes.specs.Changes.{ClearsMustCancel, Counts, Uncounts, Passes, FallsDue, LeavesPending, made_of_parts}
 use Rattle.law_steps.proofs.Settling.{IsSettled, count_fewer, settle_cases}
 use Rattle.law_groups.proofs.Due.{due-entries, due-futures}
 use Rattle.law_groups.proofs.Entries.{entries-soon, entries-later, entries-revoke}
@@ -186,8 +187,8 @@ change_quiet (Registers future it) p may = register_quiet future it p may
 change_quiet (KeepsAsked future) p may = asked_quiet future p
 change_quiet MakesTask p may = spawn_quiet p
 change_quiet (WaitsFor task on) p may = task_quiet task _ p
-change_quiet (Marks task) p may = task_quiet task _ p
-change_quiet (Unmarks task) p may = task_quiet task _ p
+change_quiet (SetsMustCancel task) p may = task_quiet task _ p
+change_quiet (ClearsMustCancel task) p may = task_quiet task _ p
 change_quiet (Counts task) p may = task_quiet task _ p
 change_quiet (Uncounts task) p may = task_quiet task _ p
 change_quiet (Passes now) p may = same_futures p (made_of_parts (Passes now) p) refl (λ counts of. le_refl _)

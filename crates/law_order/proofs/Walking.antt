@@ -118,7 +118,7 @@ woken_quiet answer p =
 -- ---- all together
 step_gives : (it : Action) → is_step it ≡ true → may_give_up it ≡ true
 step_gives (action.Step task) is = refl
-step_gives (action.StepInCircle task circle) is = refl
+step_gives (action.StepInCycle task cycle) is = refl
 step_gives (action.Wakeup task) is = refl
 step_gives _ is = absurd (false≢true is)
 

@@ -26,7 +26,7 @@ use Rattle.law_stream.specs.Ways.{Move, Did, Heard, closes, losses, one_if, told
 use Rattle.law_stream.proofs.SoundSenders.{loses_counts}
 use Rattle.law_order.specs.Mild.{good_losses, is_good_loss}
 use Rattle.law_order.proofs.Mildly.{good_fewer, good_is_loss}
-use Rattle.law_order.specs.Fronts.{GoesOn, IsLoss, IsRegular, Loses, MayGiveUp, Way}
+use Rattle.law_order.specs.Fronts.{Continues, IsLoss, IsRegular, Loses, MayGiveUp, Way}
 use Rattle.law_order.specs.Sides.{AreKeptBy, KeepsSide, standing_as, standing_of}
 use Rattle.law_walk.specs.Walks.{In, made_on}
 use Rattle.law_order.specs.Order.{IsLostOnce, IsOver, closes_asked, may_give_up}
@@ -199,12 +199,12 @@ module _ (way : Way) (s : Streams) (events : List Event) (p : Parts) (it : IsWho
       → IsWhole after (events ++ told_by moves) (made_on moves p)
   whole_after lost orderly = record { lost = lost; good = good_after; orderly = orderly; closed = closed_after }
 
-whole_tree : (s : Streams) (events : List Event) (p : Parts) (moves : List Move) (after : Streams) → AreKeptBy GoesOn s moves after → IsWhole s events p
+whole_tree : (s : Streams) (events : List Event) (p : Parts) (moves : List Move) (after : Streams) → AreKeptBy Continues s moves after → IsWhole s events p
     → IsWhole after (events ++ told_by moves) (made_on moves p)
 whole_tree s events p moves after kept it =
-    whole_after GoesOn s events p it moves after kept (lost_kept.tree s events p moves after kept it.lost)
+    whole_after Continues s events p it moves after kept (lost_kept.tree s events p moves after kept it.lost)
     (λ whom not_given.
-    orderly_after GoesOn s events p it moves after kept whom not_given (side GoesOn s events p it moves after kept whom).1.keeps.ends)
+    orderly_after Continues s events p it moves after kept whom not_given (side Continues s events p it moves after kept whom).1.keeps.ends)
 
 -- ---- a connection may be given up
 module _ (conn : ℕ) (s : Streams) (events : List Event) (p : Parts) (it : IsWhole s events p) (moves : List Move) (after : Streams)

@@ -20,7 +20,7 @@ use Rattle.law_order.specs.Sides.{AreKept, KeepsAllWith, standing_of}
 use Rattle.law_order.proofs.AllSides.{unchanged}
 use Rattle.law_order.proofs.Among.{always_all, each_child, each_conn, none_written, noted_more, now_child, now_conn, stands_same}
 use Rattle.law_order.proofs.Framed as framed
-use Rattle.law_order.specs.Fronts.{GoesOn, KeepsFrontBy}
+use Rattle.law_order.specs.Fronts.{Continues, KeepsFrontBy}
 use Rattle.law_order.proofs.OwnOrder.{always_back, child_write_front, write_front}
 
 -- from the streams in which the piece is noted
@@ -28,26 +28,26 @@ gather_noted : {X : Type 0} (s t : Streams) (now : X → Streams) (whose : Hande
     → ((x : X) → (now x).written ≡ t.written) → ((whom : Handed) → standing_of whom t ≡ standing_of whom s)
     → ((whom : Handed) → written_to whom t.written ≡ written_to whom s.written ++ cond (is_same whom whose) piece [])
     → ((whom : Handed) → IsSoundSender (standing_of whom t)
-    → Always (λ moves x. KeepsFrontBy GoesOn whom (cond (is_same whom whose) piece []) (standing_of whom t) moves (standing_of whom (now x))) doing)
+    → Always (λ moves x. KeepsFrontBy Continues whom (cond (is_same whom whose) piece []) (standing_of whom t) moves (standing_of whom (now x))) doing)
     → Always (λ moves x. AreKept s moves (now x)) doing
 gather_noted {X} s t now whose piece doing same stands wrote_it each =
     always_map
     (λ moves (x : X). (whom : Handed) → IsSoundSender (standing_of whom t)
-    → KeepsFrontBy GoesOn whom (cond (is_same whom whose) piece []) (standing_of whom t) moves (standing_of whom (now x)))
+    → KeepsFrontBy Continues whom (cond (is_same whom whose) piece []) (standing_of whom t) moves (standing_of whom (now x)))
     (λ moves x. AreKept s moves (now x)) doing
     (λ moves x h whom sound. (
       cond (is_same whom whose) piece [],
       record {
         written = subst (λ xs. written_to whom xs ≡ written_to whom s.written ++ cond (is_same whom whose) piece []) (sym (same x)) (wrote_it whom);
-        keeps = subst (λ before. KeepsFrontBy GoesOn whom (cond (is_same whom whose) piece []) before moves (standing_of whom (now x))) (stands whom)
+        keeps = subst (λ before. KeepsFrontBy Continues whom (cond (is_same whom whose) piece []) before moves (standing_of whom (now x))) (stands whom)
             (h whom (subst IsSoundSender (sym (stands whom)) sound));
       },
     ))
     (always_all (λ (whom : Handed) moves (x : X). IsSoundSender (standing_of whom t)
-    → KeepsFrontBy GoesOn whom (cond (is_same whom whose) piece []) (standing_of whom t) moves (standing_of whom (now x))) doing
+    → KeepsFrontBy Continues whom (cond (is_same whom whose) piece []) (standing_of whom t) moves (standing_of whom (now x))) doing
     (λ whom.
     always_all (λ (sound : IsSoundSender (standing_of whom t)) moves (x : X).
-    KeepsFrontBy GoesOn whom (cond (is_same whom whose) piece []) (standing_of whom t) moves (standing_of whom (now x))) doing (each whom)))
+    KeepsFrontBy Continues whom (cond (is_same whom whose) piece []) (standing_of whom t) moves (standing_of whom (now x))) doing (each whom)))
 
 abbrev Wrote_ : Streams → List Move → Streams × Wrote → Type 0
 Wrote_ s moves done = AreKept s moves done.0
@@ -67,7 +67,7 @@ module _ (id : ℕ) (piece : List ℕ) (s : Streams) where
       (always_into (Wrote_ s) (λ (done : Connection × Wrote). (now_conn t id done.0, done.1)) (connection.write_to id piece c)
       (gather_noted {X = Connection × Wrote} s t (λ done. now_conn t id done.0) (to.Conn id) (written_by (to.Conn id) piece c.sender)
       (connection.write_to id piece c) (λ done. refl) stands wrote_it
-      (each_conn {X = Connection × Wrote} GoesOn t id (written_by (to.Conn id) piece c.sender) (connection.write_to id piece c) (λ done. done.0) c e
+      (each_conn {X = Connection × Wrote} Continues t id (written_by (to.Conn id) piece c.sender) (connection.write_to id piece c) (λ done. done.0) c e
       (write_front id piece c) (framed.write_to_framed id piece c))))
 
   child_writes_at : (p : Child) (t : Streams) → slice_get t.children id ≡ Some p → ((whom : Handed) → standing_of whom t ≡ standing_of whom s)
@@ -84,10 +84,10 @@ module _ (id : ℕ) (piece : List ℕ) (s : Streams) where
       (always_into (Wrote_ s) (λ (done : Child × Wrote). (now_child t id done.0, done.1)) (child.write_child id piece p)
       (gather_noted {X = Child × Wrote} s t (λ done. now_child t id done.0) (to.Child id) (written_by (to.Child id) piece p.stdin)
       (child.write_child id piece p) (λ done. refl) stands wrote_it
-      (each_child {X = Child × Wrote} GoesOn t id (written_by (to.Child id) piece p.stdin) (child.write_child id piece p) (λ done. done.0) p e
+      (each_child {X = Child × Wrote} Continues t id (written_by (to.Child id) piece p.stdin) (child.write_child id piece p) (λ done. done.0) p e
       (λ sound.
       always_back {A = Child × Wrote} {B = Child}
-      (λ moves after. KeepsFrontBy GoesOn (to.Child id) (written_by (to.Child id) piece p.stdin) p.stdin moves after.stdin) (λ done. done.0)
+      (λ moves after. KeepsFrontBy Continues (to.Child id) (written_by (to.Child id) piece p.stdin) p.stdin moves after.stdin) (λ done. done.0)
       (child.write_child id piece p) (child_write_front id piece p sound)) (framed.child_write_framed id piece p))))
 
   -- the piece is noted where there is one

@@ -23,7 +23,7 @@ pub record IsFront (written handed : List ℕ) (s : Sender) : Type 0 where
 -- It goes on with each, as most does; it may give up this connection, which is still being made; or the loss of this one, which
 -- was scheduled, is done.
 pub data Way : Type 0 where
-  GoesOn : Way
+  Continues : Way
   MayGiveUp : (conn : ℕ) → Way
   Loses : (who : Handed) (broken : Bool) → Way
 
@@ -32,7 +32,7 @@ abbrev pub way_of : Action → Way
 way_of (action.Lost id broken) = Loses (to.Conn id) broken
 way_of (action.LostChild id broken) = Loses (to.Child id) broken
 way_of (action.Down id) = MayGiveUp id
-way_of _ = GoesOn
+way_of _ = Continues
 
 -- of one that goes on
 pub record IsRegular (whom : Handed) (piece : List ℕ) (s : Sender) (moves : List Move) (after : Sender) : Type 0 where
@@ -51,7 +51,7 @@ pub record IsLoss (whom : Handed) (broken : Bool) (moves : List Move) (after : S
   pub closes : closes whom moves ≡ 1
 
 abbrev pub EndsAs : Way → Handed → List ℕ → Sender → List Move → Sender → Type 0
-EndsAs GoesOn whom piece s moves after = IsRegular whom piece s moves after
+EndsAs Continues whom piece s moves after = IsRegular whom piece s moves after
 EndsAs (MayGiveUp conn) whom piece s moves after =
     IsRegular whom piece s moves after ⊎ ((whom ≡ to.Conn conn) × (closes whom moves ≡ 1))
 EndsAs (Loses who broken) whom piece s moves after =

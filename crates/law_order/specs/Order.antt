@@ -62,7 +62,7 @@ closes_asked whom (event.Said task text ∷ events) = closes_asked whom events
 abbrev pub may_give_up : Action → Bool
 may_give_up (action.Down conn) = true
 may_give_up (action.Step task) = true
-may_give_up (action.StepInCircle task circle) = true
+may_give_up (action.StepInCycle task cycle) = true
 may_give_up (action.Wakeup task) = true
 may_give_up _ = false
 

@@ -9,7 +9,7 @@ use Rattle.model_stream.specs.Senders.{Sender, new_sender}
 use Rattle.model_stream.specs.Streams.{Streams}
 use Rattle.law_stream.specs.SoundSenders.{IsSoundSender}
 use Rattle.law_stream.specs.Ways.{Move, Always}
-use Rattle.law_order.specs.Fronts.{GoesOn, KeepsFrontBy, Way}
+use Rattle.law_order.specs.Fronts.{Continues, KeepsFrontBy, Way}
 
 abbrev pub standing_as : Option Sender → Sender
 standing_as None = new_sender false 0
@@ -31,7 +31,7 @@ AreKeptBy way s moves after =
 
 -- where each goes on
 abbrev pub AreKept : Streams → List Move → Streams → Type 0
-AreKept s moves after = AreKeptBy GoesOn s moves after
+AreKept s moves after = AreKeptBy Continues s moves after
 
 -- however what is done goes, by fitting answers
 abbrev pub KeepsAllBy : Way → Streams → Doing Streams → Type 0

@@ -14,7 +14,7 @@ ghost use Rattle.model_machine.specs.State.{State, start};
 ghost use Rattle.model_machine.specs.Turn.{run_below};
 ghost use Rattle.law_stream.specs.Ways.{one_if};
 ghost use Rattle.law_order.specs.Sides.{standing_of};
-ghost use Rattle.law_walk.specs.Walks.{In, IsRunIn, Leaves};
+ghost use Rattle.law_walk.specs.Walks.{In, IsRunIn, WentLeaves};
 ghost use Rattle.law_order.specs.Order.{IsOver, closes_asked};
 ghost use Rattle.law_order.specs.Losses.{IsWhole, ends_well, given_up, good_pending};
 
@@ -28,7 +28,7 @@ pub fn every_state_is_whole<S>()
     ensures from_any { (limit : ℕ) (added : Extra S) (turns : ℕ) (s : State S) → In IsWhole s
         → IsRunIn IsWhole limit added turns s }
     ensures callbacks { (limit : ℕ) (added : Extra S) (bar count : ℕ) (s : State S)
-        → In IsWhole s → Leaves IsWhole (run_below limit added bar count s) }
+        → In IsWhole s → WentLeaves IsWhole (run_below limit added bar count s) }
 {}
 
 /// So where a loss of one has no exception, all that was written to it was handed on: where such a

@@ -14,7 +14,7 @@ ghost use Rattle.model_machine.specs.Mids.{mids};
 ghost use Rattle.model_machine.specs.State.{State, start};
 ghost use Rattle.model_machine.specs.Turn.{run_below, turn};
 ghost use Rattle.law_order.specs.Sides.{standing_of};
-ghost use Rattle.law_walk.specs.Walks.{AreAllIn, In, IsRunIn, Leaves};
+ghost use Rattle.law_walk.specs.Walks.{AreAllIn, In, IsRunIn, WentLeaves};
 ghost use Rattle.law_order.specs.Order.{AreInOrder, IsInOrder, IsLostOnce, IsOver, IsRunInOrder};
 ghost use Rattle.law_order.specs.Order.{losses_ran};
 ghost use Rattle.law_order.specs.Quiet.{losses_pending};
@@ -29,11 +29,11 @@ pub fn every_state_is_in_order<S>()
     ensures from_any { (limit : ℕ) (added : Extra S) (turns : ℕ) (s : State S) → IsInOrder s
         → IsRunInOrder limit added turns s }
     ensures turn { (limit : ℕ) (added : Extra S) (s : State S) → IsInOrder s
-        → Leaves AreInOrder (turn limit added s) }
+        → WentLeaves AreInOrder (turn limit added s) }
     ensures between { (limit : ℕ) (added : Extra S) (s : State S) → IsInOrder s
         → AreAllIn AreInOrder (mids limit added s) }
     ensures callbacks { (limit : ℕ) (added : Extra S) (bar count : ℕ) (s : State S) → IsInOrder s
-        → Leaves AreInOrder (run_below limit added bar count s) }
+        → WentLeaves AreInOrder (run_below limit added bar count s) }
 {}
 
 /// So what the events say that a connection or a child's standard input was handed is a front of
@@ -61,7 +61,7 @@ pub fn nothing_is_handed_after_a_loss<S>()
         → IsRunIn (IsOver whom (handed whom s.events)) limit added turns s }
     ensures callbacks { (limit : ℕ) (added : Extra S) (bar count : ℕ) (s : State S) (whom : Handed)
         → IsInOrder s → (standing_of whom s.streams).writer.ended ≡ true
-        → Leaves (IsOver whom (handed whom s.events)) (run_below limit added bar count s) }
+        → WentLeaves (IsOver whom (handed whom s.events)) (run_below limit added bar count s) }
 {}
 
 /// The loss of one is scheduled once, and its callback runs once: in every state of every run at
@@ -73,7 +73,7 @@ pub fn a_loss_runs_once<S>()
     ensures from_any { (limit : ℕ) (added : Extra S) (turns : ℕ) (s : State S) → In IsLostOnce s
         → IsRunIn IsLostOnce limit added turns s }
     ensures callbacks { (limit : ℕ) (added : Extra S) (bar count : ℕ) (s : State S)
-        → In IsLostOnce s → Leaves IsLostOnce (run_below limit added bar count s) }
+        → In IsLostOnce s → WentLeaves IsLostOnce (run_below limit added bar count s) }
     ensures once { (s : State S) → In IsLostOnce s → (whom : Handed)
         → losses_ran whom s.events + losses_pending whom s.loop.parts ≤ 1 }
     ensures none_before { (s : State S) → In IsLostOnce s → (whom : Handed)

@@ -233,7 +233,7 @@ gone_acts next returned (action.LostChild id broken) one s h =
     on_child id one s h (child.lose_child id broken) (λ p e. children.over_child_loses id p e broken)
 gone_acts next returned (action.Made id) one s h = h
 gone_acts next returned (action.Step task) one s h = h
-gone_acts next returned (action.StepInCircle task circle) one s h = h
+gone_acts next returned (action.StepInCycle task cycle) one s h = h
 gone_acts next returned (action.Wakeup task) one s h = h
 gone_acts next returned (action.SleepDone task future) one s h = h
 gone_acts next returned (action.GroupDone group task) one s h = h

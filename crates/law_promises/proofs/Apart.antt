@@ -1,4 +1,4 @@
--- A task's mark stays in what doesn't step it: requests and steps of other tasks, callbacks, and what a turn does besides.
+-- A task's must_cancel stays in what doesn't step it: requests and steps of other tasks, callbacks, and what a turn does besides.
 use Rattle.std.proofs.Common.{◌≡◌, ℕ, Bool, true, false, cond, List, Option, Some, None, sym, ap, ◌∙◌}
 use Rattle.std.proofs.lemmas.Bool.{eq-eqb, false≢true}
 use Rattle.model_value.specs.Action.{Action}
@@ -6,10 +6,11 @@ use Rattle.model_value.specs.declared.action.Action.TheVariants as action
 use Rattle.model_value.specs.Input.{Input}
 use Rattle.model_wire.specs.Call.{Answer}
 use Rattle.model_loop.specs.Parts.{Handle, Parts}
-use Rattle.model_loop.specs.Tasks.{begin_step, cancelling_input, is_marked}
+use Rattle.model_loop.specs.Tasks.{begin_step, cancelling_input, must_cancel_of}
 use Rattle.model_loop.specs.Ways.{steps}
 use Rattle.model_machine.specs.Extra.{Extra}
-use Rattle.model_machine.specs.State.{Standing, Asked, Sleeping, Leaving, Serving, Connecting, Yielding, Reading, ReadingAll, State, generator_of, unbooked_in}
+use Rattle.model_machine.specs.State.{ResumePoint, Asked, Sleeping, Leaving, Serving, Connecting, Yielding, Reading, ReadingAll, State, generator_of}
+use Rattle.model_machine.specs.State.{unbooked_in}
 use Rattle.model_machine.specs.Step.{given_up}
 use Rattle.model_machine.specs.Turn.{run_first, turn_over, woken_by}
 use Rattle.model_machine.specs.Went.{state_of}
@@ -20,11 +21,11 @@ use Rattle.law_reach.proofs.Loops.{loop_of}
 use Rattle.law_reach.proofs.Running.{ran_goes}
 use Rattle.law_reach.proofs.Turning.{over_loop, taken_loop, woken_loop}
 use Rattle.law_promises.proofs.Falling.{cancels_input}
-use Rattle.law_promises.proofs.MarksStay.{row_marked}
-use Rattle.law_promises.specs.MarkedIn.{IsMarkedIn, ThrowsCancel}
+use Rattle.law_promises.proofs.MustCancelStays.{row_must_cancel}
+use Rattle.law_promises.specs.MustCancelIn.{IsMustCancel, ThrowsCancel}
 
-row : {S : Type 0} {r : Option ℕ} (s t : State S) → LoopReaches r s.loop t.loop → (me : ℕ) → (r ≡ Some me → ⊥) → IsMarkedIn me s → IsMarkedIn me t
-row s t it me n m = row_marked (parts_of it) me n m
+row : {S : Type 0} {r : Option ℕ} (s t : State S) → LoopReaches r s.loop t.loop → (me : ℕ) → (r ≡ Some me → ⊥) → IsMustCancel me s → IsMustCancel me t
+row s t it me n m = row_must_cancel (parts_of it) me n m
 
 nobody : (me : ℕ) → None ≡ Some me → ⊥
 nobody me e = absurd cc
@@ -37,37 +38,37 @@ apart it me h e = at it h e
 
     at : (it : Action) → steps me it ≡ false → runner_of it ≡ Some me → ⊥
     at (action.Step task) h e = same task h e
-    at (action.StepInCircle task circle) h e = same task h e
+    at (action.StepInCycle task cycle) h e = same task h e
     at (action.Wakeup task) h e = same task h e
     at _ h e = absurd cc
 
-pub first_marked : {S : Type 0} (me limit : ℕ) (added : Extra S) (handle : Handle) (rest : List Handle) (s : State S)
-    → steps me handle.action ≡ false → IsMarkedIn me s → IsMarkedIn me (state_of (run_first limit added handle rest s))
-first_marked me limit added handle rest s h m =
+pub first_must_cancel : {S : Type 0} (me limit : ℕ) (added : Extra S) (handle : Handle) (rest : List Handle) (s : State S)
+    → steps me handle.action ≡ false → IsMustCancel me s → IsMustCancel me (state_of (run_first limit added handle rest s))
+first_must_cancel me limit added handle rest s h m =
     let out = unbooked_in (λ p. record p { pending = rest }) s in
     row out (state_of (run_first limit added handle rest s)) (loop_of added (ran_goes limit added handle.dead handle.action out).reaches) me
     (apart handle.action me h) (row s out (taken_loop rest s.loop) me (nobody me) m)
 
-pub woken_by_marked : {S : Type 0} (me : ℕ) (answer : Answer) (s : State S) → IsMarkedIn me s → IsMarkedIn me (unbooked_in (woken_by answer) s)
-woken_by_marked me answer s m = row s (unbooked_in (woken_by answer) s) (woken_loop answer s.loop) me (nobody me) m
+pub woken_by_must_cancel : {S : Type 0} (me : ℕ) (answer : Answer) (s : State S) → IsMustCancel me s → IsMustCancel me (unbooked_in (woken_by answer) s)
+woken_by_must_cancel me answer s m = row s (unbooked_in (woken_by answer) s) (woken_loop answer s.loop) me (nobody me) m
 
-pub over_marked : {S : Type 0} (me : ℕ) (done_before : Bool) (s : State S) → IsMarkedIn me s → IsMarkedIn me (state_of (turn_over done_before s))
-over_marked me done_before s m = row s (state_of (turn_over done_before s)) (over_loop done_before s) me (nobody me) m
+pub over_must_cancel : {S : Type 0} (me : ℕ) (done_before : Bool) (s : State S) → IsMustCancel me s → IsMustCancel me (state_of (turn_over done_before s))
+over_must_cancel me done_before s m = row s (state_of (turn_over done_before s)) (over_loop done_before s) me (nobody me) m
 
 -- ---- its own step
-given_up_marked : (task : ℕ) (standing : Standing) (p : Parts) → is_marked p task ≡ true → is_marked (given_up standing p) task ≡ true
-given_up_marked task Asked p m = m
-given_up_marked task (Sleeping tag) p m = m
-given_up_marked task (Leaving group) p m = m
-given_up_marked task (Serving key) p m = m
-given_up_marked task (Connecting conn) p m = m
-given_up_marked task (Yielding whom) p m = m
-given_up_marked task (Reading from op on) p m = m
-given_up_marked task (ReadingAll from taken on) p m = m
+given_up_must_cancel : (task : ℕ) (resume_point : ResumePoint) (p : Parts) → must_cancel_of p task ≡ true → must_cancel_of (given_up resume_point p) task ≡ true
+given_up_must_cancel task Asked p m = m
+given_up_must_cancel task (Sleeping tag) p m = m
+given_up_must_cancel task (Leaving group) p m = m
+given_up_must_cancel task (Serving key) p m = m
+given_up_must_cancel task (Connecting conn) p m = m
+given_up_must_cancel task (Yielding whom) p m = m
+given_up_must_cancel task (Reading from op on) p m = m
+given_up_must_cancel task (ReadingAll from taken on) p m = m
 
-pub thrown : {S : Type 0} (s : State S) (task : ℕ) (input : Input) → IsMarkedIn task s
-    → ThrowsCancel (begin_step task input (given_up (generator_of task s).standing s.loop.parts)).input
+pub thrown : {S : Type 0} (s : State S) (task : ℕ) (input : Input) → IsMustCancel task s
+    → ThrowsCancel (begin_step task input (given_up (generator_of task s).resume_point s.loop.parts)).input
 thrown s task input m =
-    let h = given_up_marked task (generator_of task s).standing s.loop.parts m in
+    let h = given_up_must_cancel task (generator_of task s).resume_point s.loop.parts m in
     let c = cancels_input input in
     (c.0, ap (λ b. cond b (cancelling_input input) input) h ∙ c.1, c.2)

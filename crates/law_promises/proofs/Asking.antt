@@ -7,20 +7,20 @@ use Rattle.std.proofs.lemmas.Bool.{cases_eq, cases_lt, eq-eqb, ltb-false, ne_eqb
 use Rattle.std.proofs.lemmas.List.Folds.{list_any-append}
 use Rattle.std.proofs.lemmas.List.Sums.{count_by-le-length}
 use Rattle.std.proofs.lemmas.Option.{none-some}
-use Rattle.model_value.specs.Action.{Circle}
+use Rattle.model_value.specs.Action.{CycleKind}
 use Rattle.model_value.specs.Number.{most}
 use Rattle.model_value.specs.Value.{Outcome}
 use Rattle.model_loop.specs.Balance.{lowers}
 use Rattle.model_loop.specs.Cancel.{Canceller, cancel, cancel_at, cancel_below, cancel_kind, cancel_unseen, cancel_until, cancel_waiter, cancel_within}
-use Rattle.model_loop.specs.Cancel.{has_seen, marked_unless}
-use Rattle.model_loop.specs.Circles.{circle}
+use Rattle.model_loop.specs.Cancel.{has_seen, must_cancel_unless}
+use Rattle.model_loop.specs.Cycles.{cycle}
 use Rattle.model_loop.specs.Futures.{is_pending_at, next_future}
 use Rattle.model_loop.specs.Ledger.{Origin, ByWait, LedgerEntry, Raised, Took, ask_cancel, raised_among, uncancel_by}
 use Rattle.model_loop.specs.Loop.{Loop, book}
 use Rattle.model_loop.specs.Owning.{OwnsFutures, owner_at, owner_in, owner_of, own_future}
 use Rattle.model_loop.specs.Parts.{FutureKind, Plain, OfTask, Many, Future, Parts, Task}
 use Rattle.model_loop.specs.Suspend.{cancel_wait, suspend, suspend_unless, wait_on}
-use Rattle.model_loop.specs.Tasks.{cancelling, future_of, is_marked, lives, next_task, one_more, raise_count, uncancel}
+use Rattle.model_loop.specs.Tasks.{cancelling, future_of, must_cancel_of, lives, next_task, one_more, raise_count, uncancel}
 use Rattle.model_machine.specs.Replies.{most_ids}
 use Rattle.law_cancel.proofs.Counting.{goes-counts}
 use Rattle.law_cancel.proofs.Trace.{goes-seen, with_row, within_row}
@@ -42,15 +42,15 @@ pub request_took : (by : Origin) (id : ℕ) (p : Parts) → list_any is_took (as
 request_took by id p = raised_took by (raised_among p (cancel id p).seen)
 
 pub suspend_took : (task on : ℕ) (p : Parts) → list_any is_took (suspend task on p).entries ≡ false
-suspend_took task on p = at (circle p task on)
+suspend_took task on p = at (cycle p task on)
   where
-    marked : (b : Bool) → list_any is_took (cancel_wait b task on (wait_on task on p)).entries ≡ false
-    marked false = refl
-    marked true = request_took (ByWait task) on (wait_on task on p)
+    must_cancel : (b : Bool) → list_any is_took (cancel_wait b task on (wait_on task on p)).entries ≡ false
+    must_cancel false = refl
+    must_cancel true = request_took (ByWait task) on (wait_on task on p)
 
-    at : (o : Option Circle) → list_any is_took (suspend_unless o task on p).entries ≡ false
+    at : (o : Option CycleKind) → list_any is_took (suspend_unless o task on p).entries ≡ false
     at (Some why) = refl
-    at None = marked (is_marked p task)
+    at None = must_cancel (must_cancel_of p task)
 
 -- ---- a request to a live task's own future visits the task
 visited : (waiter : Canceller) (task : ℕ) (p : Parts) (on : Option ℕ)
@@ -64,7 +64,7 @@ visited waiter task p (Some id) h = at (waiter id (task ∷ []) (raise_count tas
         ap (λ (s : List ℕ). has_seen s task) (h id).1
         ∙ ap (λ b. b || has_seen (h id).0 task) (eq-eqb task task refl)
 
-    at : (b : Bool) → has_seen (marked_unless b task (waiter id (task ∷ []) (raise_count task p))).seen task ≡ true
+    at : (b : Bool) → has_seen (must_cancel_unless b task (waiter id (task ∷ []) (raise_count task p))).seen task ≡ true
     at true = seen
     at false = seen
 

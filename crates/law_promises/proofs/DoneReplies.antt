@@ -10,10 +10,10 @@ use Rattle.model_wire.specs.Event.{Event}
 use Rattle.model_loop.specs.Ways.{is_running, steps}
 use Rattle.model_loop.specs.Parts.{Parts}
 use Rattle.model_machine.specs.Extra.{Extra}
-use Rattle.model_machine.specs.State.{Standing, Asked, Sleeping, Leaving, Serving, Connecting, Yielding, Reading, ReadingAll, State}
+use Rattle.model_machine.specs.State.{ResumePoint, Asked, Sleeping, Leaving, Serving, Connecting, Yielding, Reading, ReadingAll, State}
 use Rattle.model_machine.specs.Step.{given_up}
 use Rattle.law_changes.proofs.Parts.{parts_of}
-use Rattle.law_reach.specs.Changes.{StateChange, OfLoop, Says, MakesCoroutine, Stands, Resumes, NamesFuture, EndsMain, ChangesExtra, ChangesStreams}
+use Rattle.law_reach.specs.Changes.{StateChange, OfLoop, Says, MakesCoroutine, SetsResumePoint, Resumes, NamesFuture, EndsMain, ChangesExtra, ChangesStreams}
 use Rattle.law_reach.specs.Changes.{Runs, Hears, Calls, MayInCallback, made, runner_of}
 use Rattle.law_reach.specs.Reaches.{InCallback}
 use Rattle.law_changes.proofs.Folds.{fold, one}
@@ -43,7 +43,7 @@ within_then r s t u a b = record {
 
 pub runs_as : (it : Action) (task : ℕ) → steps task it ≡ is_running (runner_of it) task
 runs_as (action.Step other) task = refl
-runs_as (action.StepInCircle other circle) task = refl
+runs_as (action.StepInCycle other cycle) task = refl
 runs_as (action.Wakeup other) task = refl
 runs_as _ task = refl
 
@@ -63,7 +63,7 @@ change_within added r (Runs it) s may = record {
   others = λ other h. ap (λ b. b || false) (runs_as it other ∙ ap (λ o. is_running o other) may ∙ h);
 }
 change_within added r (MakesCoroutine coroutine arguments) s may = quiet r s _ (later_refl s.loop.parts) refl
-change_within added r (Stands standing task) s may = quiet r s _ (later_refl s.loop.parts) refl
+change_within added r (SetsResumePoint resume_point task) s may = quiet r s _ (later_refl s.loop.parts) refl
 change_within added r (Resumes fresh task input) s may = quiet r s _ (later_refl s.loop.parts) refl
 change_within added r (NamesFuture future) s may = quiet r s _ (later_refl s.loop.parts) refl
 change_within added r EndsMain s may = quiet r s _ (later_refl s.loop.parts) refl
@@ -85,7 +85,7 @@ change_within added r (Calls call) s may = record {
 pub within_row : {S : Type 0} (added : Extra S) {r : Option ℕ} {s t : State S} → InCallback added r s t → IsWithin r s t
 within_row added {r = r} row = fold (IsWithin r) (same r) (within_then r) (change_within added r) row
 
-pub later_given_up : (standing : Standing) (p : Parts) → IsLater p (given_up standing p)
+pub later_given_up : (resume_point : ResumePoint) (p : Parts) → IsLater p (given_up resume_point p)
 later_given_up Asked p = later_refl p
 later_given_up (Sleeping tag) p = later_same p _ refl refl
 later_given_up (Leaving group) p = later_refl p

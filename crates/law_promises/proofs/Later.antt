@@ -12,7 +12,7 @@ use Rattle.model_loop.specs.Loop.{Loop}
 use Rattle.model_loop.specs.Suspend.{suspend}
 use Rattle.law_cancel.proofs.Effects.{soon_all-futures, soon_all-tasks}
 use Rattle.law_changes.specs.Changes.{PartsChange, CallsSoon, CallsLater, Revokes, MakesFuture, Settles, Registers, KeepsAsked, MakesTask, WaitsFor}
-use Rattle.law_changes.specs.Changes.{Marks, Unmarks, Counts, Uncounts, Passes, FallsDue, LeavesPending, MayInParts, made_of_parts}
+use Rattle.law_changes.specs.Changes.{SetsMustCancel, ClearsMustCancel, Counts, Uncounts, Passes, FallsDue, LeavesPending, MayInParts, made_of_parts}
 use Rattle.law_changes.specs.Reaches.{PartsReach}
 use Rattle.law_changes.proofs.LoopRows.{exit_begin_row, suspend_row}
 use Rattle.law_changes.proofs.Parts.{parts_of}
@@ -99,8 +99,8 @@ later_change r (Registers future action) p may = later_of false None p _ (regist
 later_change r (KeepsAsked future) p may = later_of false None p _ (asked_after any false None future p)
 later_change r MakesTask p may = later_of true None p _ (spawn_after any None p)
 later_change r (WaitsFor task on) p may = later_of false None p _ (change_after any false None task _ p (λ t. refl))
-later_change r (Marks task) p may = later_of false None p _ (change_after any false None task _ p (λ t. refl))
-later_change r (Unmarks task) p may = later_of false None p _ (change_after any false None task _ p (λ t. refl))
+later_change r (SetsMustCancel task) p may = later_of false None p _ (change_after any false None task _ p (λ t. refl))
+later_change r (ClearsMustCancel task) p may = later_of false None p _ (change_after any false None task _ p (λ t. refl))
 later_change r (Counts task) p may = later_of false None p _ (change_after any false None task _ p (λ t. refl))
 later_change r (Uncounts task) p may = later_of false None p _ (change_after any false None task _ p (λ t. refl))
 later_change r FallsDue p may = later_due p

@@ -2,7 +2,7 @@ mod Reaching
 mod Falling
 mod Relied
 mod Raising
-mod MarksStay
+mod MustCancelStays
 mod Apart
 mod ToldStays
 mod Turning

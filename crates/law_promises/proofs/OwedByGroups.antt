@@ -22,7 +22,7 @@ use Rattle.law_cancel.proofs.Effects.{length-change_task, settle-tasks}
 use Rattle.law_steps.proofs.CancelSound.{settled_owns}
 use Rattle.law_steps.proofs.Looks.{change_looks_same, same_owns}
 use Rattle.law_steps.proofs.Settling.{settle_cases}
-use Rattle.law_changes.specs.Blocks.{OfRequest, cancels, keeps_asked, counts, marks}
+use Rattle.law_changes.specs.Blocks.{OfRequest, cancels, keeps_asked, counts, sets_must_cancel}
 use Rattle.law_changes.specs.Blocks.{GroupStage, stage_of, OfGroup, changes, aborts, waits, wakes, OfEnding, in_ending, ends, OfCreating, in_creating}
 use Rattle.law_changes.specs.Blocks.{spawns, registers}
 use Rattle.law_changes.specs.Changes.{LoopChange, MakesFuture, OfParts, Registers, PartsChange, made_of_loop, made_of_parts}
@@ -46,7 +46,7 @@ owns_request : (change : PartsChange) (p : Parts) → OfRequest change p → Own
 owns_request _ p (cancels future) h = settle_cases OwnsFutures future Cancelled p h (λ q s. settled_owns future p q s h)
 owns_request _ p (keeps_asked future) h = same_owns p _ (asked_looks future p) h
 owns_request _ p (counts task) h = same_owns p _ (change_looks_same task _ p (λ t. refl) (λ t. refl)) h
-owns_request _ p (marks task) h = same_owns p _ (change_looks_same task _ p (λ t. refl) (λ t. refl)) h
+owns_request _ p (sets_must_cancel task) h = same_owns p _ (change_looks_same task _ p (λ t. refl) (λ t. refl)) h
 
 owns_each : (by : Origin) (tasks : List ℕ) (p : Parts) → OwnsFutures p → OwnsFutures (request_each by tasks p).parts
 owns_each by tasks p = keep OwnsFutures owns_request (each_in by tasks p)
@@ -178,20 +178,20 @@ owes_now true true true d e f g = absurd (false≢true (sym g))
 
 module _ (raised : Option Exc) (id : ℕ) (l : Loop) (within : id < length l.groups) (entered : (group_of l id).entered ≡ true)
     (outside : (group_of l id).exiting ≡ false) (living : lives l.parts (group_of l id).parent ≡ true) (right : IsRight l) (is : IsCovered l) where
-  abbrev marked : Group
-  marked = record (group_of l id) { exiting = true; body = raised; kept = only_cancelled raised }
+  abbrev must_cancel : Group
+  must_cancel = record (group_of l id) { exiting = true; body = raised; kept = only_cancelled raised }
 
   abbrev begun : Loop
   begun = begin_exit raised id l
 
-  marked_is : group_of (begin_exit raised id l) id ≡ record (group_of l id) { exiting = true; body = raised; kept = only_cancelled raised }
-  marked_is = group_same id (record (group_of l id) { exiting = true; body = raised; kept = only_cancelled raised }) l within
+  must_cancel_is : group_of (begin_exit raised id l) id ≡ record (group_of l id) { exiting = true; body = raised; kept = only_cancelled raised }
+  must_cancel_is = group_same id (record (group_of l id) { exiting = true; body = raised; kept = only_cancelled raised }) l within
 
   begun_owed : (other : ℕ) → owed begun other + cond (owes_group other (group_of l id)) 1 0 ≤ owed l other
   begun_owed other =
       let a : owed begun other + cond (owes_group other (group_of l id)) 1 0
       ≤ owed l other + cond ((group_of l id).entered && ((group_of l id).requested && (false && ((group_of l id).parent == other)))) 1 0 =
-      group_owed id marked l other in
+      group_owed id must_cancel l other in
       let b = owes_no_more (group_of l id).entered (group_of l id).requested ((group_of l id).parent == other) in
       omega (arith, a, b)
 
@@ -204,11 +204,11 @@ module _ (raised : Option Exc) (id : ℕ) (l : Loop) (within : id < length l.gro
     ledger = refl;
     none = refl;
     timeouts_made = refl;
-    groups_made = length-set l.groups id marked;
+    groups_made = length-set l.groups id must_cancel;
   }
 
   parent_is : (group_of begun id).parent ≡ (group_of l id).parent
-  parent_is = ap (λ (g : Group). g.parent) marked_is
+  parent_is = ap (λ (g : Group). g.parent) must_cancel_is
 
   taken_owed : (group_of l id).requested ≡ true → (other : ℕ)
       → owed begun other + cond ((group_of begun id).parent == other) 1 0 ≤ owed l other
@@ -231,7 +231,7 @@ module _ (raised : Option Exc) (id : ℕ) (l : Loop) (within : id < length l.gro
   taken_covers asked =
       take_covers l (book (uncancel_by (ByGroup id) (group_of begun id).parent) begun) (ByGroup id) (group_of begun id).parent (Began id ∷ []) refl
       (append_assoc l.ledger (Began id ∷ []) _) refl (taken_owed asked)
-      (ap (lives l.parts) parent_is ∙ living) refl (length-set l.groups id marked) right is
+      (ap (lives l.parts) parent_is ∙ living) refl (length-set l.groups id must_cancel) right is
 
   back_taken : (b : Bool) → (group_of l id).requested ≡ b → Taken (take_back_where b id begun)
   back_taken false e = (right_on l begun (later_refl l.parts) refl begun_easy.owes right, covers l begun begun_easy right is, begun_easy.owes)
@@ -253,7 +253,7 @@ module _ (raised : Option Exc) (id : ℕ) (l : Loop) (within : id < length l.gro
           (λ other. le_refl _)
 
   taken_back : Taken (take_back id begun)
-  taken_back = back_taken (group_of begun id).requested (sym (ap (λ (g : Group). g.requested) marked_is))
+  taken_back = back_taken (group_of begun id).requested (sym (ap (λ (g : Group). g.requested) must_cancel_is))
 
   ended : IsEasy (take_back id begun) (exit_begin raised id l).loop
   ended =

@@ -1,12 +1,12 @@
--- A cancel goes on from each task that it comes to: the task is marked, or what it waits for was reached.
+-- A cancel goes on from each task that it comes to: the task must cancel, or what it waits for was reached.
 use Rattle.std.proofs.Common.{◌≡◌, ℕ, Bool, List, None, Option, Some, [], ap, false, inl, inr, option_map, refl, slice_get, slice_set, subst, sym, true, ◌++◌}
 use Rattle.std.proofs.Common.{◌||◌, ◌∙◌, ◌∷◌, ◌⊎◌, zero, suc, arith, is_none, Contains}
 use Rattle.model_loop.specs.Parts.{Future, FutureKind, Many, OfTask, Parts, Plain, Task}
-use Rattle.model_loop.specs.Tasks.{change_task, is_marked, mark, raise_count, waiter_of}
+use Rattle.model_loop.specs.Tasks.{change_task, must_cancel_of, set_must_cancel, raise_count, waiter_of}
 use Rattle.law_cancel.proofs.Effects.{asked_as, change_task-futures, change_task-there, done_as, settle-futures, settle-tasks}
-use Rattle.law_promises.specs.Reached.{GoesOn, WasReached, asked_at, asked_in, was_asked, members_at, members_in, members_of}
+use Rattle.law_promises.specs.Reached.{RequestGoesOn, WasReached, asked_at, asked_in, was_asked, members_at, members_in, members_of}
 use Rattle.law_promises.specs.Reached.{ended as ended_row, visited as came_row, asked as asked_row}
-use Rattle.model_loop.specs.Cancel.{CancelRequest, answers, asked_where, cancel, has_seen, marked_unless}
+use Rattle.model_loop.specs.Cancel.{CancelRequest, answers, asked_where, cancel, has_seen, must_cancel_unless}
 use Rattle.model_loop.specs.Futures.{asked_kind, future_outcome, is_pending, is_pending_at, made_before, mark_asked, outcome_at, settle, with_future}
 use Rattle.model_loop.specs.Owning.{OwnsFutures, own_future, owner_at, owner_in, owner_of}
 use Rattle.std.proofs.lemmas.Bool.{cases_eq, false≢true, or_cases, or_left}
@@ -30,7 +30,7 @@ kind_many_at (Some future) = kind_many future.kind
 -- ---- what stays while a request goes on
 record Persists (s : List ℕ) (p : Parts) (t : List ℕ) (q : Parts) : Type 0 where
   seen : (task : ℕ) → has_seen s task ≡ true → has_seen t task ≡ true
-  marked : (task : ℕ) → is_marked p task ≡ true → is_marked q task ≡ true
+  must_cancel : (task : ℕ) → must_cancel_of p task ≡ true → must_cancel_of q task ≡ true
   waiters : (task : ℕ) → waiter_of q task ≡ waiter_of p task
   owned : (task : ℕ) → own_future q task ≡ own_future p task
   owners : (id : ℕ) → owner_of q id ≡ owner_of p id
@@ -43,7 +43,7 @@ record Persists (s : List ℕ) (p : Parts) (t : List ℕ) (q : Parts) : Type 0 w
 stays : (s : List ℕ) (p : Parts) → Persists s p s p
 stays s p = record {
   seen = λ t h. h;
-  marked = λ t h. h;
+  must_cancel = λ t h. h;
   waiters = λ t. refl;
   owned = λ t. refl;
   owners = λ j. refl;
@@ -57,7 +57,7 @@ stays s p = record {
 persists_on : (s t u : List ℕ) (p q r : Parts) → Persists t q u r → Persists s p t q → Persists s p u r
 persists_on s t u p q r b a = record {
   seen = λ x h. b.seen x (a.seen x h);
-  marked = λ x h. b.marked x (a.marked x h);
+  must_cancel = λ x h. b.must_cancel x (a.must_cancel x h);
   waiters = λ x. b.waiters x ∙ a.waiters x;
   owned = λ x. b.owned x ∙ a.owned x;
   owners = λ j. b.owners j ∙ a.owners j;
@@ -68,13 +68,13 @@ persists_on s t u p q r b a = record {
   members = λ j. b.members j ∙ a.members j;
 }
 
--- a task's count or mark, where no mark falls
+-- a task's count or must_cancel, where no must_cancel falls
 changed : (s : List ℕ) (id : ℕ) (change : Task → Task) (p : Parts) → ((t : Task) → (change t).waiter ≡ t.waiter)
-    → ((t : Task) → (change t).future ≡ t.future) → ((task : ℕ) → is_marked p task ≡ true → is_marked (change_task id change p) task ≡ true)
+    → ((t : Task) → (change t).future ≡ t.future) → ((task : ℕ) → must_cancel_of p task ≡ true → must_cancel_of (change_task id change p) task ≡ true)
     → Persists s p s (change_task id change p)
-changed s id change p waiter future marked = record {
+changed s id change p waiter future must_cancel = record {
   seen = λ t h. h;
-  marked = marked;
+  must_cancel = must_cancel;
   waiters = λ t. change_task-kept (λ (o : Option Task). option_map_or (λ (x : Task). x.waiter) o None) id change p waiter t;
   owned = λ t. change_task-kept (option_map (λ (x : Task). x.future)) id change p (λ x. ap Some (future x)) t;
   owners = λ j. ap (λ (fs : List Future). owner_at (slice_get fs j)) (change_task-futures id change p);
@@ -90,35 +90,35 @@ raise_stays s id p =
     changed s id _ p (λ t. refl) (λ t. refl)
     (λ t m. change_task-kept (λ (o : Option Task). option_map_or (λ (x : Task). x.must_cancel) o false) id _ p (λ x. refl) t ∙ m)
 
--- ---- a mark
-marks_it : (id : ℕ) (p : Parts) (it : Task) → slice_get p.tasks id ≡ Some it → is_marked (mark id p) id ≡ true
-marks_it id p it e =
+-- ---- must_cancel
+sets_must_cancel_of : (id : ℕ) (p : Parts) (it : Task) → slice_get p.tasks id ≡ Some it → must_cancel_of (set_must_cancel id p) id ≡ true
+sets_must_cancel_of id p it e =
     ap (λ (q : Parts). option_map_or (λ (t : Task). t.must_cancel) (slice_get q.tasks id) false) (change_task-there id _ p it e)
     ∙ ap (λ (o : Option Task). option_map_or (λ (t : Task). t.must_cancel) o false)
     (get-set_same p.tasks id it (record it { must_cancel = true }) e)
 
-pub mark_more : (id : ℕ) (p : Parts) (task : ℕ) → is_marked p task ≡ true → is_marked (mark id p) task ≡ true
-mark_more id p task m = at (slice_get p.tasks id) refl
+pub must_cancel_more : (id : ℕ) (p : Parts) (task : ℕ) → must_cancel_of p task ≡ true → must_cancel_of (set_must_cancel id p) task ≡ true
+must_cancel_more id p task m = at (slice_get p.tasks id) refl
   where
-    at : (o : Option Task) → slice_get p.tasks id ≡ o → is_marked (mark id p) task ≡ true
-    at None e = ap (λ (o : Option Task). is_marked
+    at : (o : Option Task) → slice_get p.tasks id ≡ o → must_cancel_of (set_must_cancel id p) task ≡ true
+    at None e = ap (λ (o : Option Task). must_cancel_of
         (option_map_or (λ (t : Task). record p { tasks = slice_set p.tasks id (record t { must_cancel = true }) }) o p) task) e ∙ m
     at (Some it) e = go (cases_eq id task)
       where
-        go : (id ≡ task) ⊎ (id ≡ task → ⊥) → is_marked (mark id p) task ≡ true
-        go (inl same) = subst (λ t. is_marked (mark id p) t ≡ true) same (marks_it id p it e)
+        go : (id ≡ task) ⊎ (id ≡ task → ⊥) → must_cancel_of (set_must_cancel id p) task ≡ true
+        go (inl same) = subst (λ t. must_cancel_of (set_must_cancel id p) t ≡ true) same (sets_must_cancel_of id p it e)
         go (inr n) =
             at_task (λ (o : Option Task). option_map_or (λ (t : Task). t.must_cancel) o false) id _ p task n ∙ m
 
-mark_stays : (s : List ℕ) (id : ℕ) (p : Parts) → Persists s p s (mark id p)
-mark_stays s id p = changed s id _ p (λ t. refl) (λ t. refl) (mark_more id p)
+must_cancel_stays : (s : List ℕ) (id : ℕ) (p : Parts) → Persists s p s (set_must_cancel id p)
+must_cancel_stays s id p = changed s id _ p (λ t. refl) (λ t. refl) (must_cancel_more id p)
 
 -- ---- a plain future is cancelled
 settle_stays : (s : List ℕ) (id : ℕ) (p : Parts) (future : Future) → slice_get p.futures id ≡ Some future → future.outcome ≡ None
     → Persists s p s (settle id Cancelled p)
 settle_stays s id p future e o = record {
   seen = λ t h. h;
-  marked = λ t m. ap (λ (ts : List Task). option_map_or (λ (x : Task). x.must_cancel) (slice_get ts t) false) tasks ∙ m;
+  must_cancel = λ t m. ap (λ (ts : List Task). option_map_or (λ (x : Task). x.must_cancel) (slice_get ts t) false) tasks ∙ m;
   waiters = λ t. ap (λ (ts : List Task). option_map_or (λ (x : Task). x.waiter) (slice_get ts t) None) tasks;
   owned = λ t. ap (λ (ts : List Task). option_map (λ (x : Task). x.future) (slice_get ts t)) tasks;
   owners = λ j. see owner_at j refl;
@@ -175,7 +175,7 @@ ask_stays s id p = at (slice_get p.futures id) refl
         → Persists s p s (record p { futures = slice_set p.futures id (asked_as future) })
     with_it future e = record {
       seen = λ t h. h;
-      marked = λ t m. m;
+      must_cancel = λ t m. m;
       waiters = λ t. refl;
       owned = λ t. refl;
       owners = λ j. get-set_kept owner_at p.futures id j future (asked_as future) e (kinds future.kind).0;
@@ -228,11 +228,11 @@ reached_from new seen s t p q k (asked_row {on = on} {member = member} before am
     asked_row (k.pending on before) (subst (λ (ms : List ℕ). Contains ms member) (k.members on) among)
     (reached_from new seen s t p q k reached) now
 
-goes_stays : (old : Parts) (s t : List ℕ) (p q : Parts) → Persists s p t q → (task : ℕ) → GoesOn old p s task → GoesOn old q t task
-goes_stays old s t p q k task (inl m) = inl (k.marked task m)
+goes_stays : (old : Parts) (s t : List ℕ) (p q : Parts) → Persists s p t q → (task : ℕ) → RequestGoesOn old p s task → RequestGoesOn old q t task
+goes_stays old s t p q k task (inl m) = inl (k.must_cancel task m)
 goes_stays old s t p q k task (inr w) = inr (w.0, w.1, reached_stays old s t p q k w.2)
 
-goes_from : (new : Parts) (seen s t : List ℕ) (p q : Parts) → Persists s p t q → (task : ℕ) → GoesOn q new seen task → GoesOn p new seen task
+goes_from : (new : Parts) (seen s t : List ℕ) (p q : Parts) → Persists s p t q → (task : ℕ) → RequestGoesOn q new seen task → RequestGoesOn p new seen task
 goes_from new seen s t p q k task (inl m) = inl m
 goes_from new seen s t p q k task (inr w) = inr (w.0, sym (k.waiters task) ∙ w.1, reached_from new seen s t p q k w.2)
 
@@ -243,7 +243,7 @@ owns_stays s t p q k owns id task =
 -- ---- a request
 record Told (s : List ℕ) (p : Parts) (r : CancelRequest) : Type 0 where
   persists : Persists s p r.seen r.parts
-  visits : (task : ℕ) → has_seen r.seen task ≡ true → (has_seen s task ≡ true) ⊎ GoesOn p r.parts r.seen task
+  visits : (task : ℕ) → has_seen r.seen task ≡ true → (has_seen s task ≡ true) ⊎ RequestGoesOn p r.parts r.seen task
 
 record Reaches (id : ℕ) (s : List ℕ) (p : Parts) (r : CancelRequest) : Type 0 where
   told : Told s p r
@@ -264,8 +264,8 @@ asked_told s p id true r t =
       visits = λ task h. go task (t.visits task h);
     }
   where
-    go : (task : ℕ) → (has_seen s task ≡ true) ⊎ GoesOn p r.parts r.seen task
-        → (has_seen s task ≡ true) ⊎ GoesOn p (mark_asked id r.parts) r.seen task
+    go : (task : ℕ) → (has_seen s task ≡ true) ⊎ RequestGoesOn p r.parts r.seen task
+        → (has_seen s task ≡ true) ⊎ RequestGoesOn p (mark_asked id r.parts) r.seen task
     go task (inl x) = inl x
     go task (inr x) = inr (goes_stays p r.seen r.seen r.parts (mark_asked id r.parts) (ask_stays r.seen id r.parts) task x)
 
@@ -275,7 +275,7 @@ visit_stays s task p =
     let k = raise_stays s task p in
     record {
       seen = λ u h. has_seen-append s (task ∷ []) u ∙ or_left (has_seen s u) (has_seen (task ∷ []) u) h;
-      marked = k.marked;
+      must_cancel = k.must_cancel;
       waiters = k.waiters;
       owned = k.owned;
       owners = k.owners;
@@ -286,7 +286,7 @@ visit_stays s task p =
       members = k.members;
     }
 
--- the task that is visited is marked unless what it waits for answers true
+-- the task that is visited must cancel unless what it waits for answers true
 module _ (s : List ℕ) (p : Parts) (id task : ℕ) (it : Task) (is : IsPendingAs p id (OfTask task)) (there : slice_get p.tasks task ≡ Some it) (r : CancelRequest)
     (t : Told (s ++ task ∷ []) (raise_count task p) r) where
   whole : Persists s p r.seen r.parts
@@ -304,7 +304,7 @@ module _ (s : List ℕ) (p : Parts) (id task : ℕ) (it : Task) (is : IsPendingA
   seen_it : has_seen r.seen task ≡ true
   seen_it = t.persists.seen task (has_seen_last s task)
 
-  from_start : (u : ℕ) → GoesOn (raise_count task p) r.parts r.seen u → GoesOn p r.parts r.seen u
+  from_start : (u : ℕ) → RequestGoesOn (raise_count task p) r.parts r.seen u → RequestGoesOn p r.parts r.seen u
   from_start u = goes_from r.parts r.seen s (s ++ task ∷ []) p (raise_count task p) (visit_stays s task p) u
 
   -- its own way on
@@ -315,37 +315,37 @@ module _ (s : List ℕ) (p : Parts) (id task : ℕ) (it : Task) (is : IsPendingA
       go (inl e) = inr e
       go (inr n) = inl (sym (has_seen_other s task u n) ∙ h)
 
-  task_told : (answer : Bool) → (answer ≡ true → GoesOn p r.parts r.seen task) → Reaches id s p (marked_unless answer task r)
+  task_told : (answer : Bool) → (answer ≡ true → RequestGoesOn p r.parts r.seen task) → Reaches id s p (must_cancel_unless answer task r)
   task_told true on = record {
     told = record { persists = whole; visits = λ u h. go u (t.visits u h) };
     answered = λ e. came_row (pending_found p id (OfTask task) is) (owner_found p id task is) seen_it;
   }
     where
-      go : (u : ℕ) → (has_seen (s ++ task ∷ []) u ≡ true) ⊎ GoesOn (raise_count task p) r.parts r.seen u
-          → (has_seen s u ≡ true) ⊎ GoesOn p r.parts r.seen u
+      go : (u : ℕ) → (has_seen (s ++ task ∷ []) u ≡ true) ⊎ RequestGoesOn (raise_count task p) r.parts r.seen u
+          → (has_seen s u ≡ true) ⊎ RequestGoesOn p r.parts r.seen u
       go u (inr x) = inr (from_start u x)
       go u (inl x) = at (old u x)
         where
-          at : (has_seen s u ≡ true) ⊎ (u ≡ task) → (has_seen s u ≡ true) ⊎ GoesOn p r.parts r.seen u
+          at : (has_seen s u ≡ true) ⊎ (u ≡ task) → (has_seen s u ≡ true) ⊎ RequestGoesOn p r.parts r.seen u
           at (inl y) = inl y
-          at (inr e) = inr (subst (GoesOn p r.parts r.seen) (sym e) (on refl))
+          at (inr e) = inr (subst (RequestGoesOn p r.parts r.seen) (sym e) (on refl))
   task_told false on = record {
     told = record {
-      persists = persists_on s r.seen r.seen p r.parts (mark task r.parts) (mark_stays r.seen task r.parts) whole;
+      persists = persists_on s r.seen r.seen p r.parts (set_must_cancel task r.parts) (must_cancel_stays r.seen task r.parts) whole;
       visits = λ u h. go u (t.visits u h);
     };
     answered = λ e. came_row (pending_found p id (OfTask task) is) (owner_found p id task is) seen_it;
   }
     where
-      go : (u : ℕ) → (has_seen (s ++ task ∷ []) u ≡ true) ⊎ GoesOn (raise_count task p) r.parts r.seen u
-          → (has_seen s u ≡ true) ⊎ GoesOn p (mark task r.parts) r.seen u
-      go u (inr x) = inr (goes_stays p r.seen r.seen r.parts (mark task r.parts) (mark_stays r.seen task r.parts) u (from_start u x))
+      go : (u : ℕ) → (has_seen (s ++ task ∷ []) u ≡ true) ⊎ RequestGoesOn (raise_count task p) r.parts r.seen u
+          → (has_seen s u ≡ true) ⊎ RequestGoesOn p (set_must_cancel task r.parts) r.seen u
+      go u (inr x) = inr (goes_stays p r.seen r.seen r.parts (set_must_cancel task r.parts) (must_cancel_stays r.seen task r.parts) u (from_start u x))
       go u (inl x) = at (old u x)
         where
-          at : (has_seen s u ≡ true) ⊎ (u ≡ task) → (has_seen s u ≡ true) ⊎ GoesOn p (mark task r.parts) r.seen u
+          at : (has_seen s u ≡ true) ⊎ (u ≡ task) → (has_seen s u ≡ true) ⊎ RequestGoesOn p (set_must_cancel task r.parts) r.seen u
           at (inl y) = inl y
           at (inr e) =
-              inr (inl (subst (λ x. is_marked (mark task r.parts) x ≡ true) (sym e) (marks_it task r.parts still.0 still.1)))
+              inr (inl (subst (λ x. must_cancel_of (set_must_cancel task r.parts) x ≡ true) (sym e) (sets_must_cancel_of task r.parts still.0 still.1)))
 
 nothing_told : (s : List ℕ) (p : Parts) → (b : Bool) → Told s p (answers b s p)
 nothing_told s p b = record { persists = stays s p; visits = λ task h. inl h }
@@ -357,13 +357,13 @@ each_told s p first others a b = record {
   visits = λ task h. go task (b.visits task h);
 }
   where
-    back : (task : ℕ) → (has_seen s task ≡ true) ⊎ GoesOn p first.parts first.seen task
-        → (has_seen s task ≡ true) ⊎ GoesOn p others.parts others.seen task
+    back : (task : ℕ) → (has_seen s task ≡ true) ⊎ RequestGoesOn p first.parts first.seen task
+        → (has_seen s task ≡ true) ⊎ RequestGoesOn p others.parts others.seen task
     back task (inl x) = inl x
     back task (inr x) = inr (goes_stays p first.seen others.seen first.parts others.parts b.persists task x)
 
-    go : (task : ℕ) → (has_seen first.seen task ≡ true) ⊎ GoesOn first.parts others.parts others.seen task
-        → (has_seen s task ≡ true) ⊎ GoesOn p others.parts others.seen task
+    go : (task : ℕ) → (has_seen first.seen task ≡ true) ⊎ RequestGoesOn first.parts others.parts others.seen task
+        → (has_seen s task ≡ true) ⊎ RequestGoesOn p others.parts others.seen task
     go task (inr x) = inr (goes_from others.parts others.seen s first.seen p first.parts a.persists task x)
     go task (inl x) = back task (a.visits task x)
 
@@ -415,7 +415,7 @@ many_reaches id s p members asked is r t one = at r.answer refl
 
 -- what the task waits for was reached
 goes_to : (task : ℕ) (it : Task) (s : List ℕ) (p : Parts) (r : CancelRequest) → slice_get p.tasks task ≡ Some it
-    → ((on : ℕ) × (it.waiter ≡ Some on) × WasReached (raise_count task p) r.parts r.seen on) → GoesOn p r.parts r.seen task
+    → ((on : ℕ) × (it.waiter ≡ Some on) × WasReached (raise_count task p) r.parts r.seen on) → RequestGoesOn p r.parts r.seen task
 goes_to task it s p r e w =
     inr (
       w.0,
@@ -457,10 +457,10 @@ mutual
 
 -- the whole request
 pub cancel_goes_on : (id : ℕ) (p : Parts) → OwnsFutures p → (task : ℕ) → has_seen (cancel id p).seen task ≡ true
-    → GoesOn p (cancel id p).parts (cancel id p).seen task
+    → RequestGoesOn p (cancel id p).parts (cancel id p).seen task
 cancel_goes_on id p owns task h = go ((reaches owns (cancel_meets id [] p)).told.visits task h)
   where
-    go : (has_seen [] task ≡ true) ⊎ GoesOn p (cancel id p).parts (cancel id p).seen task → GoesOn p (cancel id p).parts (cancel id p).seen task
+    go : (has_seen [] task ≡ true) ⊎ RequestGoesOn p (cancel id p).parts (cancel id p).seen task → RequestGoesOn p (cancel id p).parts (cancel id p).seen task
     go (inl x) = absurd (false≢true x)
     go (inr x) = x
 
@@ -468,6 +468,6 @@ pub cancel_reaches : (id : ℕ) (p : Parts) → OwnsFutures p → (cancel id p).
     → WasReached p (cancel id p).parts (cancel id p).seen id
 cancel_reaches id p owns h = (reaches owns (cancel_meets id [] p)).answered h
 
-pub cancel_keeps_marks : (id : ℕ) (p : Parts) → OwnsFutures p → (task : ℕ) → is_marked p task ≡ true
-    → is_marked (cancel id p).parts task ≡ true
-cancel_keeps_marks id p owns task m = (reaches owns (cancel_meets id [] p)).told.persists.marked task m
+pub cancel_keeps_must_cancel : (id : ℕ) (p : Parts) → OwnsFutures p → (task : ℕ) → must_cancel_of p task ≡ true
+    → must_cancel_of (cancel id p).parts task ≡ true
+cancel_keeps_must_cancel id p owns task m = (reaches owns (cancel_meets id [] p)).told.persists.must_cancel task m

@@ -39,7 +39,7 @@ use Rattle.model_machine.specs.Replies.{sleeps_for, timed_out_if, exits_timeout}
 use Rattle.model_machine.specs.Replies.{exits_as, exits_group, Wake, serves_until}
 use Rattle.model_machine.specs.Replies.{serves_as, serves, woken_within, woken, reply, decides}
 use Rattle.model_machine.specs.Sound.{AreBlocksOf, AreBlocksOpen, AreStreamsFutures, blocks_of, has_open, is_open, stands_at}
-use Rattle.model_machine.specs.State.{Standing, Asked, Sleeping, Leaving, Serving, Connecting, Yielding}
+use Rattle.model_machine.specs.State.{ResumePoint, Asked, Sleeping, Leaving, Serving, Connecting, Yielding}
 use Rattle.model_machine.specs.State.{Reading, ReadingAll, Generator, State, generator, noted, with_loop}
 use Rattle.model_machine.specs.Step.{says_of}
 use Rattle.model_machine.specs.Went.{answered_so, ask_so, fitted_so}
@@ -221,8 +221,8 @@ woken_within_in added (suc wakes) task key input s is =
 woken_in : {S : Type 0} (added : Extra S) (task : ℕ) → WakeCovers (woken added task)
 woken_in added task key input s is = woken_within_in added (suc (added.wakes_left key s.extra)) task key input s is
 
-pub decides_in : {S : Type 0} (added : Extra S) (standing : Standing) (task : ℕ) (input : Input) (s : State S) → AreStreamsFutures s → (asked : Request)
-    → stands_at standing asked ≡ true → IsGood s.loop → Covers (decides added standing task input s)
+pub decides_in : {S : Type 0} (added : Extra S) (resume_point : ResumePoint) (task : ℕ) (input : Input) (s : State S) → AreStreamsFutures s → (asked : Request)
+    → stands_at resume_point asked ≡ true → IsGood s.loop → Covers (decides added resume_point task input s)
 decides_in added Asked task input s kept asked may is = replied_in input s is.covered
 decides_in added (Sleeping tag) task input s kept asked may is = replied_in input s is.covered
 decides_in added (Leaving group) task input s kept asked may is =

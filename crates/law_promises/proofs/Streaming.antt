@@ -18,10 +18,11 @@ use Rattle.model_machine.specs.Extra.{Extra}
 use Rattle.model_machine.specs.Outcomes.{input_of}
 use Rattle.model_machine.specs.Replies.{RequestReply, Answers, decides, replied}
 use Rattle.model_machine.specs.Sound.{AreStreamsFutures, stands_at}
-use Rattle.model_machine.specs.State.{Standing, Asked, Sleeping, Leaving, Serving, Connecting, Yielding, Reading, ReadingAll, State}
+use Rattle.model_machine.specs.State.{ResumePoint, Asked, Sleeping, Leaving, Serving, Connecting, Yielding, Reading, ReadingAll, State}
 use Rattle.model_machine.specs.Went.{Went, state_of}
-use Rattle.law_changes.specs.Changes.{PartsChange, CallsSoon, CallsLater, Revokes, MakesFuture, Settles, Registers, KeepsAsked, MakesTask, WaitsFor, Marks}
-use Rattle.law_changes.specs.Changes.{Unmarks, Counts, Uncounts, Passes, FallsDue, LeavesPending, MayAlone, OfParts}
+use Rattle.law_changes.specs.Changes.{PartsChange, CallsSoon, CallsLater, Revokes, MakesFuture, Settles, Registers, KeepsAsked, MakesTask, WaitsFor}
+use Rattle.law_changes.specs.Changes.{SetsMustCancel}
+use Rattle.law_changes.specs.Changes.{ClearsMustCancel, Counts, Uncounts, Passes, FallsDue, LeavesPending, MayAlone, OfParts}
 use Rattle.law_changes.proofs.Folds.{widen}
 use Rattle.law_cases.specs.Trees.{is_of_streams}
 use Rattle.law_cases.specs.Closed.{stands_at_streams}
@@ -49,8 +50,8 @@ tree_alone (Registers future it) p may = absurd may
 tree_alone (KeepsAsked future) p may = absurd may
 tree_alone MakesTask p may = absurd may
 tree_alone (WaitsFor task on) p may = absurd may
-tree_alone (Marks task) p may = absurd may
-tree_alone (Unmarks task) p may = absurd may
+tree_alone (SetsMustCancel task) p may = absurd may
+tree_alone (ClearsMustCancel task) p may = absurd may
 tree_alone (Counts task) p may = absurd may
 tree_alone (Uncounts task) p may = absurd may
 tree_alone (Passes now) p may = absurd may
@@ -73,7 +74,7 @@ module _ {S : Type 0} (s : State S) (right : IsRight s.loop) (c : IsCovered s.lo
   replied_covers (Throw fault) = c
 
   -- ---- each case
-  pub streams_covers : (task : ℕ) (stood : Standing) (asked : Request) (it : RequestReply S) → StreamReplies task stood s asked it
+  pub streams_covers : (task : ℕ) (stood : ResumePoint) (asked : Request) (it : RequestReply S) → StreamReplies task stood s asked it
       → IsCovered (reply_state it).loop
   streams_covers task stood asked it (refuses fault) = c
   streams_covers task stood asked it (tells value none) = c
@@ -84,7 +85,7 @@ module _ {S : Type 0} (s : State S) (right : IsRight s.loop) (c : IsCovered s.lo
   streams_covers task stood asked it (raises t streams fault end) = end_covers t end.ended
   streams_covers task stood asked it (waits_on t streams on end here may) =
       covers t.loop (book (suspend task on) t.loop) (easy_suspend task on t.loop) (end_right t end.ended) (end_covers t end.ended)
-  streams_covers task stood asked it (stands_on t streams standing on end here at may opened) =
+  streams_covers task stood asked it (stands_on t streams resume_point on end here at may opened) =
       covers t.loop (book (suspend task on) t.loop) (easy_suspend task on t.loop) (end_right t end.ended) (end_covers t end.ended)
   streams_covers task stood asked it (yields t streams whom end may opened) =
       covers t.loop (in_parts (pause task) t.loop) (easy_change task (OfParts (CallsSoon (action.Step task))) t.loop refl) (end_right t end.ended)
@@ -102,7 +103,7 @@ module _ {S : Type 0} (s : State S) (right : IsRight s.loop) (c : IsCovered s.lo
       (easy_then s.loop made (in_parts (register future told) made) (easy_spawn s.loop) (easy_change 0 (OfParts (Registers future told)) made refl)) right c
 
 -- ---- what a task stands at
-woken_right : {S : Type 0} (standing : Standing) (s : State S) → IsRight s.loop → IsRight (woken_at standing s).loop
+woken_right : {S : Type 0} (resume_point : ResumePoint) (s : State S) → IsRight s.loop → IsRight (woken_at resume_point s).loop
 woken_right Asked s h = h
 woken_right (Sleeping tag) s h = h
 woken_right (Leaving group) s h = h
@@ -112,7 +113,7 @@ woken_right (Yielding whom) s h = h
 woken_right (Reading from op on) s h = h
 woken_right (ReadingAll from taken on) s h = h
 
-woken_covers : {S : Type 0} (standing : Standing) (s : State S) → IsCovered s.loop → IsCovered (woken_at standing s).loop
+woken_covers : {S : Type 0} (resume_point : ResumePoint) (s : State S) → IsCovered s.loop → IsCovered (woken_at resume_point s).loop
 woken_covers Asked s h = h
 woken_covers (Sleeping tag) s h = h
 woken_covers (Leaving group) s h = h
@@ -123,14 +124,14 @@ woken_covers (Reading from op on) s h = h
 woken_covers (ReadingAll from taken on) s h = h
 
 pub decides_covers : {S : Type 0} (added : Extra S) (task : ℕ) (s : State S) → IsRight s.loop → IsCovered s.loop → AreStreamsFutures s → (asked : Request)
-    (standing : Standing) (input : Input) → stands_at_streams standing ≡ true → stands_at standing asked ≡ true
-    → IsCovered (reply_state (decides added standing task input s)).loop
-decides_covers added task s right c kept asked standing input is may = at (streams_decide added task s kept asked standing input is may)
+    (resume_point : ResumePoint) (input : Input) → stands_at_streams resume_point ≡ true → stands_at resume_point asked ≡ true
+    → IsCovered (reply_state (decides added resume_point task input s)).loop
+decides_covers added task s right c kept asked resume_point input is may = at (streams_decide added task s kept asked resume_point input is may)
   where
-    at : ((value : Value) × (input ≡ Send value) × (decides added standing task input s ≡ Answers value s))
-        ⊎ StreamReplies task standing (woken_at standing s) asked (decides added standing task input s)
-        → IsCovered (reply_state (decides added standing task input s)).loop
+    at : ((value : Value) × (input ≡ Send value) × (decides added resume_point task input s ≡ Answers value s))
+        ⊎ StreamReplies task resume_point (woken_at resume_point s) asked (decides added resume_point task input s)
+        → IsCovered (reply_state (decides added resume_point task input s)).loop
     at (inl told) = subst (λ it. IsCovered (reply_state it).loop) (sym told.2) c
     at (inr it) =
-        streams_covers (woken_at standing s) (woken_right standing s right) (woken_covers standing s c) task standing asked
-        (decides added standing task input s) it
+        streams_covers (woken_at resume_point s) (woken_right resume_point s right) (woken_covers resume_point s c) task resume_point asked
+        (decides added resume_point task input s) it

@@ -15,8 +15,9 @@ use Rattle.model_loop.specs.Totals.{callbacks_of, pending_where}
 use Rattle.model_machine.specs.State.{State}
 use Rattle.law_cancel.proofs.Effects.{change_task-futures, soon_all-futures}
 use Rattle.law_cancel.proofs.Lookups.{get-set_other, get-set_same}
-use Rattle.law_changes.specs.Changes.{PartsChange, CallsSoon, CallsLater, Revokes, MakesFuture, Settles, Registers, KeepsAsked, MakesTask, WaitsFor, Marks}
-use Rattle.law_changes.specs.Changes.{Unmarks, Counts, Uncounts, Passes, FallsDue, LeavesPending, made_of_parts}
+use Rattle.law_changes.specs.Changes.{PartsChange, CallsSoon, CallsLater, Revokes, MakesFuture, Settles, Registers, KeepsAsked, MakesTask, WaitsFor}
+use Rattle.law_changes.specs.Changes.{SetsMustCancel}
+use Rattle.law_changes.specs.Changes.{ClearsMustCancel, Counts, Uncounts, Passes, FallsDue, LeavesPending, made_of_parts}
 use Rattle.law_changes.specs.Changes.{LoopChange, OfParts, MakesTimeout, ChangesTimeout, MakesGroup, ChangesGroup, AsksCancel, TakesBack, BeginsExit}
 use Rattle.law_changes.specs.Changes.{made_of_loop}
 use Rattle.law_changes.specs.Reaches.{PartsReach}
@@ -24,7 +25,8 @@ use Rattle.law_changes.proofs.Folds.{fold}
 use Rattle.law_changes.proofs.PartsRows.{cancel_row}
 use Rattle.law_steps.proofs.Settling.{settle_effect}
 use Rattle.law_groups.proofs.Due.{due-futures}
-use Rattle.law_reach.specs.Changes.{StateChange, OfLoop, Says, MakesCoroutine, Stands, Resumes, NamesFuture, EndsMain, ChangesExtra, ChangesStreams, Runs}
+use Rattle.law_reach.specs.Changes.{StateChange, OfLoop, Says, MakesCoroutine, SetsResumePoint, Resumes, NamesFuture, EndsMain, ChangesExtra, ChangesStreams}
+use Rattle.law_reach.specs.Changes.{Runs}
 use Rattle.law_reach.specs.Changes.{Hears, Calls, made}
 use Rattle.law_reach.specs.Reaches.{InRun}
 use Rattle.law_promises.specs.Stays.{OutcomesStay}
@@ -104,8 +106,8 @@ change_stays (Registers future action) p = register_stays future action p
 change_stays (KeepsAsked future) p = asked_stays future p
 change_stays MakesTask p = λ id outcome e. push_stays p.futures _ id outcome e
 change_stays (WaitsFor task on) p = same_stays p (made_of_parts (WaitsFor task on) p) (change_task-futures task _ p)
-change_stays (Marks task) p = same_stays p (made_of_parts (Marks task) p) (change_task-futures task _ p)
-change_stays (Unmarks task) p = same_stays p (made_of_parts (Unmarks task) p) (change_task-futures task _ p)
+change_stays (SetsMustCancel task) p = same_stays p (made_of_parts (SetsMustCancel task) p) (change_task-futures task _ p)
+change_stays (ClearsMustCancel task) p = same_stays p (made_of_parts (ClearsMustCancel task) p) (change_task-futures task _ p)
 change_stays (Counts task) p = same_stays p (made_of_parts (Counts task) p) (change_task-futures task _ p)
 change_stays (Uncounts task) p = same_stays p (made_of_parts (Uncounts task) p) (change_task-futures task _ p)
 change_stays (Passes now) p = λ id outcome e. e
@@ -132,7 +134,7 @@ state_stays : {S : Type 0} (change : StateChange S) (s : State S) → OutcomesSt
 state_stays (OfLoop change) s = loop_stays change s.loop
 state_stays (Says task text) s = λ id outcome e. e
 state_stays (MakesCoroutine coroutine arguments) s = λ id outcome e. e
-state_stays (Stands standing task) s = λ id outcome e. e
+state_stays (SetsResumePoint resume_point task) s = λ id outcome e. e
 state_stays (Resumes fresh task input) s = λ id outcome e. e
 state_stays (NamesFuture future) s = λ id outcome e. e
 state_stays EndsMain s = λ id outcome e. e

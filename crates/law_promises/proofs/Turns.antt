@@ -14,7 +14,7 @@ use Rattle.model_says.specs.Says.{step_limit}
 use Rattle.model_wire.specs.declared.event.Event.TheVariants as event
 use Rattle.model_wire.specs.Call.{Answer}
 use Rattle.model_wire.specs.Journal.{Entry}
-use Rattle.model_loop.specs.Circles.{circle_fault}
+use Rattle.model_loop.specs.Cycles.{cycle_exception}
 use Rattle.model_loop.specs.Ending.{cancel_everything}
 use Rattle.model_loop.specs.Futures.{settle}
 use Rattle.model_loop.specs.Handles.{by_deadline, due, fall_due, soon_all}
@@ -25,9 +25,9 @@ use Rattle.model_loop.specs.Ways.{steps}
 use Rattle.model_machine.specs.Extra.{Extra}
 use Rattle.model_machine.specs.Outcomes.{finished_as, woken_with}
 use Rattle.model_machine.specs.Outside.{news_of, time_of}
-use Rattle.model_machine.specs.Replies.{RequestReply, Answers, Raises, Rests, Halts, reply}
+use Rattle.model_machine.specs.Replies.{RequestReply, Answers, Raises, Suspends, Halts, reply}
 use Rattle.model_machine.specs.Sound.{IsStateSound, sends_made}
-use Rattle.model_machine.specs.State.{Standing, Asked, Sleeping, Leaving, Serving, Connecting, Yielding, Reading}
+use Rattle.model_machine.specs.State.{ResumePoint, Asked, Sleeping, Leaving, Serving, Connecting, Yielding, Reading}
 use Rattle.model_machine.specs.State.{ReadingAll, State, generator_of, noted, stands, start, unbooked_in}
 use Rattle.model_machine.specs.Step.{given_up, most_answers, says_of, serve, serve_all, served, step, taken_as}
 use Rattle.model_machine.specs.Turn.{at_time, cancelled_if, effect, finished_if, ran, run_first}
@@ -57,7 +57,7 @@ use Rattle.law_promises.proofs.Owed.{covers, easy_parts, easy_then, right_on, sa
 use Rattle.law_promises.specs.Owed.{IsCovered, IsRight}
 use Rattle.law_promises.proofs.Replies.{Covers, decides_in, reply_in, right_of}
 
-given_tasks : (st : Standing) (p : Parts) → next_task (given_up st p) ≡ next_task p
+given_tasks : (st : ResumePoint) (p : Parts) → next_task (given_up st p) ≡ next_task p
 given_tasks Asked p = refl
 given_tasks (Sleeping tag) p = refl
 given_tasks (Leaving group) p = refl
@@ -73,7 +73,7 @@ module _ {S : Type 0} (added : Extra S) (keeps : KeepsSound added) (task : ℕ) 
       → (fresh : Bool) (r : RequestReply S) → RepliesInStep added fresh task r → Covers r → IsCovered (state_of (taken_as r fresh task go_on)).loop
   after_in go_on each fresh (Answers value now) h c = each _ h c
   after_in go_on each fresh (Raises fault now) h c = each _ h c
-  after_in go_on each fresh (Rests now) h c = c
+  after_in go_on each fresh (Suspends now) h c = c
   after_in go_on each fresh (Halts end last) h c = c
 
   step_right : (t : State S) → IsStepSound added task t → IsRight t.loop
@@ -97,7 +97,7 @@ module _ {S : Type 0} (added : Extra S) (keeps : KeepsSound added) (task : ℕ) 
   serve_in (suc answers) t its c =
       served_in (serve step_limit added answers task) (λ u h d. serve_in answers u h d) (says_of step_limit added task t) t its c refl
 
-  begun_good : (st : Standing) (input : Input) (l : Loop) (rest : List Handle) → IsGood l
+  begun_good : (st : ResumePoint) (input : Input) (l : Loop) (rest : List Handle) → IsGood l
       → IsGood (record l { parts = (begin_step task input (given_up st (record l.parts { pending = rest }))).parts })
   begun_good st input l rest is =
       let gone = record l.parts { pending = rest } in
@@ -119,15 +119,15 @@ module _ {S : Type 0} (added : Extra S) (keeps : KeepsSound added) (task : ℕ) 
   unfolding step
   step_in s input handle rest first live mine sound given_ is =
       let gone = noted (event.Ran handle.action) (unbooked_in (λ p. record p { pending = rest }) s) in
-      let standing = (generator_of task s).standing in
-      let begun = begin_step task input (given_up standing gone.loop.parts) in
+      let resume_point = (generator_of task s).resume_point in
+      let begun = begin_step task input (given_up resume_point gone.loop.parts) in
       let awake = stands Asked task (unbooked_in (λ p. begun.parts) gone) in
       let a = sound.asking task (stepped_lives added s task input handle rest first live mine sound) refl in
       after_in (serve_all step_limit added task) (λ t h d. serve_in (most_answers step_limit (generator_of task t).tape) t h d) true _
       (begins_in added s task input handle rest first live mine sound keeps given_)
-      (decides_in added standing task begun.input awake
+      (decides_in added resume_point task begun.input awake
       (begun_asked added s task input handle rest first live mine sound a.asked a.says).others.streams a.asked a.stands
-      (begun_good standing input s.loop rest is))
+      (begun_good resume_point input s.loop rest is))
 
 -- ---- a callback
 module _ {S : Type 0} (added : Extra S) (keeps : KeepsSound added) (s : State S) (handle : Handle) (rest : List Handle)
@@ -158,8 +158,8 @@ module _ {S : Type 0} (added : Extra S) (keeps : KeepsSound added) (s : State S)
   lively : (it : Action) → handle.action ≡ it → handle.dead ≡ false → IsCovered (state_of (effect step_limit added it (noted (event.Ran it) out))).loop
   unfolding effect
   lively (action.Step task) is live = steps_in (action.Step task) task (Send Nothing) is (eq-eqb task task refl) live refl
-  lively (action.StepInCircle task circle) is live =
-      steps_in (action.StepInCircle task circle) task (Throw (circle_fault circle)) is (eq-eqb task task refl) live refl
+  lively (action.StepInCycle task cycle) is live =
+      steps_in (action.StepInCycle task cycle) task (Throw (cycle_exception cycle)) is (eq-eqb task task refl) live refl
   lively (action.Wakeup task) is live =
       steps_in (action.Wakeup task) task (woken_with out.loop.parts task) is (eq-eqb task task refl) live (woken_made added s sound task)
   lively (action.SleepDone task future) is live =

@@ -1,7 +1,7 @@
 pub mod Reached
-pub mod Marked
+pub mod KeepsMustCancel
 pub mod Raised
-pub mod MarkedIn
+pub mod MustCancelIn
 pub mod Stays
 pub mod Done
 pub mod Owed

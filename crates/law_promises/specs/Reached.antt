@@ -3,7 +3,7 @@ use Rattle.std.specs.Prelude.{◌≡◌, ℕ, ◌⊎◌, Bool, true, false, List
 use Rattle.model_value.specs.declared.outcome.Outcome.TheVariants.{Cancelled}
 use Rattle.model_loop.specs.Parts.{FutureKind, Many, Future, Parts}
 use Rattle.model_loop.specs.Futures.{future_outcome, is_pending, made_before}
-use Rattle.model_loop.specs.Tasks.{is_marked, waiter_of}
+use Rattle.model_loop.specs.Tasks.{must_cancel_of, waiter_of}
 use Rattle.model_loop.specs.Cancel.{has_seen}
 use Rattle.model_loop.specs.Owning.{owner_of}
 
@@ -46,6 +46,6 @@ pub data WasReached : (old new : Parts) (seen : List ℕ) → ℕ → Type 0 whe
       → WasReached old new seen on
 
 -- The cancel waits for the task's next step, or the request reached what the task waits for.
-abbrev pub GoesOn : (old new : Parts) (seen : List ℕ) → ℕ → Type 0
-GoesOn old new seen task =
-    (is_marked new task ≡ true) ⊎ ((on : ℕ) × (waiter_of old task ≡ Some on) × WasReached old new seen on)
+abbrev pub RequestGoesOn : (old new : Parts) (seen : List ℕ) → ℕ → Type 0
+RequestGoesOn old new seen task =
+    (must_cancel_of new task ≡ true) ⊎ ((on : ℕ) × (waiter_of old task ≡ Some on) × WasReached old new seen on)

@@ -2,18 +2,18 @@
 //! each task has its own future.
 ghost use Rattle.std.specs.Prelude.{◌≡◌, ℕ, true};
 ghost use Rattle.model_loop.specs.Parts.{Parts};
-ghost use Rattle.model_loop.specs.Tasks.{is_marked};
+ghost use Rattle.model_loop.specs.Tasks.{must_cancel_of};
 ghost use Rattle.model_loop.specs.Cancel.{has_seen, cancel};
 ghost use Rattle.model_loop.specs.Owning.{OwnsFutures};
-ghost use Rattle.law_promises.specs.Reached.{WasReached, GoesOn};
+ghost use Rattle.law_promises.specs.Reached.{WasReached, RequestGoesOn};
 
-/// Each task that a request comes to is afterwards marked, or what it waits for was pending and this
+/// Each task that a request comes to must cancel, or what it waits for was pending and this
 /// request reached it: that is cancelled now, or it is the future of a task that the request came
 /// to, or it stands for several of which the request reached one.
 pub fn a_cancel_goes_on()
     ensures { (id : ℕ) (p : Parts) → OwnsFutures p → (task : ℕ)
         → has_seen (cancel id p).seen task ≡ true
-        → GoesOn p (cancel id p).parts (cancel id p).seen task }
+        → RequestGoesOn p (cancel id p).parts (cancel id p).seen task }
 {}
 
 /// A request that answers true reached what it was made for, which was pending.
@@ -22,8 +22,8 @@ pub fn an_answer_is_true()
         → WasReached p (cancel id p).parts (cancel id p).seen id }
 {}
 
-/// No request takes a mark away.
-pub fn a_cancel_keeps_marks()
-    ensures { (id : ℕ) (p : Parts) → OwnsFutures p → (task : ℕ) → is_marked p task ≡ true
-        → is_marked (cancel id p).parts task ≡ true }
+/// No request clears must_cancel.
+pub fn a_cancel_keeps_must_cancel()
+    ensures { (id : ℕ) (p : Parts) → OwnsFutures p → (task : ℕ) → must_cancel_of p task ≡ true
+        → must_cancel_of (cancel id p).parts task ≡ true }
 {}

@@ -7,7 +7,7 @@ pub mod events;
 pub mod exits;
 pub mod groups;
 pub mod ledgers;
-pub mod marks;
+pub mod must_cancel;
 pub mod states;
 pub mod staying;
 pub mod waiting;

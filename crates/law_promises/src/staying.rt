@@ -1,4 +1,4 @@
-//! What takes no mark away, but for the three places where one falls. Each function has no body:
+//! What clears no must_cancel, but for the three places where one falls. Each function has no body:
 //! its clauses are the laws, of every state.
 ghost use Rattle.std.specs.Prelude.{ℕ, ℤ, List, Option};
 ghost use Rattle.model_value.specs.Action.{Action};
@@ -13,45 +13,47 @@ ghost use Rattle.model_loop.specs.Ledger.{Origin, ask_cancel, request_each};
 ghost use Rattle.model_loop.specs.Loop.{Loop};
 ghost use Rattle.model_loop.specs.Tasks.{pause, spawn};
 ghost use Rattle.model_loop.specs.Timeouts.{enter_timeout, exit_timeout, fire, reschedule};
-ghost use Rattle.law_promises.specs.Marked.{KeepsMarks};
+ghost use Rattle.law_promises.specs.KeepsMustCancel.{KeepsMustCancel};
 
 /// Handles and timers, what is made, and a pause.
-pub fn handles_take_no_mark()
-    ensures soon { (action : Action) (p : Parts) → KeepsMarks p (soon action p) }
-    ensures later { (when : ℕ) (action : Action) (p : Parts) → KeepsMarks p (later when action p) }
-    ensures revoke { (tag : ℕ) (p : Parts) → KeepsMarks p (revoke tag p) }
-    ensures due { (p : Parts) → KeepsMarks p (due p) }
-    ensures make { (kind : FutureKind) (p : Parts) → KeepsMarks p (make_future kind p) }
-    ensures spawn { (p : Parts) → KeepsMarks p (spawn p) }
-    ensures pause { (task : ℕ) (p : Parts) → KeepsMarks p (pause task p) }
+pub fn handles_clear_no_must_cancel()
+    ensures soon { (action : Action) (p : Parts) → KeepsMustCancel p (soon action p) }
+    ensures later { (when : ℕ) (action : Action) (p : Parts)
+        → KeepsMustCancel p (later when action p) }
+    ensures revoke { (tag : ℕ) (p : Parts) → KeepsMustCancel p (revoke tag p) }
+    ensures due { (p : Parts) → KeepsMustCancel p (due p) }
+    ensures make { (kind : FutureKind) (p : Parts) → KeepsMustCancel p (make_future kind p) }
+    ensures spawn { (p : Parts) → KeepsMustCancel p (spawn p) }
+    ensures pause { (task : ℕ) (p : Parts) → KeepsMustCancel p (pause task p) }
 {}
 
 /// Requests, whoever makes them, and those that end a run.
-pub fn requests_take_no_mark()
-    ensures one { (by : Origin) (id : ℕ) (p : Parts) → KeepsMarks p (ask_cancel by id p).parts }
+pub fn requests_clear_no_must_cancel()
+    ensures one { (by : Origin) (id : ℕ) (p : Parts)
+        → KeepsMustCancel p (ask_cancel by id p).parts }
     ensures each { (by : Origin) (tasks : List ℕ) (p : Parts)
-        → KeepsMarks p (request_each by tasks p).parts }
-    ensures end_of_run { (l : Loop) → KeepsMarks l.parts (cancel_everything l).parts }
+        → KeepsMustCancel p (request_each by tasks p).parts }
+    ensures end_of_run { (l : Loop) → KeepsMustCancel l.parts (cancel_everything l).parts }
 {}
 
 /// The four of a timeout.
-pub fn timeouts_take_no_mark()
+pub fn timeouts_clear_no_must_cancel()
     ensures enter { (task : ℕ) (delay : Option ℤ) (l : Loop)
-        → KeepsMarks l.parts (enter_timeout task delay l).parts }
+        → KeepsMustCancel l.parts (enter_timeout task delay l).parts }
     ensures reschedule { (id : ℕ) (when : Option ℤ) (l : Loop)
-        → KeepsMarks l.parts (reschedule id when l).parts }
-    ensures fire { (id : ℕ) (l : Loop) → KeepsMarks l.parts (fire id l).parts }
+        → KeepsMustCancel l.parts (reschedule id when l).parts }
+    ensures fire { (id : ℕ) (l : Loop) → KeepsMustCancel l.parts (fire id l).parts }
     ensures exit { (raised : Option Exc) (id : ℕ) (l : Loop)
-        → KeepsMarks l.parts (exit_timeout raised id l).loop.parts }
+        → KeepsMustCancel l.parts (exit_timeout raised id l).loop.parts }
 {}
 
 /// Those of a group that change tasks or futures.
-pub fn groups_take_no_mark()
-    ensures create { (id : ℕ) (l : Loop) → KeepsMarks l.parts (create id l).parts }
+pub fn groups_clear_no_must_cancel()
+    ensures create { (id : ℕ) (l : Loop) → KeepsMustCancel l.parts (create id l).parts }
     ensures child_done { (id task : ℕ) (l : Loop)
-        → KeepsMarks l.parts (child_done id task l).parts }
+        → KeepsMustCancel l.parts (child_done id task l).parts }
     ensures exit_begin { (raised : Option Exc) (id : ℕ) (l : Loop)
-        → KeepsMarks l.parts (exit_begin raised id l).loop.parts }
+        → KeepsMustCancel l.parts (exit_begin raised id l).loop.parts }
     ensures exit_woken { (input : Input) (id : ℕ) (l : Loop)
-        → KeepsMarks l.parts (exit_woken input id l).loop.parts }
+        → KeepsMustCancel l.parts (exit_woken input id l).loop.parts }
 {}

@@ -28,7 +28,7 @@ use Rattle.law_changes.proofs.Folds.{one, on}
 use Rattle.law_cases.specs.Cases.{Replies, raises, leaves_none, exits_none, tells, names_itself, hands_on, pauses_on, alarms, awaits, prints, makes, sets}
 use Rattle.law_cases.specs.Cases.{fails, cancels, uncancels, spawns_it, enters}
 use Rattle.law_cases.specs.Cases.{leaves, moves, enters_one, exits, creates_it, serves_it}
-use Rattle.law_reach.specs.Changes.{OfLoop, Says, MakesCoroutine, Stands, NamesFuture, ChangesExtra}
+use Rattle.law_reach.specs.Changes.{OfLoop, Says, MakesCoroutine, SetsResumePoint, NamesFuture, ChangesExtra}
 use Rattle.law_reach.specs.Reaches.{ComesTo, InAnswer}
 use Rattle.law_reach.proofs.Rows.{asks-said}
 use Rattle.law_reach.proofs.Trees.{ask_comes, comes_after}
@@ -69,7 +69,7 @@ module _ {S : Type 0} (added : Extra S) (task : ℕ) where
   pub exits_comes : (answer : GroupExit) (id : ℕ) (l : Loop) (s : State S) → LoopReaches (Some task) s.loop l
       → Comes s (exits_as answer task id (with_loop l s))
   exits_comes (Waits future) id l s row = record {
-    reaches = goes (on (in_loop_row added s row) (waits_row future (with_loop l s))) (Stands (Leaving id) task) refl;
+    reaches = goes (on (in_loop_row added s row) (waits_row future (with_loop l s))) (SetsResumePoint (Leaving id) task) refl;
     ends = tt;
     asks = refl;
   }
@@ -82,7 +82,7 @@ module _ {S : Type 0} (added : Extra S) (task : ℕ) where
 
   until_comes : (o : Option Outcome) (wake : Wake S) (id key : ℕ) (s : State S) → WakeComes wake → Comes s (serves_until o wake task id key s)
   until_comes (Some outcome) wake id key s wakes = wakes key (input_of outcome) s
-  until_comes None wake id key s wakes = record { reaches = goes (waits_row id s) (Stands (Serving key) task) refl; ends = tt; asks = refl }
+  until_comes None wake id key s wakes = record { reaches = goes (waits_row id s) (SetsResumePoint (Serving key) task) refl; ends = tt; asks = refl }
 
   -- it asks the outside only where it may
   abbrev AsksBy : ExtraAnswer → Type 0
@@ -120,7 +120,8 @@ module _ {S : Type 0} (added : Extra S) (task : ℕ) where
   case_comes s (pauses_on may b) = record { reaches = one (OfLoop (OfParts (CallsSoon (action.Step task)))) refl; ends = tt; asks = refl }
   case_comes s (alarms x delay) = record {
     reaches = goes (on (goes (one (OfLoop (OfParts (MakesFuture Plain))) tt) (OfLoop (OfParts (CallsLater _ _))) tt)
-        (waits_row added task (next_future s.loop.parts) (unbooked_in (alarmed task (pos (suc delay))) s))) (Stands (Sleeping s.loop.parts.next_tag) task) refl;
+        (waits_row added task (next_future s.loop.parts) (unbooked_in (alarmed task (pos (suc delay))) s)))
+        (SetsResumePoint (Sleeping s.loop.parts.next_tag) task) refl;
     ends = tt;
     asks = refl;
   }

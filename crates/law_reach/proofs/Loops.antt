@@ -3,7 +3,7 @@ use Rattle.std.proofs.Common.{ℕ, Option}
 use Rattle.model_machine.specs.Extra.{Extra}
 use Rattle.model_machine.specs.State.{State}
 use Rattle.law_changes.specs.Reaches.{LoopReaches, stays, goes}
-use Rattle.law_reach.specs.Changes.{OfLoop, Says, MakesCoroutine, Stands, Resumes, NamesFuture, EndsMain, ChangesExtra, ChangesStreams}
+use Rattle.law_reach.specs.Changes.{OfLoop, Says, MakesCoroutine, SetsResumePoint, Resumes, NamesFuture, EndsMain, ChangesExtra, ChangesStreams}
 use Rattle.law_reach.specs.Changes.{Runs, Hears, Calls}
 use Rattle.law_reach.specs.Reaches.{InCallback}
 
@@ -12,7 +12,7 @@ loop_of added stays = stays
 loop_of added (goes row (OfLoop change) may) = goes (loop_of added row) change may
 loop_of added (goes row (Says task text) may) = loop_of added row
 loop_of added (goes row (MakesCoroutine coroutine arguments) may) = loop_of added row
-loop_of added (goes row (Stands standing task) may) = loop_of added row
+loop_of added (goes row (SetsResumePoint resume_point task) may) = loop_of added row
 loop_of added (goes row (Resumes fresh task input) may) = loop_of added row
 loop_of added (goes row (NamesFuture future) may) = loop_of added row
 loop_of added (goes row EndsMain may) = loop_of added row

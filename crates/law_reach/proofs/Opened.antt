@@ -32,14 +32,14 @@ use Rattle.model_machine.specs.Arguments.{AServer, AWriter, Closable, as_bytes, 
 use Rattle.model_machine.specs.Arguments.{as_conn, as_delay, as_int, as_reader, as_words, as_writer}
 use Rattle.model_machine.specs.Extra.{Extra}
 use Rattle.model_machine.specs.Outcomes.{input_of}
-use Rattle.model_machine.specs.Replies.{RequestReply, Answers, Raises, Rests, awaits, awaits_as}
+use Rattle.model_machine.specs.Replies.{RequestReply, Answers, Raises, Suspends, awaits, awaits_as}
 use Rattle.model_machine.specs.Replies.{awaits_closed_as, awaits_exit_as, closes, connects, connects_as}
 use Rattle.model_machine.specs.Replies.{decides, drains, drains_as, ended, given, hears, launches}
 use Rattle.model_machine.specs.Replies.{launches_as, limits_as, listens, listens_as, numbered_if, reads}
 use Rattle.model_machine.specs.Replies.{reads_all, reads_all_as, reads_as, reads_count, reply, streams_change, streams_do, to_port, to_port_if, waits}
 use Rattle.model_machine.specs.Replies.{waits_no_more, writes_as}
 use Rattle.model_machine.specs.Sound.{IsClosed}
-use Rattle.model_machine.specs.State.{Standing, Asked, Sleeping, Leaving, Serving, Connecting, Yielding, Reading, ReadingAll, State, stands}
+use Rattle.model_machine.specs.State.{ResumePoint, Asked, Sleeping, Leaving, Serving, Connecting, Yielding, Reading, ReadingAll, State, stands}
 use Rattle.model_machine.specs.State.{with_streams}
 use Rattle.law_changes.specs.Changes.{CallsSoon, OfParts}
 use Rattle.law_changes.specs.Reaches.{stays, goes}
@@ -50,7 +50,7 @@ use Rattle.law_cases.specs.Trees.{AllWaits, AnswersStreams, ConnectsStreams, Dra
 use Rattle.law_cases.proofs.Composing.{streams_all}
 use Rattle.law_cases.proofs.Asking as asking
 use Rattle.law_cases.proofs.Opening as opening
-use Rattle.law_reach.specs.Changes.{ChangesStreams, IsOpen, OfLoop, Stands}
+use Rattle.law_reach.specs.Changes.{ChangesStreams, IsOpen, OfLoop, SetsResumePoint}
 use Rattle.law_cases.specs.Closed.{is_to_streams}
 use Rattle.law_reach.specs.Reaches.{ComesTo}
 use Rattle.law_reach.proofs.Answering.{case_comes, exits_comes, replied_comes, waits_row, woken_comes}
@@ -77,11 +77,11 @@ module _ {S : Type 0} (added : Extra S) (task : ℕ) where
   raises_comes : (fault : Exc) (s : State S) → Comes s (Raises fault s)
   raises_comes fault s = record { reaches = stays; ends = tt; asks = refl }
 
-  waits_comes : (on : ℕ) (s : State S) → Comes s (Rests (waits task on s))
+  waits_comes : (on : ℕ) (s : State S) → Comes s (Suspends (waits task on s))
   waits_comes on s = record { reaches = waits_row added task on s; ends = tt; asks = refl }
 
-  stood_comes : (standing : Standing) (on : ℕ) (s : State S) → Comes s (Rests (stands standing task (waits task on s)))
-  stood_comes standing on s = record { reaches = goes (waits_row added task on s) (Stands standing task) refl; ends = tt; asks = refl }
+  stood_comes : (resume_point : ResumePoint) (on : ℕ) (s : State S) → Comes s (Suspends (stands resume_point task (waits task on s)))
+  stood_comes resume_point on s = record { reaches = goes (waits_row added task on s) (SetsResumePoint resume_point task) refl; ends = tt; asks = refl }
 
   given_comes : {A : Type 0} (o : Option A) (next : A → State S → RequestReply S) (s : State S) → ((a : A) → Comes s (next a s))
       → Comes s (given o next s)
@@ -154,7 +154,7 @@ module _ {S : Type 0} (added : Extra S) (task : ℕ) where
   drained_comes : (whom : Handed) (it : Drain) (s : State S) → Comes s (drains_as task whom it s)
   drained_comes whom drain_as.Goes s = answers_comes _ s
   drained_comes whom drain_as.Yields s = record {
-    reaches = goes (one (OfLoop (OfParts (CallsSoon (action.Step task)))) refl) (Stands (Yielding whom) task) refl;
+    reaches = goes (one (OfLoop (OfParts (CallsSoon (action.Step task)))) refl) (SetsResumePoint (Yielding whom) task) refl;
     ends = tt;
     asks = refl;
   }
@@ -318,7 +318,7 @@ module _ {S : Type 0} (added : Extra S) (task : ℕ) where
       at (inl closed) = subst (λ t. ComesTo added (Some task) s (next t)) (sym (gives_up_none s closed on from)) (each s)
       at (inr opened) = with_comes added task (give_up_read on from s.streams) s _ opened (each (waits_no_more on from s))
 
-  pub decides_comes : (standing : Standing) (input : Input) (s : State S) → ComesTo added (Some task) s (decides added standing task input s)
+  pub decides_comes : (resume_point : ResumePoint) (input : Input) (s : State S) → ComesTo added (Some task) s (decides added resume_point task input s)
   decides_comes Asked input s = replied_comes added task input s
   decides_comes (Sleeping tag) input s = replied_comes added task input s
   decides_comes (Leaving group) input s =

@@ -13,14 +13,14 @@ use Rattle.model_stream.specs.Children.{Child}
 use Rattle.model_stream.specs.Listeners.{Server}
 use Rattle.model_stream.specs.Streams.{Opened, Streams, Written, no_streams}
 use Rattle.model_machine.specs.Extra.{Extra}
-use Rattle.model_machine.specs.Replies.{RequestReply, Answers, Raises, Rests, Halts}
+use Rattle.model_machine.specs.Replies.{RequestReply, Answers, Raises, Suspends, Halts}
 use Rattle.model_machine.specs.Sound.{IsClosed}
 use Rattle.model_machine.specs.State.{State}
 use Rattle.model_machine.specs.Went.{Went, Goes, Stops}
 use Rattle.law_changes.specs.Reaches.{stays, goes}
 use Rattle.law_changes.proofs.Folds.{widen}
 use Rattle.law_reach.specs.Asked.{IsAnswered, IsAnsweredBefore, ReplyAsks, WentAsks, asks_in}
-use Rattle.law_reach.specs.Changes.{StateChange, OfLoop, Says, MakesCoroutine, Stands, Resumes, NamesFuture, EndsMain, ChangesExtra, ChangesStreams}
+use Rattle.law_reach.specs.Changes.{StateChange, OfLoop, Says, MakesCoroutine, SetsResumePoint, Resumes, NamesFuture, EndsMain, ChangesExtra, ChangesStreams}
 use Rattle.law_reach.specs.Changes.{Runs, Hears, Calls, IsOpen, MayAsk, MayInAnswer, MayInCallback, MayInRun, MayInTurn, made}
 use Rattle.law_reach.specs.Reaches.{EndsIn, HaltsIn, InAnswer, InCallback, InRun, InTurn, StopsIn}
 
@@ -30,7 +30,7 @@ module _ {S : Type 0} (added : Extra S) where
   callback_may r (OfLoop change) s may = may
   callback_may r (Says task text) s may = may
   callback_may r (MakesCoroutine coroutine arguments) s may = may
-  callback_may r (Stands standing task) s may = may
+  callback_may r (SetsResumePoint resume_point task) s may = may
   callback_may r (Resumes fresh task input) s may = absurd may
   callback_may r (NamesFuture future) s may = may
   callback_may r EndsMain s may = absurd may
@@ -44,7 +44,7 @@ module _ {S : Type 0} (added : Extra S) where
   turn_may r (OfLoop change) s may = tt
   turn_may r (Says task text) s may = tt
   turn_may r (MakesCoroutine coroutine arguments) s may = tt
-  turn_may r (Stands standing task) s may = tt
+  turn_may r (SetsResumePoint resume_point task) s may = tt
   turn_may r (Resumes fresh task input) s may = tt
   turn_may r (NamesFuture future) s may = tt
   turn_may r EndsMain s may = tt
@@ -60,7 +60,7 @@ module _ {S : Type 0} (added : Extra S) where
   run_may (OfLoop change) s may = tt
   run_may (Says task text) s may = tt
   run_may (MakesCoroutine coroutine arguments) s may = tt
-  run_may (Stands standing task) s may = tt
+  run_may (SetsResumePoint resume_point task) s may = tt
   run_may (Resumes fresh task input) s may = tt
   run_may (NamesFuture future) s may = tt
   run_may EndsMain s may = tt
@@ -84,7 +84,7 @@ module _ {S : Type 0} where
   change_closed (OfLoop change) s may closed = closed
   change_closed (Says task text) s may closed = closed
   change_closed (MakesCoroutine coroutine arguments) s may closed = closed
-  change_closed (Stands standing task) s may closed = closed
+  change_closed (SetsResumePoint resume_point task) s may closed = closed
   change_closed (Resumes fresh task input) s may closed = closed
   change_closed (NamesFuture future) s may closed = closed
   change_closed EndsMain s may closed = closed
@@ -133,7 +133,7 @@ module _ {S : Type 0} (added : Extra S) {s t : State S} (row : InRun s t) where
   pub halts_before : (it : RequestReply S) → HaltsIn added t it → HaltsIn added s it
   halts_before (Answers value now) h = tt
   halts_before (Raises fault now) h = tt
-  halts_before (Rests now) h = tt
+  halts_before (Suspends now) h = tt
   halts_before (Halts how last) h = ends_before how h
 
   pub stops_before : (it : Went S) → StopsIn added t it → StopsIn added s it
@@ -188,7 +188,7 @@ module _ {S : Type 0} where
   pub reply_asks_then : (s t : State S) (it : RequestReply S) → IsAnswered s t → ReplyAsks t it → ReplyAsks s it
   reply_asks_then s t (Answers value now) first second = second ∙ first
   reply_asks_then s t (Raises fault now) first second = second ∙ first
-  reply_asks_then s t (Rests now) first second = second ∙ first
+  reply_asks_then s t (Suspends now) first second = second ∙ first
   reply_asks_then s t (Halts how last) first second = before_then s t last first second
 
   pub went_asks_then : (s t : State S) (it : Went S) → IsAnswered s t → WentAsks t it → WentAsks s it

@@ -18,8 +18,8 @@ use Rattle.model_stream.specs.Requests.{close}
 use Rattle.model_stream.specs.Streams.{Streams, act, handler_of}
 use Rattle.model_machine.specs.Sound.{IsClosed}
 use Rattle.model_machine.specs.Extra.{Extra}
-use Rattle.model_machine.specs.Replies.{RequestReply, Answers, Raises, Rests, Halts, decides, most_ids, reply}
-use Rattle.model_machine.specs.State.{Standing, Asked, Sleeping, Leaving, Serving, Connecting, Yielding, Reading, ReadingAll, State, generator_of, noted}
+use Rattle.model_machine.specs.Replies.{RequestReply, Answers, Raises, Suspends, Halts, decides, most_ids, reply}
+use Rattle.model_machine.specs.State.{ResumePoint, Asked, Sleeping, Leaving, Serving, Connecting, Yielding, Reading, ReadingAll, State, generator_of, noted}
 use Rattle.model_machine.specs.State.{stands, unbooked_in}
 use Rattle.model_machine.specs.Step.{given_up, says_of, serve, serve_all, served, step, taken_as}
 use Rattle.model_machine.specs.Turn.{effect, goes_with, handled_if, has_returned, made_by, ran, streams_go}
@@ -32,7 +32,7 @@ use Rattle.law_changes.proofs.Folds.{one, on}
 use Rattle.law_cases.specs.Trees.{Keeping, KeepsStreams, is_of_streams}
 use Rattle.law_cases.proofs.Asking.{closes}
 use Rattle.law_cases.proofs.Opening.{acts}
-use Rattle.law_reach.specs.Changes.{ChangesStreams, EndsMain, IsOpen, MakesCoroutine, OfLoop, Resumes, Runs, Stands, runner_of}
+use Rattle.law_reach.specs.Changes.{ChangesStreams, EndsMain, IsOpen, MakesCoroutine, OfLoop, Resumes, Runs, SetsResumePoint, runner_of}
 use Rattle.law_reach.specs.Reaches.{ComesTo, GoesTo, InCallback}
 use Rattle.law_reach.proofs.Answering.{called_row, in_loop_row}
 use Rattle.law_cases.proofs.Closed.{effect_none}
@@ -44,7 +44,7 @@ parts_row : {S : Type 0} (added : Extra S) {r : Option ℕ} {q : Parts} (s : Sta
     → InCallback added r s (unbooked_in (λ p. q) s)
 parts_row added s row = in_answer added (in_loop_row added s (in_parts_row s.loop row))
 
-pub given_up_row : (task : ℕ) (standing : Standing) (p : Parts) → ReachAlone (Some task) p (given_up standing p)
+pub given_up_row : (task : ℕ) (resume_point : ResumePoint) (p : Parts) → ReachAlone (Some task) p (given_up resume_point p)
 given_up_row task Asked p = stays
 given_up_row task (Sleeping tag) p = one (Revokes tag) tt
 given_up_row task (Leaving group) p = stays
@@ -64,7 +64,7 @@ module _ {S : Type 0} (added : Extra S) (task : ℕ) where
       goes_after added (Some task) (goes (in_answer added it.reaches) (Resumes fresh task (Send value)) refl) it.asks (each _)
   taken_goes s (Raises fault now) fresh go_on it each =
       goes_after added (Some task) (goes (in_answer added it.reaches) (Resumes fresh task (Throw fault)) refl) it.asks (each _)
-  taken_goes s (Rests now) fresh go_on it each = record { reaches = in_answer added it.reaches; ends = tt; asks = it.asks }
+  taken_goes s (Suspends now) fresh go_on it each = record { reaches = in_answer added it.reaches; ends = tt; asks = it.asks }
   taken_goes s (Halts how last) fresh go_on it each = record { reaches = in_answer added it.reaches; ends = it.ends; asks = it.asks }
 
 module _ {S : Type 0} (limit : ℕ) (added : Extra S) where
@@ -93,14 +93,15 @@ module _ {S : Type 0} (limit : ℕ) (added : Extra S) where
   pub step_goes : (task : ℕ) (input : Input) (s : State S) → GoesTo added (Some task) s (step limit added task input s)
   unfolding step
   step_goes task input s =
-      let standing = (generator_of task s).standing in
-      let begun = begin_step task input (given_up standing s.loop.parts) in
+      let resume_point = (generator_of task s).resume_point in
+      let begun = begin_step task input (given_up resume_point s.loop.parts) in
       let awake = stands Asked task (unbooked_in (λ p. begun.parts) s) in
       goes_after added (Some task)
-      (goes (parts_row added s (on (given_up_row task standing s.loop.parts) (begin_row task input (given_up standing s.loop.parts)))) (Stands Asked task) refl)
+      (goes (parts_row added s (on (given_up_row task resume_point s.loop.parts) (begin_row task input (given_up resume_point s.loop.parts))))
+      (SetsResumePoint Asked task) refl)
       refl
-      (taken_goes added task awake (decides added standing task begun.input awake) true (serve_all limit added task)
-      (decides_comes added task standing begun.input awake) (λ t. serve_goes _ task t))
+      (taken_goes added task awake (decides added resume_point task begun.input awake) true (serve_all limit added task)
+      (decides_comes added task resume_point begun.input awake) (λ t. serve_goes _ task t))
 
   -- ---- callbacks of streams: where nothing is open they do nothing
   opened_if : (it : Action) (s : State S) → is_of_streams it ≡ true → (IsOpen s → GoesTo added None s (effect limit added it s))
@@ -141,7 +142,7 @@ module _ {S : Type 0} (limit : ℕ) (added : Extra S) where
   pub effect_goes : (it : Action) (s : State S) → GoesTo added (runner_of it) s (effect limit added it s)
   unfolding effect
   effect_goes (action.Step task) s = step_goes task _ s
-  effect_goes (action.StepInCircle task circle) s = step_goes task _ s
+  effect_goes (action.StepInCycle task cycle) s = step_goes task _ s
   effect_goes (action.Wakeup task) s = step_goes task _ s
   effect_goes (action.SleepDone task future) s = record {
     reaches = one (OfLoop (OfParts (Settles future (Returned Nothing)))) tt;

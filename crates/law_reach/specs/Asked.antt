@@ -3,7 +3,7 @@
 use Rattle.std.specs.Prelude.{◌≡◌, ℕ, suc, ◌+◌, ◌≤◌, List, [], ◌∷◌, length}
 use Rattle.model_wire.specs.declared.event.Event.TheVariants as event
 use Rattle.model_wire.specs.Event.{Event}
-use Rattle.model_machine.specs.Replies.{RequestReply, Answers, Raises, Rests, Halts}
+use Rattle.model_machine.specs.Replies.{RequestReply, Answers, Raises, Suspends, Halts}
 use Rattle.model_machine.specs.State.{State}
 use Rattle.model_machine.specs.Went.{Went, Goes, Stops}
 
@@ -26,7 +26,7 @@ IsAnsweredBefore s t = asks_in t.events + length t.answers ≤ asks_in s.events 
 abbrev pub ReplyAsks : {S : Type 0} → State S → RequestReply S → Type 0
 ReplyAsks s (Answers value now) = IsAnswered s now
 ReplyAsks s (Raises fault now) = IsAnswered s now
-ReplyAsks s (Rests now) = IsAnswered s now
+ReplyAsks s (Suspends now) = IsAnswered s now
 ReplyAsks s (Halts how last) = IsAnsweredBefore s last
 
 abbrev pub WentAsks : {S : Type 0} → State S → Went S → Type 0

@@ -10,7 +10,7 @@ use Rattle.model_wire.specs.Journal.{Entry, Answered}
 use Rattle.model_stream.specs.Streams.{Streams}
 use Rattle.model_machine.specs.Extra.{AsksNothing, Extra}
 use Rattle.model_machine.specs.Sound.{IsClosed}
-use Rattle.model_machine.specs.State.{Standing, State, in_loop, noted, resumed, stands, with_coroutine, with_streams}
+use Rattle.model_machine.specs.State.{ResumePoint, State, in_loop, noted, resumed, stands, with_coroutine, with_streams}
 use Rattle.law_changes.specs.Changes.{LoopChange, MayInLoop, made_of_loop}
 use Rattle.law_cases.specs.Trees.{is_select}
 
@@ -19,7 +19,7 @@ pub data StateChange (S : Type 0) : Type 0 where
   -- a task says something
   Says : (task : ℕ) (text : List ℕ) → StateChange S
   MakesCoroutine : (coroutine : ℕ) (arguments : List Value) → StateChange S
-  Stands : (standing : Standing) (task : ℕ) → StateChange S
+  SetsResumePoint : (resume_point : ResumePoint) (task : ℕ) → StateChange S
   Resumes : (fresh : Bool) (task : ℕ) (input : Input) → StateChange S
   -- a script's future, under its number among all
   NamesFuture : (future : ℕ) → StateChange S
@@ -37,7 +37,7 @@ abbrev pub made : {S : Type 0} → StateChange S → State S → State S
 made (OfLoop change) s = in_loop (made_of_loop change) s
 made (Says task text) s = noted (event.Said task text) s
 made (MakesCoroutine coroutine arguments) s = with_coroutine coroutine arguments s
-made (Stands standing task) s = stands standing task s
+made (SetsResumePoint resume_point task) s = stands resume_point task s
 made (Resumes fresh task input) s = resumed fresh task input s
 made (NamesFuture future) s = record s { futures = s.futures ++ future ∷ [] }
 made EndsMain s = record s { main_done = true }
@@ -69,7 +69,7 @@ pub record IsUnheard {S : Type 0} (added : Extra S) (call : Call) (s : State S) 
 abbrev pub MayInAnswer : {S : Type 0} → Extra S → (runner : Option ℕ) → StateChange S → State S → Type 0
 MayInAnswer added runner (OfLoop change) s = MayInLoop runner change s.loop
 MayInAnswer added runner (Says task text) s = runner ≡ Some task
-MayInAnswer added runner (Stands standing task) s = runner ≡ Some task
+MayInAnswer added runner (SetsResumePoint resume_point task) s = runner ≡ Some task
 MayInAnswer added runner (Resumes fresh task input) s = ⊥
 MayInAnswer added runner EndsMain s = ⊥
 MayInAnswer added runner (ChangesStreams streams) s = IsOpen s
@@ -81,7 +81,7 @@ MayInAnswer added runner _ s = Unit {0}
 -- whose step an action is
 abbrev pub runner_of : Action → Option ℕ
 runner_of (action.Step task) = Some task
-runner_of (action.StepInCircle task circle) = Some task
+runner_of (action.StepInCycle task cycle) = Some task
 runner_of (action.Wakeup task) = Some task
 runner_of _ = None
 

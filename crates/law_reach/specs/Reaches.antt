@@ -3,7 +3,7 @@ use Rattle.std.specs.Prelude.{ℕ, Option, ◌⊎◌}
 use Rattle.model_wire.specs.declared.event.End.TheVariants as end
 use Rattle.model_wire.specs.Trace.{End}
 use Rattle.model_machine.specs.Extra.{Extra}
-use Rattle.model_machine.specs.Replies.{RequestReply, Answers, Raises, Rests, Halts}
+use Rattle.model_machine.specs.Replies.{RequestReply, Answers, Raises, Suspends, Halts}
 use Rattle.model_machine.specs.State.{State}
 use Rattle.model_machine.specs.Went.{Went, Goes, Stops, state_of}
 use Rattle.law_changes.specs.Reaches.{Reaches}
@@ -50,7 +50,7 @@ StopsIn added s (Stops how last) = EndsIn added s how
 abbrev pub left_by : {S : Type 0} → RequestReply S → State S
 left_by (Answers value now) = now
 left_by (Raises fault now) = now
-left_by (Rests now) = now
+left_by (Suspends now) = now
 left_by (Halts how last) = last
 
 pub record ComesTo {S : Type 0} (added : Extra S) (runner : Option ℕ) (s : State S) (it : RequestReply S) : Type 0 where

@@ -302,7 +302,7 @@ acts_fed next returned (action.LostChild id broken) s =
     fed_alone s (act next returned (action.LostChild id broken) s) (child_changes id s (child.lose_child id broken) (own.child_lose_apart id broken))
 acts_fed next returned (action.Made id) s = fed_alone s (Ends s) (still_same s)
 acts_fed next returned (action.Step task) s = fed_alone s (Ends s) (still_same s)
-acts_fed next returned (action.StepInCircle task circle) s = fed_alone s (Ends s) (still_same s)
+acts_fed next returned (action.StepInCycle task cycle) s = fed_alone s (Ends s) (still_same s)
 acts_fed next returned (action.Wakeup task) s = fed_alone s (Ends s) (still_same s)
 acts_fed next returned (action.SleepDone task future) s = fed_alone s (Ends s) (still_same s)
 acts_fed next returned (action.GroupDone group task) s = fed_alone s (Ends s) (still_same s)

@@ -17,8 +17,9 @@ use Rattle.model_stream.specs.Requests.{StreamReader}
 use Rattle.model_stream.specs.Streams.{Streams}
 use Rattle.model_machine.specs.Does.{changed}
 use Rattle.law_cancel.proofs.Lookups.{get-set_other, get-set_same}
-use Rattle.law_changes.specs.Changes.{PartsChange, CallsSoon, CallsLater, Revokes, MakesFuture, Settles, Registers, KeepsAsked, MakesTask, WaitsFor, Marks}
-use Rattle.law_changes.specs.Changes.{Unmarks, Counts, Uncounts, Passes, FallsDue, LeavesPending, made_of_parts}
+use Rattle.law_changes.specs.Changes.{PartsChange, CallsSoon, CallsLater, Revokes, MakesFuture, Settles, Registers, KeepsAsked, MakesTask, WaitsFor}
+use Rattle.law_changes.specs.Changes.{SetsMustCancel}
+use Rattle.law_changes.specs.Changes.{ClearsMustCancel, Counts, Uncounts, Passes, FallsDue, LeavesPending, made_of_parts}
 use Rattle.law_stream.specs.Ways.{Move, Did, Heard, one_if}
 use Rattle.law_walk.specs.Walks.{GoesOn, MayOfParts, is_of_loop, made_on}
 use Rattle.law_received.specs.Calm.{ScheduleNone}
@@ -275,8 +276,8 @@ change_follows (Registers future it) p may = register_follows future it p (own_i
 change_follows (KeepsAsked future) p may = asked_follows future p
 change_follows MakesTask p may = spawn_follows p
 change_follows (WaitsFor task on) p may = task_follows task _ p
-change_follows (Marks task) p may = task_follows task _ p
-change_follows (Unmarks task) p may = task_follows task _ p
+change_follows (SetsMustCancel task) p may = task_follows task _ p
+change_follows (ClearsMustCancel task) p may = task_follows task _ p
 change_follows (Counts task) p may = task_follows task _ p
 change_follows (Uncounts task) p may = task_follows task _ p
 change_follows (Passes now) p may =

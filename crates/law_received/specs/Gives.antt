@@ -2,7 +2,7 @@
 use Rattle.std.specs.Prelude.{◌≡◌, ℕ, List, [], ◌++◌}
 use Rattle.model_value.specs.Value.{Value, Bytes}
 use Rattle.model_stream.specs.Requests.{StreamReader}
-use Rattle.model_machine.specs.Replies.{RequestReply, Answers, Raises, Rests, Halts, waits}
+use Rattle.model_machine.specs.Replies.{RequestReply, Answers, Raises, Suspends, Halts, waits}
 use Rattle.model_machine.specs.State.{ReadingAll, State, stands}
 use Rattle.law_reach.specs.Reaches.{IsUnmet}
 use Rattle.law_received.specs.Received.{read_of}
@@ -28,7 +28,7 @@ pub record RemovesBytes {S : Type 0} (from : StreamReader) (s now : State S) : T
 abbrev pub GivesNext : {S : Type 0} → StreamReader → State S → RequestReply S → Type 0
 GivesNext from s (Answers value now) = GivesBytes from s value now
 GivesNext from s (Raises fault now) = RemovesBytes from s now
-GivesNext from s (Rests now) = IsNext from [] s now
+GivesNext from s (Suspends now) = IsNext from [] s now
 GivesNext from s (Halts how last) = IsUnmet how
 
 -- ---- a read with a negative count, which took these bytes before
@@ -49,5 +49,5 @@ pub record KeepsJoined {S : Type 0} (from : StreamReader) (task : ℕ) (taken : 
 abbrev pub GivesAll : {S : Type 0} → StreamReader → (task : ℕ) → (taken : List ℕ) → State S → RequestReply S → Type 0
 GivesAll from task taken s (Answers value now) = GivesJoined from taken s value now
 GivesAll from task taken s (Raises fault now) = RemovesBytes from s now
-GivesAll from task taken s (Rests now) = KeepsJoined from task taken s now
+GivesAll from task taken s (Suspends now) = KeepsJoined from task taken s now
 GivesAll from task taken s (Halts how last) = IsUnmet how

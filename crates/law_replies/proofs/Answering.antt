@@ -21,7 +21,7 @@ use Rattle.model_machine.specs.Extra.{Extra}
 use Rattle.model_machine.specs.Sound.{AreScriptsFutures, IsStateSound, StandsRightly, blocks_of, names_block, names_made, sends_made, stands_at}
 use Rattle.model_machine.specs.Sound.{IsLeft, IsOpenedAt}
 use Rattle.model_stream.specs.Streams.{Streams}
-use Rattle.model_machine.specs.State.{Standing, Asked, Leaving, Generator, State, generator, generator_of, resumed, stands, with_streams}
+use Rattle.model_machine.specs.State.{ResumePoint, Asked, Leaving, Generator, State, generator, generator_of, resumed, stands, with_streams}
 use Rattle.model_machine.specs.Step.{says_of}
 use Rattle.law_turns.specs.Replied.{RunsSound, HasPlainFutures}
 use Rattle.law_turns.specs.SoundState.{HasSoundLoop}
@@ -32,7 +32,8 @@ use Rattle.law_replies.proofs.Blocks.{open_kept}
 use Rattle.law_replies.proofs.Counts.{get_there, and_first, and_second, and_both, lives_within, own_there, lives_before, of_plain}
 use Rattle.law_replies.proofs.Given.{Made, said_made, made_task, asked_sleeps, asked_leaves}
 use Rattle.law_replies.proofs.Keeping.{IsApart, apart_of, open_of, with_open, joined, says_same, tapes_blocks, loop_keeps, stays_stood, leaves_none}
-use Rattle.law_replies.proofs.Keeping.{resumed_blocks, resumed_others, resumed_standing, resumed_begun, answer_keeps, stood_standing, stood_tape, stood_says}
+use Rattle.law_replies.proofs.Keeping.{resumed_blocks, resumed_others, resumed_resume_point, resumed_begun, answer_keeps, stood_resume_point, stood_tape}
+use Rattle.law_replies.proofs.Keeping.{stood_says}
 use Rattle.law_replies.proofs.Keeping.{stood_blocks, stands_keeps}
 use Rattle.law_replies.proofs.Replacing.{Replaces, over_replaced}
 
@@ -44,7 +45,7 @@ pending_of s on future e none = ap is_pending_at e ∙ ap is_none (sym (ap outco
 pub plain_futures : {S : Type 0} (s : State S) → AreScriptsFutures s → HasPlainFutures s
 plain_futures s is id on e = let f = is.plain id on e in of_plain s.loop.parts on f.0 f.1 f.2
 
-pub stands_asked : {S : Type 0} (s : State S) (task : ℕ) → (generator_of task s).standing ≡ Asked → StandsRightly s task
+pub stands_asked : {S : Type 0} (s : State S) (task : ℕ) → (generator_of task s).resume_point ≡ Asked → StandsRightly s task
 stands_asked s task e = record {
   sleeping = λ tag h. absurd (asked_sleeps tag (sym e ∙ h));
   leaving = λ id h. absurd (asked_leaves id (sym e ∙ h));
@@ -62,7 +63,7 @@ left_before s t test grown excused timeout group begun a id f k e =
     (sym (g.still k) ∙ and_first (group_of t.loop id).exiting (not (group_of t.loop id).ended) e)
     (sym (ap not (g.ended f)) ∙ and_second (group_of t.loop id).exiting (not (group_of t.loop id).ended) e)
 
-module _ {S : Type 0} (added : Extra S) (task : ℕ) (stood : Standing) (asked : Request) (s : State S) (is : IsAsked added task stood asked s) where
+module _ {S : Type 0} (added : Extra S) (task : ℕ) (stood : ResumePoint) (asked : Request) (s : State S) (is : IsAsked added task stood asked s) where
   abbrev n : ℕ
   n = next_task s.loop.parts
 
@@ -106,8 +107,8 @@ module _ {S : Type 0} (added : Extra S) (task : ℕ) (stood : Standing) (asked :
     t_within : task < length t.generators
     t_within = let w = within in let e = ap length tapes.generators in omega (arith, w, e)
 
-    t_standing : (generator_of task t).standing ≡ Asked
-    t_standing = ap (λ (gs : List Generator). (slice_index_or gs task (generator 0 [])).standing) tapes.generators ∙ is.standing
+    t_resume_point : (generator_of task t).resume_point ≡ Asked
+    t_resume_point = ap (λ (gs : List Generator). (slice_index_or gs task (generator 0 [])).resume_point) tapes.generators ∙ is.resume_point
 
     t_blocks : (other : ℕ) → blocks_of t other ≡ blocks_of s other
     t_blocks = tapes_blocks added s t tapes (Some task) None (Some task) (Some task)
@@ -124,7 +125,7 @@ module _ {S : Type 0} (added : Extra S) (task : ℕ) (stood : Standing) (asked :
           (leaves_none added s t tapes (Some task) (Some task) (Some task) (Some task) _ _ None None None a (λ id f. (refl, refl))) scripts half))
           (open_kept _ _ (Some task) None s.loop t.loop (blocks_of s) (blocks_of (resumed fresh task input t)) a same
           (open_of added (Some task) (Some task) s is.others.blocks));
-      standing = resumed_standing added task asked fresh input t t_within t_says t_standing;
+      resume_point = resumed_resume_point added task asked fresh input t t_within t_says t_resume_point;
       begun = resumed_begun added task asked fresh input t t_within t_says;
       exits = λ id e mine.
           still id (is.exits id (left_before s t _ _ (Some task) None None None a id refl refl e) (mine ∙ (a.groups id).parent));
@@ -140,62 +141,62 @@ module _ {S : Type 0} (added : Extra S) (task : ℕ) (stood : Standing) (asked :
             at (inr d) = resumed_others added task asked fresh input t t_within t_says other d ∙ t_blocks other
 
     -- ---- the step ends, and the task asks as before
-    rested : (begun : Option ℕ) → IsLoopAfter (names_made (next_task s.loop.parts)) false (Some task) None None begun s.loop t.loop → HasSoundLoop t
+    suspended : (begun : Option ℕ) → IsLoopAfter (names_made (next_task s.loop.parts)) false (Some task) None None begun s.loop t.loop → HasSoundLoop t
         → ((id : ℕ) → is_running (Some task) (group_of s.loop id).parent ≡ false → is_running begun id ≡ false)
         → IsApart None (Some task) added t
-    rested begun a sound mine =
+    suspended begun a sound mine =
         loop_keeps added s t tapes (Some task) None (Some task) (Some task) a.parts made sound (λ other f. f) (over (Some task) a.parts)
         (stays_stood added s t tapes (Some task) None (Some task) (Some task) _ _ None None begun a (λ other id f e r. refl))
         (leaves_none added s t tapes (Some task) None (Some task) (Some task) _ _ None None begun a (λ id f. (refl, mine id f))) scripts half
 
-    pub rest_to : IsLoopAfter (names_made (next_task s.loop.parts)) false (Some task) None None None s.loop t.loop → HasSoundLoop t
+    pub suspended_to : IsLoopAfter (names_made (next_task s.loop.parts)) false (Some task) None None None s.loop t.loop → HasSoundLoop t
         → ((id : ℕ) → stood ≡ Leaving id → ⊥) → ((generator_of task s).tape ≡ [] → ⊥) → stands_at Asked asked ≡ true → IsStateSound added t
-    rest_to a sound still begun may =
+    suspended_to a sound still begun may =
         joined added t task
-        (with_open added None (Some task) t (rested None a sound (λ id f. refl))
+        (with_open added None (Some task) t (suspended None a sound (λ id f. refl))
         (open_kept _ _ (Some task) None s.loop t.loop (blocks_of s) (blocks_of t) a t_blocks (open_of added (Some task) (Some task) s is.others.blocks)))
-        (λ l. record { asked = asked; says = t_says; stands = ap (λ st. stands_at st asked) t_standing ∙ may })
+        (λ l. record { asked = asked; says = t_says; stands = ap (λ st. stands_at st asked) t_resume_point ∙ may })
         (λ e. begun (sym (ap (λ (gs : List Generator). (slice_index_or gs task (generator 0 [])).tape) tapes.generators) ∙ e))
-        (λ l. stands_asked t task t_standing)
+        (λ l. stands_asked t task t_resume_point)
         (λ id e mine. absurd (still id (is.exits id (left_before s t _ _ (Some task) None None None a id refl refl e) (mine ∙ (a.groups id).parent))))
 
     -- ---- the step ends, and the task stands at its request, with these streams
-    stood_from : (streams : Streams) (standing : Standing) (begun : Option ℕ)
+    stood_from : (streams : Streams) (resume_point : ResumePoint) (begun : Option ℕ)
         → IsLoopAfter (names_made (next_task s.loop.parts)) false (Some task) None None begun s.loop t.loop
-        → IsApart None (Some task) added (with_streams streams t) → ((generator_of task s).tape ≡ [] → ⊥) → stands_at standing asked ≡ true
-        → StandsRightly (stands standing task (with_streams streams t)) task
-        → ((id : ℕ) → IsLeft t id → task ≡ (group_of t.loop id).parent → standing ≡ Leaving id)
-        → IsStateSound added (stands standing task (with_streams streams t))
-    stood_from streams standing begun a apart begun_ may right left =
+        → IsApart None (Some task) added (with_streams streams t) → ((generator_of task s).tape ≡ [] → ⊥) → stands_at resume_point asked ≡ true
+        → StandsRightly (stands resume_point task (with_streams streams t)) task
+        → ((id : ℕ) → IsLeft t id → task ≡ (group_of t.loop id).parent → resume_point ≡ Leaving id)
+        → IsStateSound added (stands resume_point task (with_streams streams t))
+    stood_from streams resume_point begun a apart begun_ may right left =
         let v = with_streams streams t in
-        joined added (stands standing task v) task
-        (with_open added None (Some task) (stands standing task v) (stands_keeps added task standing v t_within None apart)
-        (open_kept _ _ (Some task) begun s.loop t.loop (blocks_of s) (blocks_of (stands standing task v)) a
-        (λ other. stood_blocks added task standing v t_within other ∙ t_blocks other) (open_of added (Some task) (Some task) s is.others.blocks)))
+        joined added (stands resume_point task v) task
+        (with_open added None (Some task) (stands resume_point task v) (stands_keeps added task resume_point v t_within None apart)
+        (open_kept _ _ (Some task) begun s.loop t.loop (blocks_of s) (blocks_of (stands resume_point task v)) a
+        (λ other. stood_blocks added task resume_point v t_within other ∙ t_blocks other) (open_of added (Some task) (Some task) s is.others.blocks)))
         (λ l. record {
           asked = asked;
-          says = stood_says added task standing v t_within ∙ t_says;
-          stands = ap (λ st. stands_at st asked) (stood_standing added task standing v t_within) ∙ may;
+          says = stood_says added task resume_point v t_within ∙ t_says;
+          stands = ap (λ st. stands_at st asked) (stood_resume_point added task resume_point v t_within) ∙ may;
         })
-        (λ e. begun_ (sym (stood_tape added task standing v t_within
+        (λ e. begun_ (sym (stood_tape added task resume_point v t_within
         ∙ ap (λ (gs : List Generator). (slice_index_or gs task (generator 0 [])).tape) tapes.generators) ∙ e))
         (λ l. right)
-        (λ id e m. stood_standing added task standing v t_within ∙ left id e m)
+        (λ id e m. stood_resume_point added task resume_point v t_within ∙ left id e m)
 
-    pub rest_stood : (standing : Standing) (begun : Option ℕ)
+    pub suspended_stood : (resume_point : ResumePoint) (begun : Option ℕ)
         → IsLoopAfter (names_made (next_task s.loop.parts)) false (Some task) None None begun s.loop t.loop → HasSoundLoop t
         → ((id : ℕ) → is_running (Some task) (group_of s.loop id).parent ≡ false → is_running begun id ≡ false)
-        → ((generator_of task s).tape ≡ [] → ⊥) → stands_at standing asked ≡ true → StandsRightly (stands standing task t) task
-        → ((id : ℕ) → IsLeft t id → task ≡ (group_of t.loop id).parent → standing ≡ Leaving id) → IsStateSound added (stands standing task t)
-    rest_stood standing begun a sound mine begun_ may right left =
-        stood_from t.streams standing begun a (rested begun a sound mine) begun_ may right left
+        → ((generator_of task s).tape ≡ [] → ⊥) → stands_at resume_point asked ≡ true → StandsRightly (stands resume_point task t) task
+        → ((id : ℕ) → IsLeft t id → task ≡ (group_of t.loop id).parent → resume_point ≡ Leaving id) → IsStateSound added (stands resume_point task t)
+    suspended_stood resume_point begun a sound mine begun_ may right left =
+        stood_from t.streams resume_point begun a (suspended begun a sound mine) begun_ may right left
 
-    pub rest_replaced : (streams : Streams) → Replaces t streams → (standing : Standing)
+    pub suspended_replaced : (streams : Streams) → Replaces t streams → (resume_point : ResumePoint)
         → IsLoopAfter (names_made (next_task s.loop.parts)) false (Some task) None None None s.loop t.loop → HasSoundLoop t
-        → ((generator_of task s).tape ≡ [] → ⊥) → stands_at standing asked ≡ true
-        → StandsRightly (stands standing task (with_streams streams t)) task
-        → ((id : ℕ) → IsLeft t id → task ≡ (group_of t.loop id).parent → standing ≡ Leaving id)
-        → IsStateSound added (stands standing task (with_streams streams t))
-    rest_replaced streams new standing a sound begun_ may right left =
-        let apart = rested None a sound (λ id f. refl) in
-        stood_from streams standing None a (over_replaced added None (Some task) t streams new apart apart.blocks) begun_ may right left
+        → ((generator_of task s).tape ≡ [] → ⊥) → stands_at resume_point asked ≡ true
+        → StandsRightly (stands resume_point task (with_streams streams t)) task
+        → ((id : ℕ) → IsLeft t id → task ≡ (group_of t.loop id).parent → resume_point ≡ Leaving id)
+        → IsStateSound added (stands resume_point task (with_streams streams t))
+    suspended_replaced streams new resume_point a sound begun_ may right left =
+        let apart = suspended None a sound (λ id f. refl) in
+        stood_from streams resume_point None a (over_replaced added None (Some task) t streams new apart apart.blocks) begun_ may right left

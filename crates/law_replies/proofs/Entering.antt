@@ -40,8 +40,8 @@ use Rattle.law_replies.proofs.Answering.{half, alive, within, left_before}
 use Rattle.law_replies.proofs.Blocks.{open_kept, timeout_made_open, group_entered_open, entered_new, entered_is, entered_old, groups_longer}
 use Rattle.law_replies.proofs.Counts.{and_first, count_unbegun, lives_before, lives_within}
 use Rattle.law_replies.proofs.Given.{asked_leaves, task_made, spawn_keeps, spawned_blocks, old_same}
-use Rattle.law_replies.proofs.Keeping.{IsApart, open_of, with_open, says_same, tapes_blocks, futures_kept, loop_keeps, standing_kept, resumed_blocks}
-use Rattle.law_replies.proofs.Keeping.{resumed_others, resumed_standing, resumed_begun, answer_keeps}
+use Rattle.law_replies.proofs.Keeping.{IsApart, open_of, with_open, says_same, tapes_blocks, futures_kept, loop_keeps, resume_point_kept, resumed_blocks}
+use Rattle.law_replies.proofs.Keeping.{resumed_others, resumed_resume_point, resumed_begun, answer_keeps}
 use Rattle.law_replies.proofs.Table.{same_tapes}
 use Rattle.law_replies.proofs.Tapes.{past_default}
 
@@ -105,8 +105,8 @@ module _ {S : Type 0} (added : Extra S) (task : ℕ) (s : State S) (asked : Requ
           (named (Send (Task (next_task s.loop.parts)))) (task_made (next_task l.parts) (next_task s.loop.parts) (omega (arith, more))) made_half)
           (open_kept _ _ (Some task) None s.loop l (blocks_of s) (blocks_of told) a (λ other. its_blocks other (cases_eq task other))
           (open_of added (Some task) (Some task) s is.others.blocks));
-      standing = resumed_standing added task asked false (Send (Task (next_task s.loop.parts))) with_it its_within its_says
-          (ap (λ (g : Generator). g.standing) its_same ∙ is.standing);
+      resume_point = resumed_resume_point added task asked false (Send (Task (next_task s.loop.parts))) with_it its_within its_says
+          (ap (λ (g : Generator). g.resume_point) its_same ∙ is.resume_point);
       begun = resumed_begun added task asked false (Send (Task (next_task s.loop.parts))) with_it its_within its_says;
       exits = λ id e mine. asked_leaves id (is.exits id
           (left_before s (record s { loop = l }) _ _ (Some task) None None None a id refl refl e) (mine ∙ (a.groups id).parent));
@@ -186,7 +186,7 @@ module _ {S : Type 0} (added : Extra S) (task : ℕ) (s : State S) (asked : Requ
     into_half =
         loop_keeps added s into (same_tapes s into.loop) (Some task) (Some task) (Some task) (Some task) scheduled.parts (scheduled.parts.same refl) h
         (λ other f. f) (over_in false into.loop scheduled.parts)
-        (λ other f l right. standing_kept added (record s { loop = make_timeout task s.loop }) into refl other refl _ _ (Some task) None None None scheduled
+        (λ other f l right. resume_point_kept added (record s { loop = make_timeout task s.loop }) into refl other refl _ _ (Some task) None None None scheduled
         refl (λ id e. refl)
         (record { sleeping = right.sleeping; leaving = right.leaving; leaving_now = right.leaving_now; opened = right.opened }))
         (λ id e f.
@@ -200,8 +200,8 @@ module _ {S : Type 0} (added : Extra S) (task : ℕ) (s : State S) (asked : Requ
           (ap (λ q. names_block q (Send (Timeout (length s.loop.timeouts)))) is_asked) refl into_half)
           (open_kept _ _ (Some task) None (make_timeout task s.loop) into.loop (blocks_of sent) (blocks_of sent) scheduled (λ other. refl)
           (timeout_made_open s.loop task (blocks_of s) (blocks_of sent) sent_others (open_of added (Some task) (Some task) s is.others.blocks) sent_blocks));
-      standing = resumed_standing added task asked false (Send (Timeout (length s.loop.timeouts))) into
-          (within added task Asked asked s is) into_says is.standing;
+      resume_point = resumed_resume_point added task asked false (Send (Timeout (length s.loop.timeouts))) into
+          (within added task Asked asked s is) into_says is.resume_point;
       begun = resumed_begun added task asked false (Send (Timeout (length s.loop.timeouts))) into (within added task Asked asked s is) into_says;
       exits = λ id e mine. asked_leaves id (is.exits id
           (left_before (record s { loop = make_timeout task s.loop }) into _ _ (Some task) None None None scheduled id refl refl e)
@@ -290,8 +290,8 @@ module _ {S : Type 0} (added : Extra S) (task : ℕ) (s : State S) (asked : Requ
           (ap (λ q. names_block q (Send (Group (length s.loop.groups)))) is_asked) refl inside_half)
           (group_entered_open s.loop task (blocks_of s) (blocks_of handed) handed_others
           (open_of added (Some task) (Some task) s is.others.blocks) handed_blocks);
-      standing = resumed_standing added task asked false (Send (Group (length s.loop.groups))) inside
-          (within added task Asked asked s is) inside_says is.standing;
+      resume_point = resumed_resume_point added task asked false (Send (Group (length s.loop.groups))) inside
+          (within added task Asked asked s is) inside_says is.resume_point;
       begun = resumed_begun added task asked false (Send (Group (length s.loop.groups))) inside (within added task Asked asked s is) inside_says;
       exits = λ id e mine. asked_leaves id (is.exits id (was_left id e) (mine ∙ ap (λ (g : GroupFields). g.parent) (old_left id e)));
     }

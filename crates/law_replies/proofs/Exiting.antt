@@ -16,12 +16,12 @@ use Rattle.model_loop.specs.Groups.{GroupExit, Waits, Passes, Raises as RaisedBy
 use Rattle.model_loop.specs.Loop.{Loop, book}
 use Rattle.model_loop.specs.Suspend.{suspend}
 use Rattle.model_loop.specs.Tasks.{lives, next_task}
-use Rattle.model_loop.specs.Timeouts.{exit_timeout, timeout_fault, timeout_of}
+use Rattle.model_loop.specs.Timeouts.{exit_timeout, timeout_exception, timeout_of}
 use Rattle.model_loop.specs.Ways.{is_running}
 use Rattle.model_machine.specs.Extra.{Extra}
 use Rattle.model_machine.specs.Replies.{exits_as, exits_timeout, timed_out_if, waits}
 use Rattle.model_machine.specs.Sound.{AreBlocksOf, IsLeft, IsOpenedAt, IsStateSound, StandsRightly, blocks_of, is_open, names_block, names_made, sends_made}
-use Rattle.model_machine.specs.State.{Standing, Asked, Sleeping, Leaving, State, generator_of, resumed, stands, with_loop}
+use Rattle.model_machine.specs.State.{ResumePoint, Asked, Sleeping, Leaving, State, generator_of, resumed, stands, with_loop}
 use Rattle.model_machine.specs.Step.{says_of}
 use Rattle.model_machine.specs.Told.{told_in}
 use Rattle.law_sound.proofs.Steps.{tags_of_sound}
@@ -32,16 +32,16 @@ use Rattle.law_turns.proofs.Exits.{ExitLeaves}
 use Rattle.law_turns.proofs.Loops.{loop_on, book_loop}
 use Rattle.law_turns.proofs.Requests.{suspend_after}
 use Rattle.law_replies.specs.InStep.{IsStepSound, IsAsked, RepliesInStep}
-use Rattle.law_replies.proofs.Answering.{half, within, left_before, rest_stood}
+use Rattle.law_replies.proofs.Answering.{half, within, left_before, suspended_stood}
 use Rattle.law_replies.proofs.Blocks.{AreOpenAt, timeout_left_open, group_left_open}
 use Rattle.law_replies.proofs.Counts.{and_first, and_second, and_both, not_true, not_false, lives_before}
 use Rattle.law_replies.proofs.Given.{asked_leaves}
 use Rattle.law_replies.proofs.Keeping.{open_of, with_open, says_same, tapes_blocks, futures_kept, loop_keeps, stays_stood, leaves_none, resumed_blocks}
-use Rattle.law_replies.proofs.Keeping.{resumed_others, resumed_standing, resumed_begun, answer_keeps, stood_standing}
+use Rattle.law_replies.proofs.Keeping.{resumed_others, resumed_resume_point, resumed_begun, answer_keeps, stood_resume_point}
 use Rattle.law_replies.proofs.Table.{same_tapes}
 
 -- ---- one block less
-module _ {S : Type 0} (added : Extra S) (task : ℕ) (stood : Standing) (asked : Request) (s : State S) (is : IsAsked added task stood asked s)
+module _ {S : Type 0} (added : Extra S) (task : ℕ) (stood : ResumePoint) (asked : Request) (s : State S) (is : IsAsked added task stood asked s)
     (fresh : Bool) (input : Input) (l : Loop) (block : Value) (outer : List Value) (mine : blocks_of s task ≡ block ∷ outer)
     (drops : (blocks : List Value) → open_with blocks asked input ≡ drop 1 blocks) where
   abbrev t : State S
@@ -70,7 +70,7 @@ module _ {S : Type 0} (added : Extra S) (task : ℕ) (stood : Standing) (asked :
   -- an answer that leaves this block
   pub left_to : (timeout group begun : Option ℕ) (a : IsLoopAfter (names_made (next_task s.loop.parts)) false (Some task) timeout group begun s.loop l)
       → RunsSound task t
-      → ((other id : ℕ) → is_running (Some task) other ≡ false → (generator_of other s).standing ≡ Leaving id → StandsRightly s other
+      → ((other id : ℕ) → is_running (Some task) other ≡ false → (generator_of other s).resume_point ≡ Leaving id → StandsRightly s other
       → is_running group id ≡ false)
       → ((id : ℕ) → is_running (Some task) (group_of s.loop id).parent ≡ false → (is_running group id ≡ false) × (is_running begun id ≡ false))
       → ((id : ℕ) → IsLeft t id → task ≡ (group_of l id).parent → ⊥) → AreOpenAt l (blocks_of u) → names_block asked input ≡ true
@@ -83,7 +83,7 @@ module _ {S : Type 0} (added : Extra S) (task : ℕ) (stood : Standing) (asked :
         over (stays_stood added s t (same_tapes s l) (Some task) (Some task) (Some task) (Some task) _ _ timeout group begun a free)
         (leaves_none added s t (same_tapes s l) (Some task) (Some task) (Some task) (Some task) _ _ timeout group begun a free')
         (futures_kept s t refl refl (λ id h. a.parts.plain id h) is.others.futures) (half added task stood asked s is))) opened;
-    standing = resumed_standing added task asked fresh input t (within added task stood asked s is) t_says is.standing;
+    resume_point = resumed_resume_point added task asked fresh input t (within added task stood asked s is) t_says is.resume_point;
     begun = resumed_begun added task asked fresh input t (within added task stood asked s is) t_says;
     exits = exits;
   }
@@ -135,21 +135,21 @@ module _ {S : Type 0} (added : Extra S) (task : ℕ) (s : State S) (raised : Opt
     where
       at : (b : Bool) → RepliesSound task (timed_out_if b (with_loop (exit_timeout raised id s.loop).loop s))
           → RepliesInStep added false task (timed_out_if b (with_loop (exit_timeout raised id s.loop).loop s))
-      at true h = left_by (Throw timeout_fault) refl h
+      at true h = left_by (Throw timeout_exception) refl h
       at false h = left_by (Send Nothing) refl h
 
 -- ---- a group, whose exit begins or goes on
 pub leaving_is : (a b : ℕ) → Leaving a ≡ Leaving b → a ≡ b
 leaving_is a b e = ap (λ st. group_in st) e
   where
-    group_in : Standing → ℕ
+    group_in : ResumePoint → ℕ
     group_in (Leaving id) = id
     group_in _ = a
 
 leaves_sleeps : (a b : ℕ) → Leaving a ≡ Sleeping b → ⊥
 leaves_sleeps a b e = absurd (cc)
 
-module _ {S : Type 0} (added : Extra S) (task : ℕ) (stood : Standing) (s : State S) (raised : Option Exc) (id : ℕ)
+module _ {S : Type 0} (added : Extra S) (task : ℕ) (stood : ResumePoint) (s : State S) (raised : Option Exc) (id : ℕ)
     (is : IsAsked added task stood (request.GroupExit (Group id) raised) s) (outer : List Value)
     (mine : blocks_of s task ≡ Group id ∷ outer) where
   its_block : AreBlocksOf s.loop task (Group id ∷ outer)
@@ -178,7 +178,7 @@ module _ {S : Type 0} (added : Extra S) (task : ℕ) (stood : Standing) (s : Sta
   its_own gid f = ne_eqb id gid
       (λ e. false≢true (sym f ∙ eq-eqb task (group_of s.loop gid).parent (sym (ap (λ k. (group_of s.loop k).parent) (sym e) ∙ group_its))))
 
-  others_stood : (other gid : ℕ) → is_running (Some task) other ≡ false → (generator_of other s).standing ≡ Leaving gid → StandsRightly s other
+  others_stood : (other gid : ℕ) → is_running (Some task) other ≡ false → (generator_of other s).resume_point ≡ Leaving gid → StandsRightly s other
       → is_running (Some id) gid ≡ false
   others_stood other gid f e right =
       ne_eqb id gid (λ same. false≢true (sym f ∙ eq-eqb task other (sym group_its ∙ ap (λ k. (group_of s.loop k).parent) same ∙ right.leaving gid e)))
@@ -219,7 +219,7 @@ module _ {S : Type 0} (added : Extra S) (task : ℕ) (stood : Standing) (s : Sta
         → IsLoopAfter (names_made (next_task s.loop.parts)) false (Some task) None None begun s.loop m
         → RepliesSound task (exits_as (Waits on) task id (with_loop m s)) → IsStateSound added (stands (Leaving id) task (waits task on (with_loop m s)))
     waited fresh on tape b h =
-        rest_stood added task stood (request.GroupExit (Group id) raised) s is (waits task on (with_loop m s)) (same_tapes s (book (suspend task on) m))
+        suspended_stood added task stood (request.GroupExit (Group id) raised) s is (waits task on (with_loop m s)) (same_tapes s (book (suspend task on) m))
         (futures_kept s (waits task on (with_loop m s)) refl refl (λ k x. c.parts.plain k x) is.others.futures) refl (c.parts.same refl)
         (Leaving id) begun c h not_begun tape (eq-eqb id id refl) right (λ gid e mine'. left gid e mine' (cases_eq id gid))
       where
@@ -229,8 +229,9 @@ module _ {S : Type 0} (added : Extra S) (task : ℕ) (stood : Standing) (s : Sta
             (book_loop (names_made (next_task s.loop.parts)) refl false (Some task) None None begun (suspend task on) m
             (suspend_after (names_made (next_task s.loop.parts)) false (Some task) task on m.parts)) b
 
-        stood_now : (generator_of task (stands (Leaving id) task (waits task on (with_loop m s)))).standing ≡ Leaving id
-        stood_now = stood_standing added task (Leaving id) (waits task on (with_loop m s)) (within added task stood (request.GroupExit (Group id) raised) s is)
+        stood_now : (generator_of task (stands (Leaving id) task (waits task on (with_loop m s)))).resume_point ≡ Leaving id
+        stood_now = stood_resume_point added task (Leaving id) (waits task on (with_loop m s))
+            (within added task stood (request.GroupExit (Group id) raised) s is)
 
         right : StandsRightly (stands (Leaving id) task (waits task on (with_loop m s))) task
         right = record {

@@ -31,7 +31,7 @@ use Rattle.law_says.proofs.Growing.{said_of_given}
 use Rattle.law_turns.specs.After.{IsLoopAfter}
 use Rattle.law_replies.specs.InStep.{SameTapes}
 use Rattle.law_replies.proofs.Counts.{and_first, and_second, and_both, lives_within, lives_before, unbegun_kept}
-use Rattle.law_replies.proofs.Keeping.{IsApart, asking_kept, standing_kept, streams_kept}
+use Rattle.law_replies.proofs.Keeping.{IsApart, asking_kept, resume_point_kept, streams_kept}
 use Rattle.law_replies.proofs.Tapes.{added_same, added_last, added_past, past_none, blocks_before, exchanges_before}
 
 -- ---- numbers of tasks
@@ -207,7 +207,7 @@ module _ {S : Type 0} (added : Extra S) (running : Option ℕ) (coroutine : ℕ)
     unbegun = λ other l f e. unbegun other f e (living other l);
     main_over = over;
     main_told = a.parts.main is.main_told;
-    standing = λ other l f. standing other f (living other l);
+    resume_point = λ other l f. resume_point other f (living other l);
     exits = λ id e f. left id e f;
     blocks = each (λ other g. list_all (λ exchange. names_block exchange.request exchange.answer)
         (exchanges_along t.program g.coroutine g.arguments g.tape) ≡ true)
@@ -235,7 +235,7 @@ module _ {S : Type 0} (added : Extra S) (running : Option ℕ) (coroutine : ℕ)
       asking other f (inr same) = subst (IsAsking added u) same (record {
         asked = request.Pause;
         says = unbegun_asks added (next_task s.loop.parts) coroutine arguments u new_is;
-        stands = ap (λ (g : Generator). stands_at g.standing request.Pause) new_is;
+        stands = ap (λ (g : Generator). stands_at g.resume_point request.Pause) new_is;
       })
 
       unbegun : (other : ℕ) → is_running running other ≡ false → (generator_of other u).tape ≡ []
@@ -245,36 +245,36 @@ module _ {S : Type 0} (added : Extra S) (running : Option ℕ) (coroutine : ℕ)
           (is.unbegun other h.1 f (sym (ap (λ (g : Generator). g.tape) (old_same other h.0)) ∙ e))
       unbegun other f e (inr same) = subst (IsUnbegun t.loop.parts) same first
 
-      standing : (other : ℕ) → is_running running other ≡ false
+      resume_point : (other : ℕ) → is_running running other ≡ false
           → ((other < next_task s.loop.parts) × (lives s.loop.parts other ≡ true)) ⊎ (next_task s.loop.parts ≡ other) → StandsRightly u other
-      standing other f (inl h) =
-          standing_kept added s u tapes.program other (old_same other h.0) _ _ running None None None a tapes.streams (λ id e. refl)
-          (is.standing other h.1 f)
-      standing other f (inr same) = subst (StandsRightly u) same (record {
+      resume_point other f (inl h) =
+          resume_point_kept added s u tapes.program other (old_same other h.0) _ _ running None None None a tapes.streams (λ id e. refl)
+          (is.resume_point other h.1 f)
+      resume_point other f (inr same) = subst (StandsRightly u) same (record {
         sleeping = λ tag e. absurd (never e);
         leaving = λ id e. absurd (never' e);
         leaving_now = λ id e. absurd (never' e);
-        opened = subst (IsOpenedAt u.streams) (sym (ap (λ (g : Generator). g.standing) new_is)) tt;
+        opened = subst (IsOpenedAt u.streams) (sym (ap (λ (g : Generator). g.resume_point) new_is)) tt;
       })
         where
-          never : {tag : ℕ} → (generator_of (next_task s.loop.parts) u).standing ≡ Sleeping tag → ⊥
-          never {tag} e = asked_sleeps tag (sym (ap (λ (g : Generator). g.standing) new_is) ∙ e)
+          never : {tag : ℕ} → (generator_of (next_task s.loop.parts) u).resume_point ≡ Sleeping tag → ⊥
+          never {tag} e = asked_sleeps tag (sym (ap (λ (g : Generator). g.resume_point) new_is) ∙ e)
 
-          never' : {id : ℕ} → (generator_of (next_task s.loop.parts) u).standing ≡ Leaving id → ⊥
-          never' {id} e = asked_leaves id (sym (ap (λ (g : Generator). g.standing) new_is) ∙ e)
+          never' : {id : ℕ} → (generator_of (next_task s.loop.parts) u).resume_point ≡ Leaving id → ⊥
+          never' {id} e = asked_leaves id (sym (ap (λ (g : Generator). g.resume_point) new_is) ∙ e)
 
       -- who stands anywhere is there
-      there : (other id : ℕ) → (generator_of other s).standing ≡ Leaving id → other < next_task s.loop.parts
+      there : (other id : ℕ) → (generator_of other s).resume_point ≡ Leaving id → other < next_task s.loop.parts
       there other id e = at (cases_lt other (next_task s.loop.parts))
         where
           at : (other < next_task s.loop.parts) ⊎ (next_task s.loop.parts ≤ other) → other < next_task s.loop.parts
           at (inl h) = h
           at (inr h) =
               let d = past_none other s (let c = is.generators in omega (arith, h, c)) in absurd (asked_leaves id (sym (ap (λ
-              (g : Generator). g.standing) d) ∙ e))
+              (g : Generator). g.resume_point) d) ∙ e))
 
       left : (id : ℕ) → IsLeft t id → is_running running (group_of t.loop id).parent ≡ false
-          → (generator_of (group_of t.loop id).parent u).standing ≡ Leaving id
+          → (generator_of (group_of t.loop id).parent u).resume_point ≡ Leaving id
       left id e f =
           let g = a.groups id in
           let was : IsLeft s id =
@@ -282,5 +282,5 @@ module _ {S : Type 0} (added : Extra S) (running : Option ℕ) (coroutine : ℕ)
           (sym (g.still refl) ∙ and_first (group_of t.loop id).exiting (not (group_of t.loop id).ended) e)
           (sym (ap not (g.ended refl)) ∙ and_second (group_of t.loop id).exiting (not (group_of t.loop id).ended) e) in
           let stood = is.exits id was (sym (ap (is_running running) g.parent) ∙ f) in
-          ap (λ k. (generator_of k u).standing) g.parent
-          ∙ ap (λ (x : Generator). x.standing) (old_same (group_of s.loop id).parent (there (group_of s.loop id).parent id stood)) ∙ stood
+          ap (λ k. (generator_of k u).resume_point) g.parent
+          ∙ ap (λ (x : Generator). x.resume_point) (old_same (group_of s.loop id).parent (there (group_of s.loop id).parent id stood)) ∙ stood

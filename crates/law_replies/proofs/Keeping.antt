@@ -22,7 +22,7 @@ use Rattle.model_machine.specs.Extra.{Extra}
 use Rattle.model_machine.specs.Sound.{AreBlocksOpen, AreScriptsFutures, AreStreamsFutures, IsAsking, IsLeft, IsOpenedAt, IsSoundBut}
 use Rattle.model_machine.specs.Sound.{IsSoundOver, IsStateSound, IsUnbegun}
 use Rattle.model_machine.specs.Sound.{StandsRightly, blocks_of, exchanges_of, names_block, names_made, sends_made, stands_at}
-use Rattle.model_machine.specs.State.{Standing, Asked, Leaving, Generator, State, generator, generator_of, resumed, stands}
+use Rattle.model_machine.specs.State.{ResumePoint, Asked, Leaving, Generator, State, generator, generator_of, resumed, stands}
 use Rattle.model_stream.specs.Kept.{StreamsKeep, times_kept}
 use Rattle.model_stream.specs.Streams.{Streams}
 use Rattle.law_cases.proofs.Composing.{streams_more}
@@ -51,7 +51,7 @@ module _ {S : Type 0} (added : Extra S) (running excused : Option ℕ) (s : Stat
     unbegun = is.unbegun;
     main_over = is.main_over;
     main_told = is.main_told;
-    standing = is.standing;
+    resume_point = is.resume_point;
     exits = is.exits;
     blocks = others;
     streams = is.streams;
@@ -73,7 +73,7 @@ module _ {S : Type 0} (added : Extra S) (s : State S) where
   -- the excused task asks and stands rightly too
   pub joined : (task : ℕ) → IsSoundBut None (Some task) added s → (lives s.loop.parts task ≡ true → IsAsking added s task)
       → ((generator_of task s).tape ≡ [] → ⊥) → (lives s.loop.parts task ≡ true → StandsRightly s task)
-      → ((id : ℕ) → IsLeft s id → task ≡ (group_of s.loop id).parent → (generator_of task s).standing ≡ Leaving id) → IsStateSound added s
+      → ((id : ℕ) → IsLeft s id → task ≡ (group_of s.loop id).parent → (generator_of task s).resume_point ≡ Leaving id) → IsStateSound added s
   joined task is asks begun stands_ left = record {
     loop = is.loop;
     generators = is.generators;
@@ -81,7 +81,7 @@ module _ {S : Type 0} (added : Extra S) (s : State S) where
     unbegun = λ other l f e. unbegun other l e (cases_eq task other);
     main_over = is.main_over;
     main_told = is.main_told;
-    standing = λ other l f. standing other l (cases_eq task other);
+    resume_point = λ other l f. resume_point other l (cases_eq task other);
     exits = λ id e f. exits id e (cases_eq task (group_of s.loop id).parent);
     blocks = is.blocks;
     streams = is.streams;
@@ -99,13 +99,13 @@ module _ {S : Type 0} (added : Extra S) (s : State S) where
       unbegun other l e (inl same) = absurd (subst (λ k. (generator_of k s).tape ≡ [] → ⊥) same begun e)
       unbegun other l e (inr n) = is.unbegun other l (ne_eqb task other n) e
 
-      standing : (other : ℕ) → lives s.loop.parts other ≡ true → (task ≡ other) ⊎ (task ≡ other → ⊥) → StandsRightly s other
-      standing other l (inl same) = subst (λ k. lives s.loop.parts k ≡ true → StandsRightly s k) same stands_ l
-      standing other l (inr n) = is.standing other l (ne_eqb task other n)
+      resume_point : (other : ℕ) → lives s.loop.parts other ≡ true → (task ≡ other) ⊎ (task ≡ other → ⊥) → StandsRightly s other
+      resume_point other l (inl same) = subst (λ k. lives s.loop.parts k ≡ true → StandsRightly s k) same stands_ l
+      resume_point other l (inr n) = is.resume_point other l (ne_eqb task other n)
 
       exits : (id : ℕ) → IsLeft s id → (task ≡ (group_of s.loop id).parent) ⊎ (task ≡ (group_of s.loop id).parent → ⊥)
-          → (generator_of (group_of s.loop id).parent s).standing ≡ Leaving id
-      exits id e (inl same) = subst (λ k. (generator_of k s).standing ≡ Leaving id) same (left id e same)
+          → (generator_of (group_of s.loop id).parent s).resume_point ≡ Leaving id
+      exits id e (inl same) = subst (λ k. (generator_of k s).resume_point ≡ Leaving id) same (left id e same)
       exits id e (inr n) = is.exits id e (ne_eqb task (group_of s.loop id).parent n)
 
 -- ---- what is said of one task
@@ -130,25 +130,25 @@ module _ {S : Type 0} (added : Extra S) (s t : State S) (program : t.program ≡
   asking_kept is = record {
     asked = is.asked;
     says = says_same ∙ is.says;
-    stands = ap (λ (g : Generator). stands_at g.standing is.asked) same ∙ is.stands;
+    stands = ap (λ (g : Generator). stands_at g.resume_point is.asked) same ∙ is.stands;
   }
 
-  pub standing_kept : (test : Value → Bool) (grown : Bool) (excused timeout group begun : Option ℕ)
+  pub resume_point_kept : (test : Value → Bool) (grown : Bool) (excused timeout group begun : Option ℕ)
       → IsLoopAfter test grown excused timeout group begun s.loop t.loop → t.streams ≡ s.streams
-      → ((id : ℕ) → (generator_of task s).standing ≡ Leaving id → is_running group id ≡ false) → StandsRightly s task → StandsRightly t task
-  standing_kept test grown excused timeout group begun a streams free is = record {
+      → ((id : ℕ) → (generator_of task s).resume_point ≡ Leaving id → is_running group id ≡ false) → StandsRightly s task → StandsRightly t task
+  resume_point_kept test grown excused timeout group begun a streams free is = record {
     sleeping = λ tag e. sleep_kept test grown excused s.loop.parts t.loop.parts a.parts task tag (is.sleeping tag (sym stands_same ∙ e));
     leaving = λ id e. (a.groups id).parent ∙ is.leaving id (sym stands_same ∙ e);
     leaving_now = λ id e.
         let now = is.leaving_now id (sym stands_same ∙ e) in
         and_both _ _ ((a.groups id).exiting (and_first _ _ now))
         (not_false _ ((a.groups id).ended (free id (sym stands_same ∙ e)) ∙ not_true _ (and_second _ _ now)));
-    opened = subst (λ (x : Streams). IsOpenedAt x (generator_of task t).standing) (sym streams)
+    opened = subst (λ (x : Streams). IsOpenedAt x (generator_of task t).resume_point) (sym streams)
         (subst (IsOpenedAt s.streams) (sym stands_same) is.opened);
   }
     where
-      stands_same : (generator_of task t).standing ≡ (generator_of task s).standing
-      stands_same = ap (λ (g : Generator). g.standing) same
+      stands_same : (generator_of task t).resume_point ≡ (generator_of task s).resume_point
+      stands_same = ap (λ (g : Generator). g.resume_point) same
 
 -- ---- what streams keep
 pub streams_kept : {S : Type 0} (s t : State S) → t.streams ≡ s.streams
@@ -202,10 +202,10 @@ module _ {S : Type 0} (added : Extra S) (s t : State S) (tapes : SameTapes s t) 
         (is.unbegun task (lived task l) (fewer task f) (sym (ap (λ (g : Generator). g.tape) (same_at task)) ∙ e));
     main_over = over;
     main_told = a.main is.main_told;
-    standing = λ task l f. stays task f (lived task l) (is.standing task (lived task l) (fewer task f));
+    resume_point = λ task l f. stays task f (lived task l) (is.resume_point task (lived task l) (fewer task f));
     exits = λ id e f.
         let x = leaves id e f in
-        ap (λ (g : Generator). g.standing) (same_at (group_of t.loop id).parent) ∙ ap (λ k. (generator_of k s).standing) x.1
+        ap (λ (g : Generator). g.resume_point) (same_at (group_of t.loop id).parent) ∙ ap (λ k. (generator_of k s).resume_point) x.1
         ∙ is.exits id x.0 (fewer (group_of s.loop id).parent (sym (ap (is_running excused) x.1) ∙ f));
     blocks = λ task. ap (list_all (λ exchange. names_block exchange.request exchange.answer))
         (exchanges_same added s t tapes.program task (same_at task)) ∙ is.blocks task;
@@ -226,10 +226,10 @@ module _ {S : Type 0} (added : Extra S) (s t : State S) (tapes : SameTapes s t) 
 
   -- where the loop's own frame says so
   module _ (test : Value → Bool) (grown : Bool) (timeout group begun : Option ℕ) (a : IsLoopAfter test grown excused timeout group begun s.loop t.loop) where
-    pub stays_stood : ((task id : ℕ) → is_running excused task ≡ false → (generator_of task s).standing ≡ Leaving id
+    pub stays_stood : ((task id : ℕ) → is_running excused task ≡ false → (generator_of task s).resume_point ≡ Leaving id
         → StandsRightly s task → is_running group id ≡ false) → StaysStood
     stays_stood free task f l right =
-        standing_kept added s t tapes.program task (same_at task) test grown excused timeout group begun a tapes.streams (λ id e. free task id f e right)
+        resume_point_kept added s t tapes.program task (same_at task) test grown excused timeout group begun a tapes.streams (λ id e. free task id f e right)
         right
 
     -- groups whose exits begin or end are the excused task's
@@ -274,8 +274,8 @@ module _ {S : Type 0} (added : Extra S) (task : ℕ) (asked : Request) (fresh : 
       ap (λ (g : Generator). exchanges_along t.program g.coroutine g.arguments g.tape) longer
       ∙ exchanges_grow t.program it.coroutine it.arguments it.tape asked entry says
 
-  pub resumed_standing : it.standing ≡ Asked → (generator_of task u).standing ≡ Asked
-  resumed_standing e = ap (λ (g : Generator). g.standing) longer ∙ e
+  pub resumed_resume_point : it.resume_point ≡ Asked → (generator_of task u).resume_point ≡ Asked
+  resumed_resume_point e = ap (λ (g : Generator). g.resume_point) longer ∙ e
 
   pub resumed_begun : (generator_of task u).tape ≡ [] → ⊥
   resumed_begun e = not_nil it.tape (sym (ap (λ (g : Generator). g.tape) longer) ∙ e)
@@ -295,8 +295,8 @@ module _ {S : Type 0} (added : Extra S) (task : ℕ) (asked : Request) (fresh : 
     unbegun = λ other l f e. is.unbegun other l f (sym (ap (λ (g : Generator). g.tape) (free_same other f)) ∙ e);
     main_over = is.main_over;
     main_told = is.main_told;
-    standing = λ other l f. stands_right other f (is.standing other l f);
-    exits = λ id e f. ap (λ (g : Generator). g.standing) (free_same (group_of t.loop id).parent f) ∙ is.exits id e f;
+    resume_point = λ other l f. stands_right other f (is.resume_point other l f);
+    exits = λ id e f. ap (λ (g : Generator). g.resume_point) (free_same (group_of t.loop id).parent f) ∙ is.exits id e f;
     blocks = λ other. entered other (cases_eq task other);
     futures = record { plain = is.futures.plain; once = is.futures.once; apart = is.futures.apart };
     made = record {
@@ -308,10 +308,10 @@ module _ {S : Type 0} (added : Extra S) (task : ℕ) (asked : Request) (fresh : 
     where
       stands_right : (other : ℕ) → is_running (Some task) other ≡ false → StandsRightly t other → StandsRightly u other
       stands_right other f is = record {
-        sleeping = λ tag e. is.sleeping tag (sym (ap (λ (g : Generator). g.standing) (free_same other f)) ∙ e);
-        leaving = λ id e. is.leaving id (sym (ap (λ (g : Generator). g.standing) (free_same other f)) ∙ e);
-        leaving_now = λ id e. is.leaving_now id (sym (ap (λ (g : Generator). g.standing) (free_same other f)) ∙ e);
-        opened = subst (IsOpenedAt t.streams) (sym (ap (λ (g : Generator). g.standing) (free_same other f))) is.opened;
+        sleeping = λ tag e. is.sleeping tag (sym (ap (λ (g : Generator). g.resume_point) (free_same other f)) ∙ e);
+        leaving = λ id e. is.leaving id (sym (ap (λ (g : Generator). g.resume_point) (free_same other f)) ∙ e);
+        leaving_now = λ id e. is.leaving_now id (sym (ap (λ (g : Generator). g.resume_point) (free_same other f)) ∙ e);
+        opened = subst (IsOpenedAt t.streams) (sym (ap (λ (g : Generator). g.resume_point) (free_same other f))) is.opened;
       }
 
       entered : (other : ℕ) → (task ≡ other) ⊎ (task ≡ other → ⊥)
@@ -344,18 +344,18 @@ module _ {S : Type 0} (added : Extra S) (task : ℕ) (asked : Request) (fresh : 
           ap (λ (g : Generator). list_all (λ (x : Resumed). sends_made (next_task t.loop.parts) x.input) g.tape) (others_same other n) ∙ is.made.tape other
 
 -- ---- what a task stands at
-module _ {S : Type 0} (added : Extra S) (task : ℕ) (standing : Standing) (t : State S) (within : task < length t.generators) where
+module _ {S : Type 0} (added : Extra S) (task : ℕ) (resume_point : ResumePoint) (t : State S) (within : task < length t.generators) where
   abbrev stood : State S
-  stood = stands standing task t
+  stood = stands resume_point task t
 
-  stands_longer : generator_of task stood ≡ record (generator_of task t) { standing = standing }
-  stands_longer = set_same task (record (generator_of task t) { standing = standing }) t within
+  stands_longer : generator_of task stood ≡ record (generator_of task t) { resume_point = resume_point }
+  stands_longer = set_same task (record (generator_of task t) { resume_point = resume_point }) t within
 
   stands_others : (other : ℕ) → (task ≡ other → ⊥) → generator_of other stood ≡ generator_of other t
-  stands_others other n = set_other task other (record (generator_of task t) { standing = standing }) t n
+  stands_others other n = set_other task other (record (generator_of task t) { resume_point = resume_point }) t n
 
-  pub stood_standing : (generator_of task stood).standing ≡ standing
-  stood_standing = ap (λ (g : Generator). g.standing) stands_longer
+  pub stood_resume_point : (generator_of task stood).resume_point ≡ resume_point
+  stood_resume_point = ap (λ (g : Generator). g.resume_point) stands_longer
 
   pub stood_tape : (generator_of task stood).tape ≡ (generator_of task t).tape
   stood_tape = ap (λ (g : Generator). g.tape) stands_longer
@@ -386,13 +386,13 @@ module _ {S : Type 0} (added : Extra S) (task : ℕ) (standing : Standing) (t : 
     loop = is.loop;
     streams = is.streams;
     kept_once = is.kept_once;
-    generators = set_length task (record (generator_of task t) { standing = standing }) t ∙ is.generators;
+    generators = set_length task (record (generator_of task t) { resume_point = resume_point }) t ∙ is.generators;
     asking = λ other l f. asking_kept added t stood refl other (free other f) (is.asking other l f);
     unbegun = λ other l f e. is.unbegun other l f (sym (ap (λ (g : Generator). g.tape) (free other f)) ∙ e);
     main_over = is.main_over;
     main_told = is.main_told;
-    standing = λ other l f. stands_right other f (is.standing other l f);
-    exits = λ id e f. ap (λ (g : Generator). g.standing) (free (group_of t.loop id).parent f) ∙ is.exits id e f;
+    resume_point = λ other l f. stands_right other f (is.resume_point other l f);
+    exits = λ id e f. ap (λ (g : Generator). g.resume_point) (free (group_of t.loop id).parent f) ∙ is.exits id e f;
     blocks = λ other. seen_same (λ c a tape. list_all (λ exchange. names_block exchange.request exchange.answer) (exchanges_along t.program c a tape)) other
         ∙ is.blocks other;
     futures = record { plain = is.futures.plain; once = is.futures.once; apart = is.futures.apart };
@@ -408,8 +408,8 @@ module _ {S : Type 0} (added : Extra S) (task : ℕ) (standing : Standing) (t : 
 
       stands_right : (other : ℕ) → is_running (Some task) other ≡ false → StandsRightly t other → StandsRightly stood other
       stands_right other f is = record {
-        sleeping = λ tag e. is.sleeping tag (sym (ap (λ (g : Generator). g.standing) (free other f)) ∙ e);
-        leaving = λ id e. is.leaving id (sym (ap (λ (g : Generator). g.standing) (free other f)) ∙ e);
-        leaving_now = λ id e. is.leaving_now id (sym (ap (λ (g : Generator). g.standing) (free other f)) ∙ e);
-        opened = subst (IsOpenedAt t.streams) (sym (ap (λ (g : Generator). g.standing) (free other f))) is.opened;
+        sleeping = λ tag e. is.sleeping tag (sym (ap (λ (g : Generator). g.resume_point) (free other f)) ∙ e);
+        leaving = λ id e. is.leaving id (sym (ap (λ (g : Generator). g.resume_point) (free other f)) ∙ e);
+        leaving_now = λ id e. is.leaving_now id (sym (ap (λ (g : Generator). g.resume_point) (free other f)) ∙ e);
+        opened = subst (IsOpenedAt t.streams) (sym (ap (λ (g : Generator). g.resume_point) (free other f))) is.opened;
       }

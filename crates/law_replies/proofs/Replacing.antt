@@ -10,7 +10,7 @@ use Rattle.model_loop.specs.Parts.{Parts}
 use Rattle.model_machine.specs.Extra.{Extra}
 use Rattle.model_machine.specs.Sound.{AreKeptOnce, AreScriptsFutures, AreStreamsFutures, IsOpenedAt, IsSoundBut}
 use Rattle.model_machine.specs.Sound.{IsSoundOver}
-use Rattle.model_machine.specs.State.{Standing, Asked, Sleeping, Leaving, Serving, Connecting, Yielding, Reading, ReadingAll, State, with_streams}
+use Rattle.model_machine.specs.State.{ResumePoint, Asked, Sleeping, Leaving, Serving, Connecting, Yielding, Reading, ReadingAll, State, with_streams}
 use Rattle.model_wire.specs.declared.event.Handed.TheVariants as to
 use Rattle.model_stream.specs.Kept.{times_kept}
 use Rattle.model_stream.specs.Requests.{OfConn, OfChild}
@@ -24,11 +24,11 @@ pub record Replaces {S : Type 0} (s : State S) (streams : Streams) : Type 0 wher
   pub kept : AreStreamsFutures (with_streams streams s)
   pub once : AreKeptOnce (with_streams streams s)
   pub apart : (place id : ℕ) → slice_get s.futures place ≡ Some id → times_kept id streams ≡ 0
-  pub opened : (standing : Standing) → IsOpenedAt s.streams standing → IsOpenedAt streams standing
+  pub opened : (resume_point : ResumePoint) → IsOpenedAt s.streams resume_point → IsOpenedAt streams resume_point
 
 -- what was opened is there still
-pub opened_on : (x y : Streams) → length x.connections ≤ length y.connections → length x.children ≤ length y.children → (standing : Standing)
-    → IsOpenedAt x standing → IsOpenedAt y standing
+pub opened_on : (x y : Streams) → length x.connections ≤ length y.connections → length x.children ≤ length y.children → (resume_point : ResumePoint)
+    → IsOpenedAt x resume_point → IsOpenedAt y resume_point
 opened_on x y connections children Asked h = tt
 opened_on x y connections children (Sleeping tag) h = tt
 opened_on x y connections children (Leaving group) h = tt
@@ -54,7 +54,7 @@ replaces s u streams next kept once scripts times connections children futures s
   kept = after;
   once = λ future. counted future (cases_lt future (next_future s.loop.parts));
   apart = λ place id e. none place id (sym (ap (λ l. slice_get l place) futures) ∙ e) (cases_lt id (next_future s.loop.parts));
-  opened = λ standing h. opened_on s.streams streams connections children standing (subst (λ (x : Streams). IsOpenedAt x standing) same h);
+  opened = λ resume_point h. opened_on s.streams streams connections children resume_point (subst (λ (x : Streams). IsOpenedAt x resume_point) same h);
 }
   where
     counted : (future : ℕ) → (future < next_future s.loop.parts) ⊎ (next_future s.loop.parts ≤ future) → times_kept future streams ≤ 1
@@ -88,8 +88,8 @@ over_replaced added running excused s streams new is others = record {
   unbegun = is.unbegun;
   main_over = is.main_over;
   main_told = is.main_told;
-  standing = λ task l f.
-      let a = is.standing task l f in
+  resume_point = λ task l f.
+      let a = is.resume_point task l f in
       record { sleeping = a.sleeping; leaving = a.leaving; leaving_now = a.leaving_now; opened = new.opened _ a.opened };
   exits = is.exits;
   blocks = others;
@@ -109,16 +109,16 @@ pub step_replaced : {S : Type 0} (added : Extra S) (task : ℕ) (s : State S) (s
     → IsStepSound added task s → IsStepSound added task (with_streams streams s)
 step_replaced added task s streams new is = record {
   others = streams_replaced added (Some task) (Some task) s streams new is.others;
-  standing = is.standing;
+  resume_point = is.resume_point;
   begun = is.begun;
   exits = is.exits;
 }
 
-pub asked_replaced : {S : Type 0} (added : Extra S) (task : ℕ) (stood : Standing) (asked : Request) (s : State S) (streams : Streams)
+pub asked_replaced : {S : Type 0} (added : Extra S) (task : ℕ) (stood : ResumePoint) (asked : Request) (s : State S) (streams : Streams)
     → Replaces s streams → IsAsked added task stood asked s → IsAsked added task stood asked (with_streams streams s)
 asked_replaced added task stood asked s streams new is = record {
   others = streams_replaced added (Some task) (Some task) s streams new is.others;
-  standing = is.standing;
+  resume_point = is.resume_point;
   says = is.says;
   exits = is.exits;
 }

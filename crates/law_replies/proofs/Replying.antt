@@ -85,7 +85,7 @@ module _ {S : Type 0} (added : Extra S) (task : ℕ) (s : State S) (step : IsSte
   pub asked_is : (asked : Request) → says_of step_limit added task s ≡ Asks asked → IsAsked added task Asked asked s
   asked_is asked says = record {
     others = step.others;
-    standing = step.standing;
+    resume_point = step.resume_point;
     says = says;
     exits = λ id e mine. absurd (step.exits id e mine);
   }
@@ -147,8 +147,8 @@ module _ {S : Type 0} (added : Extra S) (task : ℕ) (s : State S) (step : IsSte
       unbegun = step.others.unbegun;
       main_over = step.others.main_over;
       main_told = step.others.main_told;
-      standing = λ k l f.
-          let a = step.others.standing k l f in
+      resume_point = λ k l f.
+          let a = step.others.resume_point k l f in
           record { sleeping = a.sleeping; leaving = a.leaving; leaving_now = a.leaving_now; opened = a.opened };
       exits = step.others.exits;
       streams = step.others.streams;
@@ -166,7 +166,7 @@ module _ {S : Type 0} (added : Extra S) (task : ℕ) (s : State S) (step : IsSte
         outcomes = step.others.made.outcomes;
       };
     };
-    standing = step.standing;
+    resume_point = step.resume_point;
     begun = step.begun;
     exits = step.exits;
   }

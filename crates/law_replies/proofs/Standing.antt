@@ -9,7 +9,7 @@ use Rattle.model_loop.specs.Owning.{is_plain}
 use Rattle.model_stream.specs.Requests.{StreamReader, give_up_read}
 use Rattle.model_machine.specs.Extra.{Extra}
 use Rattle.model_machine.specs.Sound.{AreKeptOnce, AreScriptsFutures, AreStreamsFutures, IsOpenedAt, stands_at}
-use Rattle.model_machine.specs.State.{Standing, Asked, Sleeping, Leaving, Serving, Connecting, Yielding, Reading, ReadingAll, State, generator_of}
+use Rattle.model_machine.specs.State.{ResumePoint, Asked, Sleeping, Leaving, Serving, Connecting, Yielding, Reading, ReadingAll, State, generator_of}
 use Rattle.law_cases.specs.Closed.{is_to_streams, stands_at_streams}
 use Rattle.law_cases.proofs.Asking.{gives_up, gives_up_own}
 use Rattle.law_cases.proofs.Replying.{woken_at}
@@ -17,7 +17,8 @@ use Rattle.law_replies.specs.InStep.{IsAsked}
 use Rattle.law_replies.proofs.Replacing.{Replaces, asked_replaced, opened_on, replaces}
 
 -- it asks for that
-pub streams_to : (standing : Standing) (asked : Request) → stands_at_streams standing ≡ true → stands_at standing asked ≡ true → is_to_streams asked ≡ true
+pub streams_to : (resume_point : ResumePoint) (asked : Request) → stands_at_streams resume_point ≡ true → stands_at resume_point asked ≡ true
+    → is_to_streams asked ≡ true
 streams_to (Connecting conn) (request.Connect port) is may = refl
 streams_to (Connecting conn) _ is may = absurd (false≢true may)
 streams_to (Yielding whom) (request.Drain stream) is may = refl
@@ -34,10 +35,10 @@ streams_to (Sleeping tag) asked is may = absurd (false≢true is)
 streams_to (Leaving group) asked is may = absurd (false≢true is)
 streams_to (Serving key) asked is may = absurd (false≢true is)
 
-pub not_pause_at : (standing : Standing) (asked : Request) → stands_at_streams standing ≡ true → stands_at standing asked ≡ true
+pub not_pause_at : (resume_point : ResumePoint) (asked : Request) → stands_at_streams resume_point ≡ true → stands_at resume_point asked ≡ true
     → Asks request.Pause ≡ Asks asked → ⊥
-not_pause_at standing asked is may e =
-    at asked (streams_to standing asked is may) e
+not_pause_at resume_point asked is may e =
+    at asked (streams_to resume_point asked is may) e
   where
     at : (asked : Request) → is_to_streams asked ≡ true → Asks request.Pause ≡ Asks asked → ⊥
     at request.Pause to e = false≢true to
@@ -52,8 +53,8 @@ given_up s on from kept once scripts =
     replaces s s (give_up_read on from s.streams) first kept once scripts it.times it.connections it.children refl refl
     (gives_up_own (is_plain s.loop.parts) on from s.streams kept)
 
-pub woken_opened : {S : Type 0} (s : State S) (standing : Standing) → AreStreamsFutures s → IsOpenedAt s.streams standing
-    → IsOpenedAt (woken_at standing s).streams standing
+pub woken_opened : {S : Type 0} (s : State S) (resume_point : ResumePoint) → AreStreamsFutures s → IsOpenedAt s.streams resume_point
+    → IsOpenedAt (woken_at resume_point s).streams resume_point
 woken_opened s Asked kept h = h
 woken_opened s (Sleeping tag) kept h = h
 woken_opened s (Leaving group) kept h = h
@@ -67,8 +68,8 @@ woken_opened s (ReadingAll from taken on) kept h =
     let it = gives_up (is_plain s.loop.parts) 0 on from s.streams kept in
     opened_on s.streams (give_up_read on from s.streams) it.connections it.children (ReadingAll from taken on) h
 
-pub woken_asked : {S : Type 0} {added : Extra S} {task : ℕ} {stood : Standing} {asked : Request} {s : State S} (standing : Standing)
-    → IsAsked added task stood asked s → IsAsked added task stood asked (woken_at standing s)
+pub woken_asked : {S : Type 0} {added : Extra S} {task : ℕ} {stood : ResumePoint} {asked : Request} {s : State S} (resume_point : ResumePoint)
+    → IsAsked added task stood asked s → IsAsked added task stood asked (woken_at resume_point s)
 woken_asked Asked is = is
 woken_asked (Sleeping tag) is = is
 woken_asked (Leaving group) is = is
@@ -80,8 +81,8 @@ woken_asked {added = added} {task = task} {stood = stood} {asked = asked} {s = s
 woken_asked {added = added} {task = task} {stood = stood} {asked = asked} {s = s} (ReadingAll from taken on) is =
     asked_replaced added task stood asked s (give_up_read on from s.streams) (given_up s on from is.others.streams is.others.kept_once is.others.futures) is
 
-pub woken_tape : {S : Type 0} (task : ℕ) (s : State S) (standing : Standing) → ((generator_of task s).tape ≡ [] → ⊥)
-    → (generator_of task (woken_at standing s)).tape ≡ [] → ⊥
+pub woken_tape : {S : Type 0} (task : ℕ) (s : State S) (resume_point : ResumePoint) → ((generator_of task s).tape ≡ [] → ⊥)
+    → (generator_of task (woken_at resume_point s)).tape ≡ [] → ⊥
 woken_tape task s Asked n = n
 woken_tape task s (Sleeping tag) n = n
 woken_tape task s (Leaving group) n = n

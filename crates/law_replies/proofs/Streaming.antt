@@ -23,12 +23,13 @@ use Rattle.model_machine.specs.Outcomes.{input_of}
 use Rattle.model_machine.specs.Replies.{RequestReply, replied, reply, waits}
 use Rattle.model_machine.specs.Sound.{AreKeptOnce, AreScriptsFutures, AreStreamsFutures, IsOpenedAt, IsStateSound, StandsRightly, names_block}
 use Rattle.model_machine.specs.Sound.{names_made, sends_made, stands_at}
-use Rattle.model_machine.specs.State.{Standing, Asked, Sleeping, Leaving, Serving, Connecting, Yielding}
+use Rattle.model_machine.specs.State.{ResumePoint, Asked, Sleeping, Leaving, Serving, Connecting, Yielding}
 use Rattle.model_machine.specs.State.{Reading, ReadingAll, State, generator_of, resumed, stands}
 use Rattle.model_machine.specs.State.{unbooked_in, with_streams}
 use Rattle.model_machine.specs.Step.{says_of}
-use Rattle.law_changes.specs.Changes.{PartsChange, CallsSoon, CallsLater, Revokes, MakesFuture, Settles, Registers, KeepsAsked, MakesTask, WaitsFor, Marks}
-use Rattle.law_changes.specs.Changes.{Unmarks, Counts, Uncounts, Passes, FallsDue, LeavesPending}
+use Rattle.law_changes.specs.Changes.{PartsChange, CallsSoon, CallsLater, Revokes, MakesFuture, Settles, Registers, KeepsAsked, MakesTask, WaitsFor}
+use Rattle.law_changes.specs.Changes.{SetsMustCancel}
+use Rattle.law_changes.specs.Changes.{ClearsMustCancel, Counts, Uncounts, Passes, FallsDue, LeavesPending}
 use Rattle.law_changes.proofs.Folds.{widen}
 use Rattle.law_cases.specs.Trees.{is_of_streams, names_nobody}
 use Rattle.law_cases.proofs.Composing.{streams_more}
@@ -46,9 +47,9 @@ use Rattle.law_turns.specs.SoundState.{HasSoundLoop}
 use Rattle.law_turns.proofs.Streaming.{end_sound, streams_sound}
 use Rattle.law_replies.specs.InStep.{IsAsked, IsStepSound, RepliesInStep, SameTapes}
 use Rattle.law_replies.proofs.Given.{asked_leaves, ended_made}
-use Rattle.law_replies.proofs.Keeping.{futures_kept, stood_standing}
+use Rattle.law_replies.proofs.Keeping.{futures_kept, stood_resume_point}
 use Rattle.law_replies.proofs.Replacing.{Replaces, replaces, step_replaced, streams_replaced}
-use Rattle.law_replies.proofs.Answering.{half, left_before, rest_replaced, rest_to, step_to, within}
+use Rattle.law_replies.proofs.Answering.{half, left_before, suspended_replaced, suspended_to, step_to, within}
 
 -- ---- what a tree leaves of the rest
 streams_no_main : (it : Action) → is_of_streams it ≡ true → is_main_done it ≡ false
@@ -73,8 +74,8 @@ tree_leaves n grown (Registers future it) p may = absurd may
 tree_leaves n grown (KeepsAsked future) p may = absurd may
 tree_leaves n grown MakesTask p may = absurd may
 tree_leaves n grown (WaitsFor task on) p may = absurd may
-tree_leaves n grown (Marks task) p may = absurd may
-tree_leaves n grown (Unmarks task) p may = absurd may
+tree_leaves n grown (SetsMustCancel task) p may = absurd may
+tree_leaves n grown (ClearsMustCancel task) p may = absurd may
 tree_leaves n grown (Counts task) p may = absurd may
 tree_leaves n grown (Uncounts task) p may = absurd may
 tree_leaves n grown (Passes now) p may = absurd may
@@ -112,7 +113,7 @@ streams_named (request.TimeoutEnter delay) is input = absurd (false≢true is)
 streams_named request.GroupEnter is input = absurd (false≢true is)
 streams_named _ is input = refl
 
-streams_sleep : (standing : Standing) → stands_at_streams standing ≡ true → (tag : ℕ) → standing ≡ Sleeping tag → ⊥
+streams_sleep : (resume_point : ResumePoint) → stands_at_streams resume_point ≡ true → (tag : ℕ) → resume_point ≡ Sleeping tag → ⊥
 streams_sleep (Connecting conn) is tag e = absurd cc
 streams_sleep (Yielding whom) is tag e = absurd cc
 streams_sleep (Reading from op on) is tag e = absurd cc
@@ -122,7 +123,7 @@ streams_sleep (Sleeping other) is tag e = absurd (false≢true is)
 streams_sleep (Leaving group) is tag e = absurd (false≢true is)
 streams_sleep (Serving key) is tag e = absurd (false≢true is)
 
-pub streams_leave : (standing : Standing) → stands_at_streams standing ≡ true → (id : ℕ) → standing ≡ Leaving id → ⊥
+pub streams_leave : (resume_point : ResumePoint) → stands_at_streams resume_point ≡ true → (id : ℕ) → resume_point ≡ Leaving id → ⊥
 streams_leave (Connecting conn) is id e = absurd cc
 streams_leave (Yielding whom) is id e = absurd cc
 streams_leave (Reading from op on) is id e = absurd cc
@@ -133,7 +134,7 @@ streams_leave (Leaving group) is id e = absurd (false≢true is)
 streams_leave (Serving key) is id e = absurd (false≢true is)
 
 -- ---- each case, in a step and as one begins
-module _ {S : Type 0} (added : Extra S) (task : ℕ) (stood : Standing) (asked : Request) (s : State S) (is : IsAsked added task stood asked s)
+module _ {S : Type 0} (added : Extra S) (task : ℕ) (stood : ResumePoint) (asked : Request) (s : State S) (is : IsAsked added task stood asked s)
     (free : (id : ℕ) → stood ≡ Leaving id → ⊥) (begun : (generator_of task s).tape ≡ [] → ⊥) (to_streams : is_to_streams asked ≡ true) (fresh : Bool)
     (was : IsOpenedAt s.streams stood) where
   abbrev test : Value → Bool
@@ -186,26 +187,27 @@ module _ {S : Type 0} (added : Extra S) (task : ℕ) (stood : Standing) (asked :
     new : Replaces u streams
     new = replaced t u streams it (futures ∙ it.ended.futures) (tapes.streams ∙ it.ended.streams) (λ future h. b.parts.plain future h)
 
-    rests_asked : stands_at Asked asked ≡ true → IsStateSound added (with_streams streams u)
-    rests_asked may =
+    suspends_asked : stands_at Asked asked ≡ true → IsStateSound added (with_streams streams u)
+    suspends_asked may =
         streams_replaced added None None u streams new
-        (rest_to added task stood asked s is u all_tapes scripts (main ∙ it.ended.main_done) (a.parts.same refl) a sound free begun may)
+        (suspended_to added task stood asked s is u all_tapes scripts (main ∙ it.ended.main_done) (a.parts.same refl) a sound free begun may)
 
-    rests_stood : (standing : Standing) → stands_at_streams standing ≡ true → stands_at standing asked ≡ true → IsOpenedAt streams standing
-        → IsStateSound added (with_streams streams (stands standing task u))
-    rests_stood standing at may opened =
-        rest_replaced added task stood asked s is u all_tapes scripts (main ∙ it.ended.main_done) (a.parts.same refl) streams new standing a sound
+    suspends_stood : (resume_point : ResumePoint) → stands_at_streams resume_point ≡ true → stands_at resume_point asked ≡ true
+        → IsOpenedAt streams resume_point
+        → IsStateSound added (with_streams streams (stands resume_point task u))
+    suspends_stood resume_point at may opened =
+        suspended_replaced added task stood asked s is u all_tapes scripts (main ∙ it.ended.main_done) (a.parts.same refl) streams new resume_point a sound
         begun may rightly
         (λ id e mine. absurd (free id (is.exits id (left_before s u _ _ (Some task) None None None a id refl refl e) (mine ∙ (a.groups id).parent))))
       where
-        stood_at : (generator_of task (stands standing task u)).standing ≡ standing
-        stood_at = stood_standing added task standing u (subst (λ gs. task < length gs) (sym all_tapes.generators) (within added task stood asked s is))
+        stood_at : (generator_of task (stands resume_point task u)).resume_point ≡ resume_point
+        stood_at = stood_resume_point added task resume_point u (subst (λ gs. task < length gs) (sym all_tapes.generators) (within added task stood asked s is))
 
-        rightly : StandsRightly (stands standing task (with_streams streams u)) task
+        rightly : StandsRightly (stands resume_point task (with_streams streams u)) task
         rightly = record {
-          sleeping = λ tag e. absurd (streams_sleep standing at tag (sym stood_at ∙ e));
-          leaving = λ id e. absurd (streams_leave standing at id (sym stood_at ∙ e));
-          leaving_now = λ id e. absurd (streams_leave standing at id (sym stood_at ∙ e));
+          sleeping = λ tag e. absurd (streams_sleep resume_point at tag (sym stood_at ∙ e));
+          leaving = λ id e. absurd (streams_leave resume_point at id (sym stood_at ∙ e));
+          leaving_now = λ id e. absurd (streams_leave resume_point at id (sym stood_at ∙ e));
           opened = subst (IsOpenedAt streams) (sym stood_at) opened;
         }
 
@@ -220,18 +222,18 @@ module _ {S : Type 0} (added : Extra S) (task : ℕ) (stood : Standing) (asked :
       replied_here (input_of outcome) (ended_made added (Some task) (Some task) s (half added task stood asked s is) on outcome e)
   streams_in it h (awaits on here may) =
       let a = suspended s on in
-      rest_to added task stood asked s is (waits task on s) (record { program = refl; generators = refl; streams = refl })
+      suspended_to added task stood asked s is (waits task on s) (record { program = refl; generators = refl; streams = refl })
       (futures_kept s (waits task on s) refl refl (λ id k. a.parts.plain id k) is.others.futures) refl (a.parts.same refl) a h free begun may
   streams_in it h (halts how last end) = tt
   streams_in it h (answers t streams value end none) = answered_after t streams end (Send value) (none (next_task s.loop.parts))
   streams_in it h (raises t streams fault end) = answered_after t streams end (Throw fault) refl
   streams_in it h (waits_on t streams on end here may) =
-      rests_asked t (waits task on t) streams end (record { program = refl; generators = refl; streams = refl }) refl refl (suspended t on) h may
-  streams_in it h (stands_on t streams standing on end here at may opened) =
-      rests_stood t (waits task on t) streams end (record { program = refl; generators = refl; streams = refl }) refl refl (suspended t on) h
-      standing at may (opened was)
+      suspends_asked t (waits task on t) streams end (record { program = refl; generators = refl; streams = refl }) refl refl (suspended t on) h may
+  streams_in it h (stands_on t streams resume_point on end here at may opened) =
+      suspends_stood t (waits task on t) streams end (record { program = refl; generators = refl; streams = refl }) refl refl (suspended t on) h
+      resume_point at may (opened was)
   streams_in it h (yields t streams whom end may opened) =
-      rests_stood t (unbooked_in (pause task) t) streams end (record { program = refl; generators = refl; streams = refl }) refl refl
+      suspends_stood t (unbooked_in (pause task) t) streams end (record { program = refl; generators = refl; streams = refl }) refl refl
       (parts_loop test refl false (Some task) None None None t.loop (pause task t.loop.parts)
       (soon_after test false (Some task) (action.Step task) t.loop.parts refl)) h (Yielding whom) refl may (opened was)
 
@@ -241,6 +243,6 @@ pub streams_reply_in : {S : Type 0} (added : Extra S) (task : ℕ) (s : State S)
 streams_reply_in added task s step asked says to_streams =
     let cases = streams_reply added task s step.others.streams asked to_streams in
     streams_in added task Asked asked s
-    (record { others = step.others; standing = step.standing; says = says; exits = λ id e mine. absurd (step.exits id e mine) })
+    (record { others = step.others; resume_point = step.resume_point; says = says; exits = λ id e mine. absurd (step.exits id e mine) })
     (λ id e. asked_leaves id e) step.begun to_streams false tt (reply added task asked s)
     (streams_sound task Asked s asked (reply added task asked s) cases step.others.loop) cases

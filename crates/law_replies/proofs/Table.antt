@@ -19,12 +19,12 @@ use Rattle.model_loop.specs.Suspend.{suspend}
 use Rattle.model_loop.specs.Tasks.{cancelling, next_task, pause, uncancel}
 use Rattle.model_machine.specs.Extra.{Extra}
 use Rattle.model_machine.specs.Outcomes.{input_of}
-use Rattle.model_machine.specs.Replies.{Answers, Rests, alarmed, counted, ended, makes_future, pauses, replied, requests, sleeps_for, waits}
+use Rattle.model_machine.specs.Replies.{Answers, Suspends, alarmed, counted, ended, makes_future, pauses, replied, requests, sleeps_for, waits}
 use Rattle.model_stream.specs.Kept.{times_kept}
 use Rattle.law_cases.proofs.Fits.{kept_nowhere}
 use Rattle.model_loop.specs.Owning.{is_plain}
 use Rattle.model_machine.specs.Sound.{AreScriptsFutures, IsOpenedAt, NamesItsSleep, StandsRightly, names_block, names_made, sends_made, stands_at}
-use Rattle.model_machine.specs.State.{Standing, Asked, Sleeping, Leaving, State, generator_of, in_loop, resumed, stands, unbooked_in}
+use Rattle.model_machine.specs.State.{ResumePoint, Asked, Sleeping, Leaving, State, generator_of, in_loop, resumed, stands, unbooked_in}
 use Rattle.law_cancel.proofs.Lookups.{get-push_last, get-push_other, get_within}
 use Rattle.law_groups.proofs.Entries.{entries-given, entries-later, of_tag}
 use Rattle.law_turns.specs.Replied.{RunsSound, RepliesSound}
@@ -34,16 +34,16 @@ use Rattle.law_turns.proofs.Made.{make_after}
 use Rattle.law_turns.proofs.Requests.{cancel_after, suspend_after}
 use Rattle.law_turns.proofs.Loops.{refl_loop, loop_on, parts_loop, book_loop}
 use Rattle.law_replies.specs.InStep.{IsStepSound, IsAsked, RepliesInStep, SameTapes}
-use Rattle.law_replies.proofs.Answering.{half, left_before, within, step_to, rest_to, rest_stood}
+use Rattle.law_replies.proofs.Answering.{half, left_before, within, step_to, suspended_to, suspended_stood}
 use Rattle.law_replies.proofs.Counts.{none_sleep, no_sleep_of, sleep_kept}
 use Rattle.law_replies.proofs.Given.{ended_made, asked_leaves}
-use Rattle.law_replies.proofs.Keeping.{futures_kept, stood_standing}
+use Rattle.law_replies.proofs.Keeping.{futures_kept, stood_resume_point}
 use Rattle.law_replies.proofs.Replacing.{unmade}
 
 sleeping_is : (a b : ℕ) → Sleeping a ≡ Sleeping b → a ≡ b
 sleeping_is a b e = ap (λ st. tag_in st) e
   where
-    tag_in : Standing → ℕ
+    tag_in : ResumePoint → ℕ
     tag_in (Sleeping tag) = tag
     tag_in _ = a
 
@@ -118,8 +118,8 @@ module _ {S : Type 0} (added : Extra S) (task : ℕ) (s : State S) (asked : Requ
     opened = subst (IsOpenedAt s.streams) (sym stood) tt;
   }
     where
-      stood : (generator_of task (stands (Sleeping s.loop.parts.next_tag) task (slept delay))).standing ≡ Sleeping s.loop.parts.next_tag
-      stood = stood_standing added task (Sleeping s.loop.parts.next_tag) (slept delay) (within added task Asked asked s is)
+      stood : (generator_of task (stands (Sleeping s.loop.parts.next_tag) task (slept delay))).resume_point ≡ Sleeping s.loop.parts.next_tag
+      stood = stood_resume_point added task (Sleeping s.loop.parts.next_tag) (slept delay) (within added task Asked asked s is)
 
   -- ---- a future of the script's
   abbrev made_state : State S
@@ -215,15 +215,15 @@ module _ {S : Type 0} (added : Extra S) (task : ℕ) (s : State S) (asked : Requ
       pauses_in may h =
           let a = in_these (pause task s.loop.parts)
           (soon_after (names_made (next_task s.loop.parts)) false (Some task) (Step task) s.loop.parts refl) in
-          rest_to added task Asked asked s is (unbooked_in (pause task) s) (same_tapes s (in_parts (pause task) s.loop))
+          suspended_to added task Asked asked s is (unbooked_in (pause task) s) (same_tapes s (in_parts (pause task) s.loop))
           (scripts (in_parts (pause task) s.loop) a) refl refl a h asked_leaves begun may
 
-      pub waits_in : stands_at Asked asked ≡ true → (on : ℕ) → RepliesSound task (Rests (waits task on s))
-          → RepliesInStep added false task (Rests (waits task on s))
+      pub waits_in : stands_at Asked asked ≡ true → (on : ℕ) → RepliesSound task (Suspends (waits task on s))
+          → RepliesInStep added false task (Suspends (waits task on s))
       waits_in may on h =
           let a = book_loop (names_made (next_task s.loop.parts)) refl false (Some task) None None None (suspend task on) s.loop
           (suspend_after (names_made (next_task s.loop.parts)) false (Some task) task on s.loop.parts) in
-          rest_to added task Asked asked s is (waits task on s) (same_tapes s (book (suspend task on) s.loop))
+          suspended_to added task Asked asked s is (waits task on s) (same_tapes s (book (suspend task on) s.loop))
           (scripts (book (suspend task on) s.loop) a) refl (a.parts.same refl) a h asked_leaves begun may
 
       pub sleeps_in : ((tag : ℕ) → stands_at (Sleeping tag) asked ≡ true) → (delay : ℕ) → RepliesSound task (sleeps_for task (pos (suc delay)) s)
@@ -231,7 +231,7 @@ module _ {S : Type 0} (added : Extra S) (task : ℕ) (s : State S) (asked : Requ
       sleeps_in may delay h =
           let t = slept (pos (suc delay)) in
           let a = slept_after (pos (suc delay)) in
-          rest_stood added task Asked asked s is t (same_tapes s t.loop) (scripts t.loop a) refl (a.parts.same refl) (Sleeping s.loop.parts.next_tag)
+          suspended_stood added task Asked asked s is t (same_tapes s t.loop) (scripts t.loop a) refl (a.parts.same refl) (Sleeping s.loop.parts.next_tag)
           None a h (λ id f. refl) begun (may s.loop.parts.next_tag) (stands_sleeping (pos (suc delay)))
           (λ id e mine. absurd (asked_leaves id (is.exits id (left_before s t _ _ (Some task) None None None a id refl refl e) (mine ∙ (a.groups id).parent))))
 

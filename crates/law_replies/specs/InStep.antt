@@ -8,9 +8,9 @@ use Rattle.model_says.specs.Says.{step_limit}
 use Rattle.model_loop.specs.Groups.{group_of}
 use Rattle.model_machine.specs.Extra.{Extra}
 use Rattle.model_machine.specs.Mids.{mids}
-use Rattle.model_machine.specs.Replies.{RequestReply, Answers, Raises, Rests, Halts}
+use Rattle.model_machine.specs.Replies.{RequestReply, Answers, Raises, Suspends, Halts}
 use Rattle.model_machine.specs.Sound.{IsLeft, IsSoundBut, IsStateSound}
-use Rattle.model_machine.specs.State.{Standing, Asked, Leaving, State, generator_of, resumed}
+use Rattle.model_machine.specs.State.{ResumePoint, Asked, Leaving, State, generator_of, resumed}
 use Rattle.model_machine.specs.Step.{says_of}
 use Rattle.model_machine.specs.Turn.{turn}
 use Rattle.model_machine.specs.Went.{Went, Goes, Stops}
@@ -18,14 +18,14 @@ use Rattle.model_machine.specs.Went.{Went, Goes, Stops}
 -- Inside a step of a task, whose coroutine was resumed. None of its groups is being left: that ends the step.
 pub record IsStepSound {S : Type 0} (added : Extra S) (task : ℕ) (s : State S) : Type 0 where
   pub others : IsSoundBut (Some task) (Some task) added s
-  pub standing : (generator_of task s).standing ≡ Asked
+  pub resume_point : (generator_of task s).resume_point ≡ Asked
   pub begun : (generator_of task s).tape ≡ [] → ⊥
   pub exits : (id : ℕ) → IsLeft s id → task ≡ (group_of s.loop id).parent → ⊥
 
 -- The coroutine of the task that runs asks for this. The task stood there as its step began, or stands at nothing.
-pub record IsAsked {S : Type 0} (added : Extra S) (task : ℕ) (stood : Standing) (asked : Request) (s : State S) : Type 0 where
+pub record IsAsked {S : Type 0} (added : Extra S) (task : ℕ) (stood : ResumePoint) (asked : Request) (s : State S) : Type 0 where
   pub others : IsSoundBut (Some task) (Some task) added s
-  pub standing : (generator_of task s).standing ≡ Asked
+  pub resume_point : (generator_of task s).resume_point ≡ Asked
   pub says : says_of step_limit added task s ≡ Asks asked
   pub exits : (id : ℕ) → IsLeft s id → task ≡ (group_of s.loop id).parent → stood ≡ Leaving id
 
@@ -33,7 +33,7 @@ pub record IsAsked {S : Type 0} (added : Extra S) (task : ℕ) (stood : Standing
 abbrev pub RepliesInStep : {S : Type 0} → Extra S → (fresh : Bool) → (task : ℕ) → RequestReply S → Type 0
 RepliesInStep added fresh task (Answers value now) = IsStepSound added task (resumed fresh task (Send value) now)
 RepliesInStep added fresh task (Raises fault now) = IsStepSound added task (resumed fresh task (Throw fault) now)
-RepliesInStep added fresh task (Rests now) = IsStateSound added now
+RepliesInStep added fresh task (Suspends now) = IsStateSound added now
 RepliesInStep added fresh task (Halts end last) = Unit {0}
 
 -- what goes on leaves a sound state

@@ -17,12 +17,12 @@ use Rattle.model_loop.specs.Entries.{entries, is_sleep_end}
 use Rattle.model_loop.specs.Groups.{exit_woken, group_of, new_group}
 use Rattle.model_loop.specs.Loop.{Group as GroupFields}
 use Rattle.model_loop.specs.Parts.{Handle, Parts}
-use Rattle.model_loop.specs.Tasks.{begin_step, cancelled_error, cancelling_input, is_cancelled, is_marked, lives, next_task}
+use Rattle.model_loop.specs.Tasks.{begin_step, cancelled_error, cancelling_input, is_cancelled, must_cancel_of, lives, next_task}
 use Rattle.model_loop.specs.Ways.{is_running, one_if, steps, wanted}
 use Rattle.model_machine.specs.Extra.{Extra}
 use Rattle.model_machine.specs.Replies.{Answers, decides, exits_as, replied}
 use Rattle.model_machine.specs.Sound.{IsOpenedAt, IsStateSound, ends_sleep_of, blocks_of, names_block, names_made, sends_made, stands_at}
-use Rattle.model_machine.specs.State.{Standing, Asked, Sleeping, Leaving, Serving, Connecting, Yielding, Reading}
+use Rattle.model_machine.specs.State.{ResumePoint, Asked, Sleeping, Leaving, Serving, Connecting, Yielding, Reading}
 use Rattle.model_machine.specs.State.{ReadingAll, State, generator_of, noted, resumed, stands, unbooked_in}
 use Rattle.model_machine.specs.State.{with_loop}
 use Rattle.model_machine.specs.Step.{given_up, says_of}
@@ -30,7 +30,7 @@ use Rattle.law_steps.specs.Frames.{taken}
 use Rattle.law_steps.proofs.Stepping.{taken-where}
 use Rattle.law_groups.proofs.Entries.{entries-fewer, of_tag}
 use Rattle.law_groups.proofs.Quiet.{handles-first}
-use Rattle.law_turns.specs.Replied.{RunsSound, RepliesSound, IsStanding}
+use Rattle.law_turns.specs.Replied.{RunsSound, RepliesSound, IsResumePoint}
 use Rattle.law_turns.proofs.Stepping.{runs, step_begins}
 use Rattle.law_turns.specs.After.{is_step, IsAfter, IsLoopAfter}
 use Rattle.law_turns.proofs.Parts.{refl_after, after_on, taken_after, revoke_after}
@@ -52,7 +52,7 @@ use Rattle.law_replies.proofs.Exiting.{group_there, exits_in, leaving_is}
 use Rattle.law_replies.proofs.Given.{asked_leaves}
 use Rattle.law_replies.proofs.Innermost.{innermost_group}
 use Rattle.law_replies.proofs.Keeping.{IsApart, apart_of, open_of, with_open, futures_kept, loop_keeps, stays_stood}
-use Rattle.law_replies.proofs.Keeping.{leaves_none, stood_standing, stood_says, stood_blocks, stands_keeps}
+use Rattle.law_replies.proofs.Keeping.{leaves_none, stood_resume_point, stood_says, stood_blocks, stands_keeps}
 use Rattle.law_replies.proofs.Table.{same_tapes, sleeps_leaves}
 use Rattle.law_replies.proofs.Tapes.{past_default}
 
@@ -93,10 +93,10 @@ not_pause : {group : Value} {raised : Option Exc} → Asks request.Pause ≡ Ask
 not_pause e = absurd (cc)
 
 -- ---- requests at which a task stands without leaving a block
-pub plain_at : (standing : Standing) (asked : Request) → ((id : ℕ) → standing ≡ Leaving id → ⊥) → stands_at standing asked ≡ true
+pub plain_at : (resume_point : ResumePoint) (asked : Request) → ((id : ℕ) → resume_point ≡ Leaving id → ⊥) → stands_at resume_point asked ≡ true
     → (blocks : List Value) (input : Input) → open_with blocks asked input ≡ blocks
 plain_at (Leaving id) asked n h blocks input = absurd (n id refl)
-plain_at standing (request.TimeoutEnter delay) n h blocks (Throw fault) = refl
+plain_at resume_point (request.TimeoutEnter delay) n h blocks (Throw fault) = refl
 plain_at Asked (request.TimeoutEnter delay) n h blocks (Send value) = absurd (false≢true h)
 plain_at (Sleeping tag) (request.TimeoutEnter delay) n h blocks (Send value) = absurd (false≢true h)
 plain_at (Serving key) (request.TimeoutEnter delay) n h blocks (Send value) = absurd (false≢true h)
@@ -104,7 +104,7 @@ plain_at (Connecting conn) (request.TimeoutEnter delay) n h blocks (Send value) 
 plain_at (Yielding whom) (request.TimeoutEnter delay) n h blocks (Send value) = absurd (false≢true h)
 plain_at (Reading from op on) (request.TimeoutEnter delay) n h blocks (Send value) = absurd (false≢true h)
 plain_at (ReadingAll from taken on) (request.TimeoutEnter delay) n h blocks (Send value) = absurd (false≢true h)
-plain_at standing request.GroupEnter n h blocks (Throw fault) = refl
+plain_at resume_point request.GroupEnter n h blocks (Throw fault) = refl
 plain_at Asked request.GroupEnter n h blocks (Send value) = absurd (false≢true h)
 plain_at (Sleeping tag) request.GroupEnter n h blocks (Send value) = absurd (false≢true h)
 plain_at (Serving key) request.GroupEnter n h blocks (Send value) = absurd (false≢true h)
@@ -128,10 +128,10 @@ plain_at (Reading from op on) (request.GroupExit group fault) n h blocks input =
 plain_at (ReadingAll from taken on) (request.GroupExit group fault) n h blocks input = absurd (false≢true h)
 plain_at _ _ n h blocks input = refl
 
-pub named_at : (standing : Standing) (asked : Request) → ((id : ℕ) → standing ≡ Leaving id → ⊥) → stands_at standing asked ≡ true
+pub named_at : (resume_point : ResumePoint) (asked : Request) → ((id : ℕ) → resume_point ≡ Leaving id → ⊥) → stands_at resume_point asked ≡ true
     → (input : Input) → names_block asked input ≡ true
 named_at (Leaving id) asked n h input = absurd (n id refl)
-named_at standing (request.TimeoutEnter delay) n h (Throw fault) = refl
+named_at resume_point (request.TimeoutEnter delay) n h (Throw fault) = refl
 named_at Asked (request.TimeoutEnter delay) n h (Send value) = absurd (false≢true h)
 named_at (Sleeping tag) (request.TimeoutEnter delay) n h (Send value) = absurd (false≢true h)
 named_at (Serving key) (request.TimeoutEnter delay) n h (Send value) = absurd (false≢true h)
@@ -139,7 +139,7 @@ named_at (Connecting conn) (request.TimeoutEnter delay) n h (Send value) = absur
 named_at (Yielding whom) (request.TimeoutEnter delay) n h (Send value) = absurd (false≢true h)
 named_at (Reading from op on) (request.TimeoutEnter delay) n h (Send value) = absurd (false≢true h)
 named_at (ReadingAll from taken on) (request.TimeoutEnter delay) n h (Send value) = absurd (false≢true h)
-named_at standing request.GroupEnter n h (Throw fault) = refl
+named_at resume_point request.GroupEnter n h (Throw fault) = refl
 named_at Asked request.GroupEnter n h (Send value) = absurd (false≢true h)
 named_at (Sleeping tag) request.GroupEnter n h (Send value) = absurd (false≢true h)
 named_at (Serving key) request.GroupEnter n h (Send value) = absurd (false≢true h)
@@ -168,8 +168,8 @@ pause_first added task s e =
     ap (λ tape. saying_of (course step_limit s.program (generator_of task s).coroutine (generator_of task s).arguments tape)) e
 
 -- ---- inputs
-cancels_made : (n : ℕ) (marked : Bool) (input : Input) → sends_made n input ≡ true
-    → sends_made n (if marked then cancelling_input input else input) ≡ true
+cancels_made : (n : ℕ) (must_cancel : Bool) (input : Input) → sends_made n input ≡ true
+    → sends_made n (if must_cancel then cancelling_input input else input) ≡ true
 cancels_made n false input h = h
 cancels_made n true (Send value) h = refl
 cancels_made n true (Throw fault) h = at (is_cancelled fault)
@@ -181,14 +181,14 @@ cancels_made n true (Throw fault) h = at (is_cancelled fault)
 module _ {S : Type 0} (added : Extra S) (s : State S) (task : ℕ) (input : Input) (handle : Handle) (rest : List Handle)
     (first : s.loop.parts.pending ≡ handle ∷ rest) (live : handle.dead ≡ false) (mine : steps task handle.action ≡ true)
     (sound : IsStateSound added s) where
-  abbrev standing : Standing
-  standing = (generator_of task s).standing
+  abbrev resume_point : ResumePoint
+  resume_point = (generator_of task s).resume_point
 
   abbrev gone : State S
   gone = noted (event.Ran handle.action) (unbooked_in (λ p. record p { pending = rest }) s)
 
   abbrev moved : Parts
-  moved = (begin_step task input (given_up (generator_of task s).standing (record s.loop.parts { pending = rest }))).parts
+  moved = (begin_step task input (given_up (generator_of task s).resume_point (record s.loop.parts { pending = rest }))).parts
 
   abbrev t : State S
   t = unbooked_in (λ p. moved) gone
@@ -214,10 +214,10 @@ module _ {S : Type 0} (added : Extra S) (s : State S) (task : ℕ) (input : Inpu
   task_within = let w = lives_within s.loop.parts task stepped_lives in let c = sound.generators in omega (arith, w, c)
 
   -- ---- what a sleep's tag names
-  sleep_named : (tag : ℕ) → (generator_of task s).standing ≡ Sleeping tag → (kind : ℕ → Action → Bool)
+  sleep_named : (tag : ℕ) → (generator_of task s).resume_point ≡ Sleeping tag → (kind : ℕ → Action → Bool)
       → ((k : ℕ) (action : Action) → kind k action ≡ true → not (ends_sleep_of task action) ≡ true) → entries (of_tag tag kind) s.loop.parts ≡ 0
   sleep_named tag e kind harder =
-      let a = sleep_none s.loop.parts task tag ((sound.standing task stepped_lives refl).sleeping tag e) in
+      let a = sleep_none s.loop.parts task tag ((sound.resume_point task stepped_lives refl).sleeping tag e) in
       let b = entries-fewer (of_tag tag kind) (of_tag tag (no_sleep_of task)) s.loop.parts
       (λ k action h. both_true (k == tag) (kind k action) (not (ends_sleep_of task action)) (harder k action) h) in
       omega (arith, a, b)
@@ -237,7 +237,7 @@ module _ {S : Type 0} (added : Extra S) (s : State S) (task : ℕ) (input : Inpu
       at other f false e = ap (λ x. not handle.dead && x) e ∙ off (not handle.dead)
       at other f true e = absurd (false≢true (sym f ∙ eq-eqb task other (step_steps task other handle.action mine e)))
 
-  gave_up : (st : Standing) → (generator_of task s).standing ≡ st
+  gave_up : (st : ResumePoint) → (generator_of task s).resume_point ≡ st
       → IsAfter (names_made (next_task s.loop.parts)) false (Some task) (taken rest s.loop.parts) (given_up st (taken rest s.loop.parts))
   gave_up Asked e = refl_after (names_made (next_task s.loop.parts)) false (Some task) (taken rest s.loop.parts)
   gave_up (Sleeping tag) e =
@@ -254,18 +254,19 @@ module _ {S : Type 0} (added : Extra S) (s : State S) (task : ℕ) (input : Inpu
   pub moved_after : IsLoopAfter (names_made (next_task s.loop.parts)) false (Some task) None None None s.loop t.loop
   moved_after =
       parts_loop (names_made (next_task s.loop.parts)) refl false (Some task) None None None s.loop moved
-      (after_on (names_made (next_task s.loop.parts)) false (Some task) s.loop.parts (given_up (generator_of task s).standing (taken rest s.loop.parts)) moved
-      (begin_after (names_made (next_task s.loop.parts)) false (Some task) task input (given_up (generator_of task s).standing (taken rest s.loop.parts)))
+      (after_on (names_made (next_task s.loop.parts)) false (Some task) s.loop.parts (given_up (generator_of task s).resume_point (taken rest s.loop.parts))
+      moved
+      (begin_after (names_made (next_task s.loop.parts)) false (Some task) task input (given_up (generator_of task s).resume_point (taken rest s.loop.parts)))
       (after_on (names_made (next_task s.loop.parts)) false (Some task) s.loop.parts (taken rest s.loop.parts) _
-      (gave_up (generator_of task s).standing refl) taken_first))
+      (gave_up (generator_of task s).resume_point refl) taken_first))
 
   -- ---- what it stands at is as the loop's laws want it
-  pub standing_fit : (st : Standing) → (generator_of task s).standing ≡ st → ((key : ℕ) → st ≡ Serving key → ⊥) → IsStanding st s
-  standing_fit Asked e n = tt
-  standing_fit (Sleeping tag) e n =
+  pub resume_point_fit : (st : ResumePoint) → (generator_of task s).resume_point ≡ st → ((key : ℕ) → st ≡ Serving key → ⊥) → IsResumePoint st s
+  resume_point_fit Asked e n = tt
+  resume_point_fit (Sleeping tag) e n =
       sleep_named tag e (λ k action. not (is_sleep_end action)) (λ k action h. no_end_no_sleep task action h)
-  standing_fit (Leaving id) e n =
-      let now = (sound.standing task stepped_lives refl).leaving_now id e in
+  resume_point_fit (Leaving id) e n =
+      let now = (sound.resume_point task stepped_lives refl).leaving_now id e in
       let out = and_first (group_of s.loop id).exiting (not (group_of s.loop id).ended) now in (
         inside id out (cases_lt id (length s.loop.groups)),
         out,
@@ -275,19 +276,19 @@ module _ {S : Type 0} (added : Extra S) (s : State S) (task : ℕ) (input : Inpu
       inside : (id : ℕ) → (group_of s.loop id).exiting ≡ true → (id < length s.loop.groups) ⊎ (length s.loop.groups ≤ id) → id < length s.loop.groups
       inside id out (inl l) = l
       inside id out (inr past) = absurd (false≢true (sym (ap (λ (g : GroupFields). g.exiting) (past_default s.loop.groups id (new_group 0) past)) ∙ out))
-  standing_fit (Serving key) e n = absurd (n key refl)
-  standing_fit (Connecting conn) e n = sound.streams
-  standing_fit (Yielding whom) e n = sound.streams
-  standing_fit (Reading from op on) e n = sound.streams
-  standing_fit (ReadingAll from taken on) e n = sound.streams
+  resume_point_fit (Serving key) e n = absurd (n key refl)
+  resume_point_fit (Connecting conn) e n = sound.streams
+  resume_point_fit (Yielding whom) e n = sound.streams
+  resume_point_fit (Reading from op on) e n = sound.streams
+  resume_point_fit (ReadingAll from taken on) e n = sound.streams
 
-  runs_as : (st : Standing) → (generator_of task s).standing ≡ st
+  runs_as : (st : ResumePoint) → (generator_of task s).resume_point ≡ st
       → RunsSound task (stands Asked task (unbooked_in (λ p. (begin_step task input (given_up st gone.loop.parts)).parts) gone))
   runs_as Asked e = runs added s task input handle rest first live mine sound.loop Asked tt
   runs_as (Sleeping tag) e = runs added s task input handle rest first live mine sound.loop (Sleeping tag)
-      (standing_fit (Sleeping tag) e (λ k x. sleeping_serves tag k x))
+      (resume_point_fit (Sleeping tag) e (λ k x. sleeping_serves tag k x))
   runs_as (Leaving id) e = runs added s task input handle rest first live mine sound.loop (Leaving id)
-      (standing_fit (Leaving id) e (λ k x. leaving_serves id k x))
+      (resume_point_fit (Leaving id) e (λ k x. leaving_serves id k x))
   runs_as (Serving key) e = runs added s task input handle rest first live mine sound.loop Asked tt
   runs_as (Connecting conn) e = runs added s task input handle rest first live mine sound.loop Asked tt
   runs_as (Yielding whom) e = runs added s task input handle rest first live mine sound.loop Asked tt
@@ -304,76 +305,76 @@ module _ {S : Type 0} (added : Extra S) (s : State S) (task : ℕ) (input : Inpu
   t_half =
       loop_keeps added s t (record { program = refl; generators = refl; streams = refl }) None
       (Some task) None (Some task) moved_after.parts (moved_after.parts.same refl)
-      (runs_as (generator_of task s).standing refl) (λ other f. refl) over
+      (runs_as (generator_of task s).resume_point refl) (λ other f. refl) over
       (stays_stood added s t (record { program = refl; generators = refl; streams = refl }) None (Some task) None (Some task) _ _ None None None moved_after
       (λ other id f e r. refl))
       (leaves_none added s t (record { program = refl; generators = refl; streams = refl }) None (Some task) None (Some task) _ _ None None None moved_after
       (λ id f. (refl, refl)))
       (futures_kept s t refl refl (λ id h. moved_after.parts.plain id h) sound.futures) (apart_of added None None s sound)
 
-  pub begun_asked : (asked : Request) → says_of step_limit added task s ≡ Asks asked → IsAsked added task (generator_of task s).standing asked begun
+  pub begun_asked : (asked : Request) → says_of step_limit added task s ≡ Asks asked → IsAsked added task (generator_of task s).resume_point asked begun
   begun_asked asked says = record {
     others = with_open added (Some task) (Some task) begun (stands_keeps added task Asked t task_within (Some task) t_half)
         (open_kept _ _ (Some task) None s.loop t.loop (blocks_of s) (blocks_of begun) moved_after
         (λ other. stood_blocks added task Asked t task_within other) (open_of added None None s sound.blocks));
-    standing = stood_standing added task Asked t task_within;
+    resume_point = stood_resume_point added task Asked t task_within;
     says = stood_says added task Asked t task_within ∙ says;
     exits = λ id e its.
-        ap (λ k. (generator_of k s).standing) its
+        ap (λ k. (generator_of k s).resume_point) its
         ∙ sound.exits id (left_before s t _ _ (Some task) None None None moved_after id refl refl e) refl;
   }
 
   -- ---- and is answered
   module _ (keeps : KeepsSound added) (given_ : sends_made (next_task s.loop.parts) input ≡ true) where
-    abbrev heard : Standing → Input
+    abbrev heard : ResumePoint → Input
     heard st = (begin_step task input (given_up st gone.loop.parts)).input
 
-    heard_made : (st : Standing) → sends_made (next_task s.loop.parts) (heard st) ≡ true
-    heard_made st = cancels_made (next_task s.loop.parts) (is_marked (given_up st gone.loop.parts) task) input given_
+    heard_made : (st : ResumePoint) → sends_made (next_task s.loop.parts) (heard st) ≡ true
+    heard_made st = cancels_made (next_task s.loop.parts) (must_cancel_of (given_up st gone.loop.parts) task) input given_
 
     same_count : next_task begun.loop.parts ≡ next_task s.loop.parts
     same_count = moved_after.parts.same refl
 
-    to : (st : Standing) → (generator_of task s).standing ≡ st → ((id : ℕ) → st ≡ Leaving id → ⊥) → (asked : Request)
+    to : (st : ResumePoint) → (generator_of task s).resume_point ≡ st → ((id : ℕ) → st ≡ Leaving id → ⊥) → (asked : Request)
         → says_of step_limit added task s ≡ Asks asked → stands_at st asked ≡ true → (heard_ : Input)
         → sends_made (next_task s.loop.parts) heard_ ≡ true → IsStepSound added task (resumed true task heard_ begun)
     to st e n asked says may heard_ good =
         let is = begun_asked asked says in
-        step_to added task (generator_of task s).standing asked begun is begun (same_tapes begun begun.loop) is.others.futures refl refl
+        step_to added task (generator_of task s).resume_point asked begun is begun (same_tapes begun begun.loop) is.others.futures refl refl
         (refl_loop (names_made (next_task begun.loop.parts)) refl false (Some task) None None None begun.loop) is.others.loop
         (λ id x. n id (sym e ∙ x)) true heard_ (λ b. plain_at st asked n may b heard_) (named_at st asked n may heard_)
         (ap (λ k. sends_made k heard_) same_count ∙ good)
 
-    answers : (st : Standing) → (generator_of task s).standing ≡ st → ((id : ℕ) → st ≡ Leaving id → ⊥) → (asked : Request)
+    answers : (st : ResumePoint) → (generator_of task s).resume_point ≡ st → ((id : ℕ) → st ≡ Leaving id → ⊥) → (asked : Request)
         → says_of step_limit added task s ≡ Asks asked → stands_at st asked ≡ true → (heard_ : Input)
         → sends_made (next_task s.loop.parts) heard_ ≡ true → RepliesInStep added true task (replied heard_ begun)
     answers st e n asked says may (Send value) good = to st e n asked says may (Send value) good
     answers st e n asked says may (Throw fault) good = to st e n asked says may (Throw fault) good
 
     -- the exit of a group goes on
-    goes_on : (id : ℕ) → (generator_of task s).standing ≡ Leaving id → (asked : Request) → says_of step_limit added task s ≡ Asks asked
+    goes_on : (id : ℕ) → (generator_of task s).resume_point ≡ Leaving id → (asked : Request) → says_of step_limit added task s ≡ Asks asked
         → stands_at (Leaving id) asked ≡ true → (heard_ : Input)
         → RepliesSound task (exits_as (exit_woken heard_ id begun.loop).answer task id (with_loop (exit_woken heard_ id begun.loop).loop begun))
         → RepliesInStep added true task (exits_as (exit_woken heard_ id begun.loop).answer task id (with_loop (exit_woken heard_ id begun.loop).loop begun))
     goes_on id e asked says may heard_ h =
         let g = left_group id asked may in
-        let is : IsAsked added task (generator_of task s).standing (request.GroupExit (Group id) g.0) begun =
-        subst (λ q. IsAsked added task (generator_of task s).standing q begun) g.1 (begun_asked asked says) in
+        let is : IsAsked added task (generator_of task s).resume_point (request.GroupExit (Group id) g.0) begun =
+        subst (λ q. IsAsked added task (generator_of task s).resume_point q begun) g.1 (begun_asked asked says) in
         let r = innermost_group added task begun (is.others.blocks.entered task) (Group id) g.0 is.says in
         let same : r.0 ≡ id = group_is r.0 id (sym r.1) in
         let its : blocks_of begun task ≡ Group id ∷ r.2.0 = r.2.1 ∙ ap (λ k. Group k ∷ r.2.0) same in
-        let there = group_there added task (generator_of task s).standing begun g.0 id is r.2.0 its in
+        let there = group_there added task (generator_of task s).resume_point begun g.0 id is r.2.0 its in
         let a = exit_woken_loop (names_made (next_task begun.loop.parts)) refl false (Some task) None None id heard_ begun.loop in
-        exits_in added task (generator_of task s).standing begun g.0 id is r.2.0 its None (λ gid x. absurd (false≢true x))
+        exits_in added task (generator_of task s).resume_point begun g.0 id is r.2.0 its None (λ gid x. absurd (false≢true x))
         (exit_woken heard_ id begun.loop).loop a
         ((a.groups id).exiting
-        (and_first (group_of s.loop id).exiting (not (group_of s.loop id).ended) ((sound.standing task stepped_lives refl).leaving_now id e)))
+        (and_first (group_of s.loop id).exiting (not (group_of s.loop id).ended) ((sound.resume_point task stepped_lives refl).leaving_now id e)))
         (λ gid x. leaving_is gid id (sym x ∙ e)) true (exit_woken heard_ id begun.loop).answer
         (λ x. not_pause (sym (pause_first added task begun x) ∙ is.says))
         (exit_woken_leaves (names_made (next_task begun.loop.parts)) refl false (Some task) None None id heard_ begun.loop there) h
 
     -- at a request on listeners, connections and children: the input is handed on, or a tree goes on
-    streams_on : (st : Standing) → (generator_of task s).standing ≡ st → (asked : Request) → says_of step_limit added task s ≡ Asks asked
+    streams_on : (st : ResumePoint) → (generator_of task s).resume_point ≡ st → (asked : Request) → says_of step_limit added task s ≡ Asks asked
         → stands_at st asked ≡ true → stands_at_streams st ≡ true → RepliesInStep added true task (decides added st task (heard st) begun)
     streams_on st e asked says may at_streams =
         at (streams_decide added task begun (begun_asked asked says).others.streams asked st (heard st) at_streams may)
@@ -389,15 +390,16 @@ module _ {S : Type 0} (added : Extra S) (s : State S) (task : ℕ) (input : Inpu
         at (inr it) =
             let is = woken_asked st (begun_asked asked says) in
             let was =
-            woken_opened begun st (begun_asked asked says).others.streams (subst (IsOpenedAt s.streams) e (sound.standing task stepped_lives refl).opened) in
-            streams_in added task (generator_of task s).standing asked (woken_at st begun) is (λ id x. streams_leave st at_streams id (sym e ∙ x))
+            woken_opened begun st (begun_asked asked says).others.streams (subst (IsOpenedAt s.streams) e (sound.resume_point task stepped_lives refl).opened)
+            in
+            streams_in added task (generator_of task s).resume_point asked (woken_at st begun) is (λ id x. streams_leave st at_streams id (sym e ∙ x))
             (woken_tape task begun st (λ x. not_pause_at st asked at_streams may (sym (pause_first added task begun x) ∙ (begun_asked asked says).says)))
             (streams_to st asked at_streams may) true (subst (IsOpenedAt (woken_at st begun).streams) (sym e) was)
             (decides added st task (heard st) begun)
             (streams_sound task st (woken_at st begun) asked (decides added st task (heard st) begun) it is.others.loop)
             (subst (λ k. StreamReplies task k (woken_at st begun) asked (decides added st task (heard st) begun)) (sym e) it)
 
-    decided : (st : Standing) → (generator_of task s).standing ≡ st → (asked : Request) → says_of step_limit added task s ≡ Asks asked
+    decided : (st : ResumePoint) → (generator_of task s).resume_point ≡ st → (asked : Request) → says_of step_limit added task s ≡ Asks asked
         → stands_at st asked ≡ true → RepliesInStep added true task (decides added st task (heard st) begun)
     decided Asked e asked says may = answers Asked e (λ id x. asked_leaves id x) asked says may (heard Asked) (heard_made Asked)
     decided (Sleeping tag) e asked says may =
@@ -405,11 +407,12 @@ module _ {S : Type 0} (added : Extra S) (s : State S) (task : ℕ) (input : Inpu
     decided (Leaving id) e asked says may =
         goes_on id e asked says may (heard (Leaving id)) (left_as e)
       where
-        left_as : (generator_of task s).standing ≡ Leaving id → RepliesSound task (decides added (Leaving id) task (heard (Leaving id)) begun)
+        left_as : (generator_of task s).resume_point ≡ Leaving id → RepliesSound task (decides added (Leaving id) task (heard (Leaving id)) begun)
         left_as e =
             subst (λ st. RepliesSound task (decides added (Leaving id) task (heard (Leaving id))
             (stands Asked task (unbooked_in (λ p. (begin_step task input (given_up st gone.loop.parts)).parts) gone)))) (sym e)
-            (step_begins added s task input handle rest first live mine sound.loop (Leaving id) (standing_fit (Leaving id) e (λ k x. leaving_serves id k x)))
+            (step_begins added s task input handle rest first live mine sound.loop (Leaving id)
+            (resume_point_fit (Leaving id) e (λ k x. leaving_serves id k x)))
     decided (Serving key) e asked says may =
         let g = served_extra key asked may in
         keeps.wake task key g.0 g.1.0 (heard (Serving key)) begun
@@ -424,6 +427,6 @@ module _ {S : Type 0} (added : Extra S) (s : State S) (task : ℕ) (input : Inpu
     decided (ReadingAll from taken on) e asked says may =
         streams_on (ReadingAll from taken on) e asked says may refl
 
-    pub begins_in : RepliesInStep added true task (decides added (generator_of task s).standing task (heard (generator_of task s).standing) begun)
+    pub begins_in : RepliesInStep added true task (decides added (generator_of task s).resume_point task (heard (generator_of task s).resume_point) begun)
     begins_in =
-        let a = sound.asking task stepped_lives refl in decided (generator_of task s).standing refl a.asked a.says a.stands
+        let a = sound.asking task stepped_lives refl in decided (generator_of task s).resume_point refl a.asked a.says a.stands

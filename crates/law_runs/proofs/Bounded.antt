@@ -7,7 +7,7 @@ use Rattle.model_value.specs.Input.{Input}
 use Rattle.model_says.specs.Endings.{Saying, Asks, Returns, Raises as Raised, Runaway}
 use Rattle.model_says.specs.Tape.{Resumed, Tape}
 use Rattle.model_machine.specs.Extra.{Extra}
-use Rattle.model_machine.specs.Replies.{RequestReply, Answers, Raises, Rests, Halts, reply}
+use Rattle.model_machine.specs.Replies.{RequestReply, Answers, Raises, Suspends, Halts, reply}
 use Rattle.model_machine.specs.State.{Generator, State, generator_of, resumed}
 use Rattle.model_machine.specs.Step.{most_answers, says_of, taken_as, served, serve}
 use Rattle.law_says.specs.Steps.{steps_in}
@@ -65,7 +65,7 @@ module _ {S : Type 0} (limit : ℕ) (added : Extra S) (task : ℕ) where
         → taken_as it false task (serve limit added (count + more) task) ≡ taken_as it false task (serve limit added count task)
     taken_settles (Answers value now) kept some there enough = resumed_settles now kept some there enough (Send value)
     taken_settles (Raises fault now) kept some there enough = resumed_settles now kept some there enough (Throw fault)
-    taken_settles (Rests now) kept some there enough = refl
+    taken_settles (Suspends now) kept some there enough = refl
     taken_settles (Halts end last) kept some there enough = refl
 
     served_settles : (said : Saying) → says_of limit added task s ≡ said → task < length s.generators → IsEnough limit (suc count) (tape_of task s)

@@ -12,7 +12,7 @@ use Rattle.model_value.specs.declared.outcome.Outcome.TheVariants.{Value as Retu
 use Rattle.model_says.specs.Endings.{Saying, Asks, Returns, Raises as Raised, Runaway}
 use Rattle.model_says.specs.Says.{step_limit}
 use Rattle.model_wire.specs.declared.event.Event.TheVariants as event
-use Rattle.model_loop.specs.Circles.{circle_fault}
+use Rattle.model_loop.specs.Cycles.{cycle_exception}
 use Rattle.model_loop.specs.Deadlines.{fires}
 use Rattle.model_loop.specs.Futures.{future_outcome, settle}
 use Rattle.model_loop.specs.Groups.{child_done}
@@ -24,7 +24,7 @@ use Rattle.model_loop.specs.Timeouts.{fire, is_active, timeout_of}
 use Rattle.model_loop.specs.Ways.{steps}
 use Rattle.model_machine.specs.Extra.{Extra}
 use Rattle.model_machine.specs.Outcomes.{input_of, woken_with}
-use Rattle.model_machine.specs.Replies.{RequestReply, Answers, Raises, Rests, Halts, reply}
+use Rattle.model_machine.specs.Replies.{RequestReply, Answers, Raises, Suspends, Halts, reply}
 use Rattle.model_machine.specs.Sound.{IsStateSound, is_open, names_made, sends_made}
 use Rattle.model_machine.specs.State.{State, generator_of, noted, unbooked_in}
 use Rattle.model_machine.specs.Step.{most_answers, says_of, serve, serve_all, served, step, taken_as}
@@ -62,7 +62,7 @@ module _ {S : Type 0} (added : Extra S) (keeps : KeepsSound added) (task : ℕ) 
       (r : RequestReply S) → RepliesInStep added fresh task r → LeavesStateSound added (taken_as r fresh task go_on)
   after_in go_on each fresh (Answers value now) h = each _ h
   after_in go_on each fresh (Raises fault now) h = each _ h
-  after_in go_on each fresh (Rests now) h = h
+  after_in go_on each fresh (Suspends now) h = h
   after_in go_on each fresh (Halts end last) h = tt
 
   served_in : (go_on : State S → Went S) → ((t : State S) → IsStepSound added task t → LeavesStateSound added (go_on t)) → (saying : Saying)
@@ -185,8 +185,8 @@ module _ {S : Type 0} (added : Extra S) (keeps : KeepsSound added) (s : State S)
   lively : (it : Action) → handle.action ≡ it → handle.dead ≡ false → LeavesStateSound added (effect step_limit added it (noted (event.Ran it) out))
   unfolding effect
   lively (action.Step task) is live = steps_in (action.Step task) task (Send Nothing) is (eq-eqb task task refl) live refl
-  lively (action.StepInCircle task circle) is live =
-      steps_in (action.StepInCircle task circle) task (Throw (circle_fault circle)) is (eq-eqb task task refl) live refl
+  lively (action.StepInCycle task cycle) is live =
+      steps_in (action.StepInCycle task cycle) task (Throw (cycle_exception cycle)) is (eq-eqb task task refl) live refl
   lively (action.Wakeup task) is live =
       steps_in (action.Wakeup task) task (woken_with out.loop.parts task) is (eq-eqb task task refl) live (woken_made added s sound task)
   lively (action.SleepDone task future) is live =

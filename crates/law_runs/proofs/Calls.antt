@@ -24,7 +24,7 @@ use Rattle.model_machine.specs.Extra.{Extra, ExtraAnswer, ExtraCall, ExtraSaid, 
 use Rattle.model_machine.specs.Outcomes.{input_of}
 use Rattle.model_machine.specs.Replies.{RequestReply, Halts, Wake, ended, given, input_by, reply, serves, serves_as, serves_until, waits, woken, woken_within}
 use Rattle.model_machine.specs.Sound.{IsOpenedAt, IsStateSound, StandsRightly, blocks_of, names_made, sends_made}
-use Rattle.model_machine.specs.State.{Standing, Asked, Sleeping, Leaving, Serving, Generator, State, generator, generator_of, noted, resumed, stands}
+use Rattle.model_machine.specs.State.{ResumePoint, Asked, Sleeping, Leaving, Serving, Generator, State, generator, generator_of, noted, resumed, stands}
 use Rattle.model_machine.specs.Step.{says_of}
 use Rattle.model_machine.specs.Told.{told_in}
 use Rattle.model_machine.specs.Went.{answered_so, ask_so, fitted_so}
@@ -38,10 +38,10 @@ use Rattle.law_replies.specs.InStep.{IsAsked, IsStepSound, RepliesInStep, SameTa
 use Rattle.law_replies.proofs.Blocks.{open_kept}
 use Rattle.law_replies.proofs.Counts.{get_there, lives_before}
 use Rattle.law_replies.proofs.Given.{asked_leaves}
-use Rattle.law_replies.proofs.Keeping.{futures_kept, leaves_none, loop_keeps, open_of, says_same, stays_stood, stood_standing, tapes_blocks, with_open}
+use Rattle.law_replies.proofs.Keeping.{futures_kept, leaves_none, loop_keeps, open_of, says_same, stays_stood, stood_resume_point, tapes_blocks, with_open}
 use Rattle.law_replies.proofs.Nobody.{nobody, over_as}
 use Rattle.law_replies.specs.Added.{KeepsSound}
-use Rattle.law_replies.proofs.Answering.{half, left_before, pending_of, rest_stood, step_to, within}
+use Rattle.law_replies.proofs.Answering.{half, left_before, pending_of, suspended_stood, step_to, within}
 use Rattle.law_replies.proofs.Table.{same_tapes, thrown}
 use Rattle.law_runs.specs.Allowed.{AreAllowed, IsAnswerAllowed, IsSaidAllowed, MakesAllowedSteps}
 use Rattle.law_runs.proofs.Steps.{all_after, all_sound}
@@ -62,7 +62,7 @@ unfolding course
 pause_first added task s e =
     ap (λ tape. saying_of (course step_limit s.program (generator_of task s).coroutine (generator_of task s).arguments tape)) e
 
-module _ {S : Type 0} (added : Extra S) (task : ℕ) (stood : Standing) (still : (id : ℕ) → stood ≡ Leaving id → ⊥) (code arguments : Value) where
+module _ {S : Type 0} (added : Extra S) (task : ℕ) (stood : ResumePoint) (still : (id : ℕ) → stood ≡ Leaving id → ⊥) (code arguments : Value) where
   -- ---- after steps of the loop, which leave the tapes as they are, the coroutine asks as before
   module _ (s t : State S) (tapes : SameTapes s t) (futures : t.futures ≡ s.futures) (done : t.main_done ≡ s.main_done)
       (moved : IsLoopAfter (names_made (next_task s.loop.parts)) false (Some task) None None None s.loop t.loop)
@@ -90,7 +90,7 @@ module _ {S : Type 0} (added : Extra S) (task : ℕ) (stood : Standing) (still :
           (half added task stood (request.Extra code arguments) s is))
           (open_kept _ _ (Some task) None s.loop t.loop (blocks_of s) (blocks_of t) moved
           (tapes_blocks added s t tapes (Some task) (Some task) (Some task) (Some task)) (open_of added (Some task) (Some task) s is.others.blocks));
-      standing = ap (λ (g : Generator). g.standing) same_at ∙ is.standing;
+      resume_point = ap (λ (g : Generator). g.resume_point) same_at ∙ is.resume_point;
       says = says_same added s t tapes.program task same_at ∙ is.says;
       exits = λ id e mine. is.exits id (left_before s t _ _ (Some task) None None None moved id refl refl e) (mine ∙ (moved.groups id).parent);
     }
@@ -136,8 +136,8 @@ module _ {S : Type 0} (added : Extra S) (task : ℕ) (stood : Standing) (still :
         book_loop (names_made (next_task s.loop.parts)) refl false (Some task) None None None (suspend task on) s.loop
         (suspend_after (names_made (next_task s.loop.parts)) false (Some task) task on s.loop.parts)
 
-    stood_so : (generator_of task (stands (Serving key) task (waits task on s))).standing ≡ Serving key
-    stood_so = stood_standing added task (Serving key) (waits task on s) (within added task stood (request.Extra code arguments) s is)
+    stood_so : (generator_of task (stands (Serving key) task (waits task on s))).resume_point ≡ Serving key
+    stood_so = stood_resume_point added task (Serving key) (waits task on s) (within added task stood (request.Extra code arguments) s is)
 
     rightly : StandsRightly (stands (Serving key) task (waits task on s)) task
     rightly = record {
@@ -150,7 +150,7 @@ module _ {S : Type 0} (added : Extra S) (task : ℕ) (stood : Standing) (still :
     pub waits_in : IsStateSound added (stands (Serving key) task (waits task on s))
     waits_in =
         let f = get_there s.loop.parts.futures on there in
-        rest_stood added task stood (request.Extra code arguments) s is u (same_tapes s u.loop)
+        suspended_stood added task stood (request.Extra code arguments) s is u (same_tapes s u.loop)
         (futures_kept s u refl refl (λ id h. after.parts.plain id h) is.others.futures) refl (after.parts.same refl) (Serving key) None after
         (suspend_step_sound (told_in s.events) task on s.loop (pending_of s on f.0 f.1 open_) is.others.loop) (λ id f. refl)
         (λ e. no_pause (sym (pause_first added task s e) ∙ is.says)) refl rightly

@@ -6,16 +6,16 @@ use Rattle.model_wire.specs.Call.{Answer, Call}
 use Rattle.model_wire.specs.Event.{Event}
 use Rattle.model_machine.specs.Went.{answers_in}
 use Rattle.law_cases.specs.Trees.{is_select}
-use Rattle.law_runs.specs.Growth.{GoesOn, turns_in}
+use Rattle.law_runs.specs.Growth.{EventsGrow, turns_in}
 
 -- ---- events go on
-pub goes_on_same : (es : List Event) → GoesOn es es
+pub goes_on_same : (es : List Event) → EventsGrow es es
 goes_on_same es = ([], sym (append-nil es))
 
-pub goes_on_one : (es : List Event) (e : Event) → GoesOn es (es ++ e ∷ [])
+pub goes_on_one : (es : List Event) (e : Event) → EventsGrow es (es ++ e ∷ [])
 goes_on_one es e = (e ∷ [], refl)
 
-pub goes_on_then : (a b c : List Event) → GoesOn a b → GoesOn b c → GoesOn a c
+pub goes_on_then : (a b c : List Event) → EventsGrow a b → EventsGrow b c → EventsGrow a c
 goes_on_then a b c first second = (first.0 ++ second.0, second.1 ∙ ap (λ (es : List Event). es ++ second.0) first.1 ∙ append_assoc a first.0 second.0)
 
 -- ---- turns

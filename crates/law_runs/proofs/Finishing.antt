@@ -12,7 +12,7 @@ use Rattle.model_loop.specs.Futures.{is_pending, is_pending_at, settle, settled,
 use Rattle.model_loop.specs.Groups.{group_of, new_group}
 use Rattle.model_loop.specs.Loop.{Group as GroupFields}
 use Rattle.model_loop.specs.Parts.{Future, Parts}
-use Rattle.model_loop.specs.Tasks.{finish, future_of, is_cancelled, is_marked, lives, next_task, unmark}
+use Rattle.model_loop.specs.Tasks.{finish, future_of, is_cancelled, must_cancel_of, lives, next_task, clear_must_cancel}
 use Rattle.model_machine.specs.Extra.{Extra}
 use Rattle.model_machine.specs.Sound.{IsStateSound, blocks_of, exchanges_of, names_made}
 use Rattle.model_machine.specs.State.{State, generator_of, unbooked_in}
@@ -51,7 +51,7 @@ settle_done id outcome p = at (slice_get p.futures id) refl
     at (Some future) e = until future e future.outcome refl
 
 finish_done : (task : ℕ) (end : Result Value Exc) (p : Parts) → is_pending (finish task end p) (future_of p task) ≡ false
-finish_done task (Ok value) p = settle_done (future_of p task) (if is_marked p task then Cancelled else Returned value) (unmark task p)
+finish_done task (Ok value) p = settle_done (future_of p task) (if must_cancel_of p task then Cancelled else Returned value) (clear_must_cancel task p)
 finish_done task (Err fault) p = settle_done (future_of p task) (if is_cancelled fault then Cancelled else Failed fault) p
 
 module _ {S : Type 0} (added : Extra S) (task : ℕ) (s : State S) (step : IsStepSound added task s) where

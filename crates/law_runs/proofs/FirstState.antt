@@ -33,9 +33,9 @@ module _ {S : Type 0} (added : Extra S) (most : ℕ) (state : S) (program : Prog
   unbegun zero l = record { place = 0; handle = record { stamp = 0; tag = 0; action = Step 0; dead = false }; found = refl; live = refl; steps = refl }
   unbegun (suc task) l = absurd (false≢true l)
 
-  standing : (task : ℕ) → lives begun.loop.parts task ≡ true → StandsRightly begun task
-  standing zero l = record { sleeping = λ tag e. absurd (cc); leaving = λ id e. absurd (cc); leaving_now = λ id e. absurd (cc); opened = tt }
-  standing (suc task) l = absurd (false≢true l)
+  resume_point : (task : ℕ) → lives begun.loop.parts task ≡ true → StandsRightly begun task
+  resume_point zero l = record { sleeping = λ tag e. absurd (cc); leaving = λ id e. absurd (cc); leaving_now = λ id e. absurd (cc); opened = tt }
+  resume_point (suc task) l = absurd (false≢true l)
 
   main_told : IsMainTold begun.loop.parts
   main_told = record { made = omega arith; there = omega arith; registered = registered; pending = λ h. absurd (omega (arith, h)) }
@@ -78,7 +78,7 @@ module _ {S : Type 0} (added : Extra S) (most : ℕ) (state : S) (program : Prog
     unbegun = λ task l f e. unbegun task l;
     main_over = λ e. absurd (false≢true e);
     main_told = main_told;
-    standing = λ task l f. standing task l;
+    resume_point = λ task l f. resume_point task l;
     exits = λ id e f. absurd (false≢true e);
     streams = record { connections = λ id c e. absurd (none-some c e); children = λ id p e. absurd (none-some p e) };
     kept_once = λ future. omega arith;

@@ -7,13 +7,13 @@ use Rattle.model_says.specs.Tape.{Tape}
 use Rattle.model_wire.specs.declared.event.Event.TheVariants as event
 use Rattle.model_machine.specs.Extra.{Extra}
 use Rattle.model_machine.specs.Replies.{RequestReply, decides, reply}
-use Rattle.model_machine.specs.State.{Standing, Generator, State, generator, stands}
-use Rattle.law_reach.specs.Changes.{StateChange, OfLoop, Says, MakesCoroutine, Stands, Resumes, NamesFuture, EndsMain, ChangesExtra, ChangesStreams}
+use Rattle.model_machine.specs.State.{ResumePoint, Generator, State, generator, stands}
+use Rattle.law_reach.specs.Changes.{StateChange, OfLoop, Says, MakesCoroutine, SetsResumePoint, Resumes, NamesFuture, EndsMain, ChangesExtra, ChangesStreams}
 use Rattle.law_reach.specs.Changes.{Runs, Hears, Calls, MayInAnswer, made}
 use Rattle.law_reach.specs.Reaches.{InAnswer, left_by}
 use Rattle.law_reach.proofs.Opened.{decides_comes, reply_comes}
 use Rattle.law_changes.proofs.Folds.{fold}
-use Rattle.law_runs.specs.Growth.{GoesOn}
+use Rattle.law_runs.specs.Growth.{EventsGrow}
 use Rattle.law_runs.proofs.Counts.{goes_on_same, goes_on_one, goes_on_then}
 
 abbrev pub tape_in : List Generator → ℕ → Tape
@@ -24,12 +24,12 @@ tape_of task s = tape_in s.generators task
 
 -- what is kept while a request is answered
 pub record IsKeptInAnswer {S : Type 0} (task : ℕ) (s t : State S) : Type 0 where
-  pub events : GoesOn s.events t.events
+  pub events : EventsGrow s.events t.events
   pub tape : tape_of task t ≡ tape_of task s
   pub generators : length s.generators ≤ length t.generators
 
 -- more events, and the same generators
-kept_as : {S : Type 0} (task : ℕ) (s t : State S) → GoesOn s.events t.events → t.generators ≡ s.generators → IsKeptInAnswer task s t
+kept_as : {S : Type 0} (task : ℕ) (s t : State S) → EventsGrow s.events t.events → t.generators ≡ s.generators → IsKeptInAnswer task s t
 kept_as task s t e g = record { events = e; tape = ap (λ gs. tape_in gs task) g; generators = rw g (omega arith) }
 
 pub kept_then : {S : Type 0} (task : ℕ) (s t u : State S) → IsKeptInAnswer task s t → IsKeptInAnswer task t u → IsKeptInAnswer task s u
@@ -58,8 +58,8 @@ length-slice_set [] at g = refl
 length-slice_set (h ∷ gs) zero g = refl
 length-slice_set (h ∷ gs) (suc at) g = ap suc (length-slice_set gs at g)
 
-pub stands-kept : {S : Type 0} (standing : Standing) (at task : ℕ) (s : State S) → IsKeptInAnswer task s (stands standing at s)
-stands-kept standing at task s = record {
+pub stands-kept : {S : Type 0} (resume_point : ResumePoint) (at task : ℕ) (s : State S) → IsKeptInAnswer task s (stands resume_point at s)
+stands-kept resume_point at task s = record {
   events = goes_on_same s.events;
   tape = tape-set s.generators at task _ refl;
   generators = rw (length-slice_set s.generators at _) (omega arith);
@@ -78,7 +78,7 @@ change-keeps added task (MakesCoroutine coroutine arguments) s may = record {
   tape = tape-added s.generators task (generator coroutine arguments) refl;
   generators = rw (length-append s.generators (generator coroutine arguments ∷ [])) (omega arith);
 }
-change-keeps added task (Stands standing at) s may = stands-kept standing at task s
+change-keeps added task (SetsResumePoint resume_point at) s may = stands-kept resume_point at task s
 change-keeps added task (Resumes fresh at input) s may = absurd may
 change-keeps added task (NamesFuture future) s may = kept_as task s _ (goes_on_same s.events) refl
 change-keeps added task EndsMain s may = absurd may
@@ -98,6 +98,6 @@ pub reply-keeps : {S : Type 0} (added : Extra S) (task : ℕ) (asked : Request) 
     → IsKeptInAnswer task s (reply_state (reply added task asked s))
 reply-keeps added task asked s = row-keeps added (reply_comes added task asked s).reaches
 
-pub decides-keeps : {S : Type 0} (added : Extra S) (standing : Standing) (task : ℕ) (input : Input) (s : State S)
-    → IsKeptInAnswer task s (reply_state (decides added standing task input s))
-decides-keeps added standing task input s = row-keeps added (decides_comes added task standing input s).reaches
+pub decides-keeps : {S : Type 0} (added : Extra S) (resume_point : ResumePoint) (task : ℕ) (input : Input) (s : State S)
+    → IsKeptInAnswer task s (reply_state (decides added resume_point task input s))
+decides-keeps added resume_point task input s = row-keeps added (decides_comes added task resume_point input s).reaches

@@ -16,17 +16,17 @@ use Rattle.model_machine.specs.Turn.{call_of, is_stalled, turn, turn_unless, tur
 use Rattle.model_machine.specs.Went.{Went, Goes, Stops, answered_by, answers_in, fitted, state_of}
 use Rattle.law_changes.proofs.Folds.{fold}
 use Rattle.law_reach.specs.Asked.{WentAsks, asks_in}
-use Rattle.law_reach.specs.Changes.{StateChange, OfLoop, Says, MakesCoroutine, Stands, Resumes, NamesFuture, EndsMain, ChangesExtra, ChangesStreams}
+use Rattle.law_reach.specs.Changes.{StateChange, OfLoop, Says, MakesCoroutine, SetsResumePoint, Resumes, NamesFuture, EndsMain, ChangesExtra, ChangesStreams}
 use Rattle.law_reach.specs.Changes.{Runs, Hears, Calls, MayInRun, MayInTurn, made}
 use Rattle.law_reach.proofs.Rows.{asks-ran, asks-said, in_turn}
 use Rattle.law_reach.proofs.Turning.{turn_asks, turn_row, turned_row}
-use Rattle.law_runs.specs.Growth.{GoesOn, turns_in}
+use Rattle.law_runs.specs.Growth.{EventsGrow, turns_in}
 use Rattle.law_runs.proofs.Counts.{goes_on_same, goes_on_one, goes_on_then, turns-said, turns-ran, turns-got, turns-selected, turns-other}
 use Rattle.law_runs.proofs.Counts.{answers-said, answers-ran, answers-got, answers-called}
 
 -- ---- events are added, and each answer is one that was left
 pub record IsAlong {S : Type 0} (s t : State S) : Type 0 where
-  pub events : GoesOn s.events t.events
+  pub events : EventsGrow s.events t.events
   pub had : answers_in t.events + length t.answers ≡ answers_in s.events + length s.answers
   pub left : length t.answers ≤ length s.answers
 
@@ -59,7 +59,7 @@ change-along (Hears call answer left) s may =
     }
 change-along (OfLoop change) s may = along_as s _ refl refl
 change-along (MakesCoroutine coroutine arguments) s may = along_as s _ refl refl
-change-along (Stands standing task) s may = along_as s _ refl refl
+change-along (SetsResumePoint resume_point task) s may = along_as s _ refl refl
 change-along (Resumes fresh task input) s may = along_as s _ refl refl
 change-along (NamesFuture future) s may = along_as s _ refl refl
 change-along EndsMain s may = along_as s _ refl refl
@@ -75,7 +75,7 @@ change-turns added (Calls call) s may = turns-other s.events call may.other
 change-turns added (Hears call answer left) s may = turns-got (s.events ++ event.Called call ∷ []) answer ∙ turns-other s.events call may.other
 change-turns added (OfLoop change) s may = refl
 change-turns added (MakesCoroutine coroutine arguments) s may = refl
-change-turns added (Stands standing task) s may = refl
+change-turns added (SetsResumePoint resume_point task) s may = refl
 change-turns added (Resumes fresh task input) s may = refl
 change-turns added (NamesFuture future) s may = refl
 change-turns added EndsMain s may = refl
@@ -90,7 +90,7 @@ turned-turns limit added answer s =
 
 -- ---- where nothing is open, and what is added asks nothing, the outside isn't asked then
 pub record IsOn {S : Type 0} (s t : State S) : Type 0 where
-  pub events : GoesOn s.events t.events
+  pub events : EventsGrow s.events t.events
   pub turns : asks_in t.events ≡ asks_in s.events
   pub got : answers_in t.events ≡ answers_in s.events
 
@@ -122,7 +122,7 @@ change-on added nothing (Hears call answer left) s may closed = absurd (may.may_
 change-on added nothing (ChangesStreams streams) s may closed = absurd (may closed)
 change-on added nothing (OfLoop change) s may closed = (on_as s _ refl, closed)
 change-on added nothing (MakesCoroutine coroutine arguments) s may closed = (on_as s _ refl, closed)
-change-on added nothing (Stands standing task) s may closed = (on_as s _ refl, closed)
+change-on added nothing (SetsResumePoint resume_point task) s may closed = (on_as s _ refl, closed)
 change-on added nothing (Resumes fresh task input) s may closed = (on_as s _ refl, closed)
 change-on added nothing (NamesFuture future) s may closed = (on_as s _ refl, closed)
 change-on added nothing EndsMain s may closed = (on_as s _ refl, closed)
@@ -140,7 +140,7 @@ module _ {S : Type 0} (limit : ℕ) (added : Extra S) where
   turn-along : (s : State S) → IsAlong s (state_of (turn limit added s))
   turn-along s = fold IsAlong (λ t. along_as t t refl refl) along_then change-along (turn_row limit added s)
 
-  pub turn-grows : (s : State S) → GoesOn s.events (state_of (turn limit added s)).events
+  pub turn-grows : (s : State S) → EventsGrow s.events (state_of (turn limit added s)).events
   turn-grows s = (turn-along s).events
 
   pub turn-had : (s : State S)
@@ -225,14 +225,14 @@ module _ {S : Type 0} (limit : ℕ) (added : Extra S) where
       unless false = by s.answers
 
   -- ---- runs
-  pub run-grows : (allowed left : ℕ) (s : State S) → GoesOn s.events (run_on limit added allowed left s).events
+  pub run-grows : (allowed left : ℕ) (s : State S) → EventsGrow s.events (run_on limit added allowed left s).events
   unfolding run_on
   run-grows allowed zero s = goes_on_same s.events
   run-grows allowed (suc left) s = at (turn limit added s) (turn-grows s) (run-grows allowed left)
     where
-      at : (went : Went S) → GoesOn s.events (state_of went).events
-          → ((t : State S) → GoesOn t.events (run_on limit added allowed left t).events)
-          → GoesOn s.events (run_after (run_on limit added allowed left) went).events
+      at : (went : Went S) → EventsGrow s.events (state_of went).events
+          → ((t : State S) → EventsGrow t.events (run_on limit added allowed left t).events)
+          → EventsGrow s.events (run_after (run_on limit added allowed left) went).events
       at (Goes now) first rest = goes_on_then s.events now.events (run_on limit added allowed left now).events first (rest now)
       at (Stops how last) first rest = first
 

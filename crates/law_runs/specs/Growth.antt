@@ -5,8 +5,8 @@ use Rattle.model_wire.specs.Event.{Event}
 use Rattle.law_cases.specs.Trees.{is_select}
 
 -- events go on with more
-abbrev pub GoesOn : List Event → List Event → Type 0
-GoesOn old new = (more : List Event) × (new ≡ old ++ more)
+abbrev pub EventsGrow : List Event → List Event → Type 0
+EventsGrow old new = (more : List Event) × (new ≡ old ++ more)
 
 -- how many turns began: each selects first, and nothing else does
 abbrev pub turns_in : List Event → ℕ

@@ -13,14 +13,14 @@ ghost use Rattle.model_machine.specs.Turn.{is_stalled, turn};
 ghost use Rattle.model_machine.specs.Run.{run_on};
 ghost use Rattle.model_machine.specs.Went.{answers_in, state_of};
 ghost use Rattle.law_reach.specs.Asked.{WentAsks, asks_in};
-ghost use Rattle.law_runs.specs.Growth.{GoesOn, turns_in};
+ghost use Rattle.law_runs.specs.Growth.{EventsGrow, turns_in};
 
 /// What happened stays: a turn and a run only add events.
 pub fn what_happened_stays<S>()
     ensures turn { (limit : ℕ) (added : Extra S) (s : State S)
-        → GoesOn s.events (state_of (turn limit added s)).events }
+        → EventsGrow s.events (state_of (turn limit added s)).events }
     ensures run { (limit : ℕ) (added : Extra S) (allowed left : ℕ) (s : State S)
-        → GoesOn s.events (run_on limit added allowed left s).events }
+        → EventsGrow s.events (run_on limit added allowed left s).events }
 {}
 
 /// A turn selects once, unless nothing can come. Where nothing is open, and what is added asks

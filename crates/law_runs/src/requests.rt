@@ -17,7 +17,7 @@ ghost use Rattle.model_machine.specs.Sound.{IsStateSound, sends_made};
 ghost use Rattle.model_machine.specs.State.{Asked, Serving, State, generator_of, noted, stands, unbooked_in};
 ghost use Rattle.model_machine.specs.Step.{given_up, says_of, serve, step};
 ghost use Rattle.law_turns.specs.Fits.{HasNoOpenGroup};
-ghost use Rattle.law_turns.specs.Replied.{IsStanding};
+ghost use Rattle.law_turns.specs.Replied.{IsResumePoint};
 ghost use Rattle.law_replies.specs.Added.{KeepsSound};
 ghost use Rattle.law_replies.specs.InStep.{IsAsked, IsStepSound, LeavesStateSound, RepliesInStep};
 
@@ -30,21 +30,21 @@ pub fn a_step_begins_sound<S>()
         → s.loop.parts.pending ≡ handle ∷ rest → handle.dead ≡ false
         → steps task handle.action ≡ true → IsStateSound added s
         → lives s.loop.parts task ≡ true }
-    ensures standing { (added : Extra S) (s : State S) (task : ℕ) (handle : Handle)
+    ensures resume_point { (added : Extra S) (s : State S) (task : ℕ) (handle : Handle)
         (rest : List Handle)
         → s.loop.parts.pending ≡ handle ∷ rest → handle.dead ≡ false
         → steps task handle.action ≡ true → IsStateSound added s
-        → ((key : ℕ) → (generator_of task s).standing ≡ Serving key → ⊥)
-        → IsStanding (generator_of task s).standing s }
+        → ((key : ℕ) → (generator_of task s).resume_point ≡ Serving key → ⊥)
+        → IsResumePoint (generator_of task s).resume_point s }
     ensures asked { (added : Extra S) (s : State S) (task : ℕ) (input : Input) (handle : Handle)
         (rest : List Handle)
         → s.loop.parts.pending ≡ handle ∷ rest → handle.dead ≡ false
         → steps task handle.action ≡ true → IsStateSound added s
         → (asked : Request) → says_of step_limit added task s ≡ Asks asked →
         let gone = noted (Ran handle.action) (unbooked_in (λ p. record p { pending = rest }) s) in
-        let standing = (generator_of task s).standing in
-        let begun = begin_step task input (given_up standing gone.loop.parts) in
-        IsAsked added task standing asked (stands Asked task (unbooked_in
+        let resume_point = (generator_of task s).resume_point in
+        let begun = begin_step task input (given_up resume_point gone.loop.parts) in
+        IsAsked added task resume_point asked (stands Asked task (unbooked_in
         (λ p. begun.parts) gone)) }
     ensures answered { (added : Extra S) → KeepsSound added
         → (s : State S) (task : ℕ) (input : Input) (handle : Handle) (rest : List Handle)
@@ -52,10 +52,10 @@ pub fn a_step_begins_sound<S>()
         → steps task handle.action ≡ true → IsStateSound added s
         → sends_made (next_task s.loop.parts) input ≡ true →
         let gone = noted (Ran handle.action) (unbooked_in (λ p. record p { pending = rest }) s) in
-        let standing = (generator_of task s).standing in
-        let begun = begin_step task input (given_up standing gone.loop.parts) in
+        let resume_point = (generator_of task s).resume_point in
+        let begun = begin_step task input (given_up resume_point gone.loop.parts) in
         RepliesInStep added true task
-        (decides added standing task begun.input (stands Asked task (unbooked_in
+        (decides added resume_point task begun.input (stands Asked task (unbooked_in
         (λ p. begun.parts) gone))) }
     ensures woken { (added : Extra S) (s : State S) (task : ℕ) → IsStateSound added s
         → sends_made (next_task s.loop.parts) (woken_with s.loop.parts task) ≡ true }

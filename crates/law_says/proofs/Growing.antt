@@ -15,7 +15,7 @@ use Rattle.model_says.specs.Tape.{Resumed, Tape}
 use Rattle.law_says.proofs.Bodies.{course_here, course_extends}
 use Rattle.law_says.proofs.Ends.{extends_asks, all_answered, nothing_left}
 use Rattle.law_says.specs.Given.{AllOf, IsClosed, InInput, InTape, InSaying}
-use Rattle.law_says.specs.Opened.{EnteredBlock, entered_as, opened_with, opened_after, answered, opened, Leaves}
+use Rattle.law_says.specs.Opened.{EnteredBlock, entered_as, opened_with, opened_after, answered, opened, LeavesBlocks}
 use Rattle.law_says.proofs.Nesting.{opened_more, Well, WellAsked}
 use Rattle.law_says.proofs.BlockBodies.{course_well}
 
@@ -126,11 +126,11 @@ any_closed = record {
   held = λ items h. any_list (list_of items);
 }
 
-leaves_all : (it : Request) (blocks inner : List EnteredBlock) → blocks ≡ inner ++ [] → Leaves it inner → Leaves it blocks
-leaves_all it blocks inner e h = subst (Leaves it) (sym (e ∙ append-nil inner)) h
+leaves_all : (it : Request) (blocks inner : List EnteredBlock) → blocks ≡ inner ++ [] → LeavesBlocks it inner → LeavesBlocks it blocks
+leaves_all it blocks inner e h = subst (LeavesBlocks it) (sym (e ∙ append-nil inner)) h
 
 innermost : (ending : Ending) (it : Request) → Well Any any_closed [] ending → saying_of ending ≡ Asks it
-    → Leaves it (opened_after (progress_of ending).exchanges)
+    → LeavesBlocks it (opened_after (progress_of ending).exchanges)
 innermost (Stopped saying at) it well is =
     let h = subst (WellAsked Any any_closed [] (opened_after at.exchanges)) is well in leaves_all it (opened_after at.exchanges) h.0 h.1 h.2
 innermost (Passes at) it well is = absurd (nil≢cons (ap waiting is))
@@ -165,7 +165,7 @@ module _ (limit : ℕ) (program : Program) (place : ℕ) (arguments : List Value
   well = course_well Any any_closed limit program place arguments tape (any_list arguments) (any_tape tape)
 
   pub leaves_innermost : (it : Request) → saying_of (course limit program place arguments tape) ≡ Asks it
-      → Leaves it (opened limit program place arguments tape)
+      → LeavesBlocks it (opened limit program place arguments tape)
   leaves_innermost it is = innermost (course limit program place arguments tape) it well is
 
   pub over_returned : (value : Value) → saying_of (course limit program place arguments tape) ≡ Returns value

@@ -9,13 +9,13 @@ use Rattle.model_value.specs.Request.{Request}
 use Rattle.model_value.specs.Value.{Value, Truth, Exc}
 use Rattle.model_tree.specs.Syntax.{Expr, Exprs, Manager, GroupBlock, TimeoutBlock}
 use Rattle.model_says.specs.Expressions.{value_of, values_of}
-use Rattle.model_says.specs.Operations.{ValueOrFault, bad_operand}
+use Rattle.model_says.specs.Operations.{ValueOrException, bad_operand}
 use Rattle.model_says.specs.Tape.{Resumed, Tape}
 use Rattle.model_says.specs.Endings.{Saying, Asks, Runaway, Exchange, Progress, Ending, Passes, Returned, Raised, Stopped, Next, routed, given, valued}
 use Rattle.model_says.specs.Endings.{all_valued, chosen, decided, begun, begun_with, resumed_by, taken, asked_of, ask}
 use Rattle.model_says.specs.Says.{exit_of, managed, exited}
 use Rattle.law_says.specs.Given.{AllOf, IsClosed, InInput, InTape, InRequest}
-use Rattle.law_says.specs.Opened.{EnteredBlock, OfTimeout, OfGroup, opened_with, opened_after, Leaves}
+use Rattle.law_says.specs.Opened.{EnteredBlock, OfTimeout, OfGroup, opened_with, opened_after, LeavesBlocks}
 use Rattle.law_says.proofs.Values.{InEnv, InAnswer, InRow, in_value, in_values}
 
 pub opened_more : (exchanges : List Exchange) (asked : Request) (answer : Input)
@@ -23,7 +23,7 @@ pub opened_more : (exchanges : List Exchange) (asked : Request) (answer : Input)
 opened_more exchanges asked answer =
     fold-append (λ (blocks : List EnteredBlock) (exchange : Exchange). opened_with blocks exchange.request exchange.answer) [] exchanges _
 
-leaves_more : (asked : Request) (inner outer : List EnteredBlock) → Leaves asked inner → Leaves asked (inner ++ outer)
+leaves_more : (asked : Request) (inner outer : List EnteredBlock) → LeavesBlocks asked inner → LeavesBlocks asked (inner ++ outer)
 leaves_more (request.TimeoutExit timeout fault) inner outer h = (h.0 ++ outer, ap (λ b. b ++ outer) h.1)
 leaves_more (request.GroupExit group fault) inner outer h = (h.0 ++ outer, ap (λ b. b ++ outer) h.1)
 leaves_more _ inner outer h = tt
@@ -35,7 +35,7 @@ module _ (P : Value → Type 0) (closed : IsClosed P) where
 
   abbrev pub WellAsked : List EnteredBlock → List EnteredBlock → Saying → Type 0
   WellAsked outer blocks (Asks asked) =
-      (inner : List EnteredBlock) × (blocks ≡ inner ++ outer) × Leaves asked inner × InRequest P asked
+      (inner : List EnteredBlock) × (blocks ≡ inner ++ outer) × LeavesBlocks asked inner × InRequest P asked
   WellAsked outer blocks Runaway = Unit {0}
   WellAsked outer blocks _ = ⊥
 
@@ -61,7 +61,7 @@ module _ (P : Value → Type 0) (closed : IsClosed P) where
 
   -- ---- expressions
   module _ (next : Value → Next) (each : (value : Value) → P value → IsWell (next value)) where
-    pub well_given : (answer : ValueOrFault) → InAnswer P closed answer → IsWell (given next answer)
+    pub well_given : (answer : ValueOrException) → InAnswer P closed answer → IsWell (given next answer)
     well_given (Ok value) good = each value good
     well_given (Err fault) good = well_raised fault
 
@@ -98,7 +98,7 @@ module _ (P : Value → Type 0) (closed : IsClosed P) where
 
     -- one that enters no block and leaves none
     pub well_ask : (asked : Request) (next : Value → Next) → ((blocks : List EnteredBlock) (input : Input) → opened_with blocks asked input ≡ blocks)
-        → Leaves asked [] → InRequest P asked → ((value : Value) → P value → IsWell (next value)) → IsWell (ask limit asked next)
+        → LeavesBlocks asked [] → InRequest P asked → ((value : Value) → P value → IsWell (next value)) → IsWell (ask limit asked next)
     well_ask asked next plain none good each now clean = at now.tape refl
       where
         at : (tape : Tape) → now.tape ≡ tape → Well (opened_after now.exchanges) (asked_of limit asked next tape now)
@@ -113,7 +113,7 @@ module _ (P : Value → Type 0) (closed : IsClosed P) where
     pub well_enter : (asked : Request) (block : Value → EnteredBlock) (body : Value → Next)
         → ((blocks : List EnteredBlock) (value : Value) → opened_with blocks asked (Send value) ≡ block value ∷ blocks)
         → ((blocks : List EnteredBlock) (fault : Exc) → opened_with blocks asked (Throw fault) ≡ blocks)
-        → Leaves asked [] → InRequest P asked
+        → LeavesBlocks asked [] → InRequest P asked
         → ((value : Value) → P value → (now : Progress) → Clean now → (blocks : List EnteredBlock) → opened_after now.exchanges ≡ block value ∷ blocks
         → Well blocks (body value now)) → IsWell (ask limit asked body)
     well_enter asked block body enters stays none good each now clean = at now.tape refl
@@ -140,7 +140,7 @@ module _ (P : Value → Type 0) (closed : IsClosed P) where
     block_of GroupBlock value = OfGroup value
     block_of (TimeoutBlock delay) value = OfTimeout value
 
-    exit_leaves : (manager : Manager) (value : Value) (fault : Option Exc) → Leaves (exit_of manager value fault) (block_of manager value ∷ [])
+    exit_leaves : (manager : Manager) (value : Value) (fault : Option Exc) → LeavesBlocks (exit_of manager value fault) (block_of manager value ∷ [])
     exit_leaves GroupBlock value fault = ([], refl)
     exit_leaves (TimeoutBlock delay) value fault = ([], refl)
 

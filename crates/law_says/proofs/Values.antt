@@ -18,7 +18,7 @@ use Rattle.model_tree.specs.declared.function.Function.TheVariants as function
 use Rattle.model_tree.specs.Syntax.{Name, Constant, NoneConstant, TruthConstant, IntConstant, TextConstant, BytesConstant, Expr, Or, And, Not, Compare}
 use Rattle.model_tree.specs.Syntax.{Calculate, Negate, Index, Literal, Variable, ListOf, Apply, MakeError, Exprs, no_exprs, expr_then}
 use Rattle.model_says.specs.Expressions.{constant_value, of_one, of_two, either, both, in_order, list_made, value_of, values_of}
-use Rattle.model_says.specs.Operations.{ValueOrFault, bounded, fits, number, truth, negation, divided, repeated_if, repeated, sum, difference, product}
+use Rattle.model_says.specs.Operations.{ValueOrException, bounded, fits, number, truth, negation, divided, repeated_if, repeated, sum, difference, product}
 use Rattle.model_says.specs.Operations.{quotient, remainder, calculated, negative, order, ordered, compared, item_at, found, byte_value, indexed, decoded}
 use Rattle.model_says.specs.Operations.{applied, error_made, not_utf8, heaviest, deepest, out_of_range, times, floor_quotient, floor_remainder}
 use Rattle.model_says.specs.Variables.{Env, held, assigned, bound}
@@ -79,7 +79,7 @@ module _ (P : Value → Type 0) (closed : IsClosed P) where
   in_bound (name ∷ names) (value ∷ arguments) a = (a.0, in_bound names arguments a.1)
 
   -- ---- operations
-  abbrev pub InAnswer : ValueOrFault → Type 0
+  abbrev pub InAnswer : ValueOrException → Type 0
   InAnswer (Ok value) = P value
   InAnswer (Err fault) = Unit {0}
 
@@ -211,23 +211,24 @@ module _ (P : Value → Type 0) (closed : IsClosed P) where
   in_constant (TextConstant bytes) = closed.text bytes
   in_constant (BytesConstant bytes) = closed.bytes bytes
 
-  in_one : (operation : Value → ValueOrFault) (a : ValueOrFault) → ((v : Value) → P v → InAnswer (operation v)) → InAnswer a → InAnswer (of_one operation a)
+  in_one : (operation : Value → ValueOrException) (a : ValueOrException) → ((v : Value) → P v → InAnswer (operation v)) → InAnswer a
+      → InAnswer (of_one operation a)
   in_one operation (Ok value) each good = each value good
   in_one operation (Err fault) each good = tt
 
-  in_two : (operation : Value → Value → ValueOrFault) (a b : ValueOrFault) → ((v w : Value) → P v → P w → InAnswer (operation v w))
+  in_two : (operation : Value → Value → ValueOrException) (a b : ValueOrException) → ((v w : Value) → P v → P w → InAnswer (operation v w))
       → InAnswer a → InAnswer b → InAnswer (of_two operation a b)
   in_two operation (Ok value) b each good good' = in_one (operation value) b (λ w h. each value w good h) good'
   in_two operation (Err fault) b each good good' = tt
 
-  in_either : (a b : ValueOrFault) → InAnswer (either a b)
+  in_either : (a b : ValueOrException) → InAnswer (either a b)
   in_either (Ok (Truth true)) b = closed.truth true
   in_either (Ok (Truth false)) (Ok value) = in_truth value
   in_either (Ok (Truth false)) (Err fault) = tt
   in_either (Ok _) b = tt
   in_either (Err fault) b = tt
 
-  in_both : (a b : ValueOrFault) → InAnswer (both a b)
+  in_both : (a b : ValueOrException) → InAnswer (both a b)
   in_both (Ok (Truth true)) (Ok value) = in_truth value
   in_both (Ok (Truth true)) (Err fault) = tt
   in_both (Ok (Truth false)) b = closed.truth false
@@ -238,7 +239,7 @@ module _ (P : Value → Type 0) (closed : IsClosed P) where
   InRow (Ok items) = AllOf P items
   InRow (Err fault) = Unit {0}
 
-  in_order_row : (a : ValueOrFault) (row : Result (List Value) Exc) → InAnswer a → InRow row → InRow (in_order a row)
+  in_order_row : (a : ValueOrException) (row : Result (List Value) Exc) → InAnswer a → InRow row → InRow (in_order a row)
   in_order_row (Ok value) (Ok items) good all = (good, all)
   in_order_row (Ok value) (Err fault) good all = tt
   in_order_row (Err fault) row good all = tt

@@ -38,7 +38,7 @@ abbrev pub opened : (limit : ℕ) → Program → (place : ℕ) → List Value �
 opened limit program place arguments tape = opened_after (answered limit program place arguments tape)
 
 -- An exit is that of the block that is innermost among these, with what its entry was answered. Any other request leaves none.
-abbrev pub Leaves : Request → List EnteredBlock → Type 0
-Leaves (TimeoutExit timeout fault) blocks = (outer : List EnteredBlock) × (blocks ≡ OfTimeout timeout ∷ outer)
-Leaves (GroupExit group fault) blocks = (outer : List EnteredBlock) × (blocks ≡ OfGroup group ∷ outer)
-Leaves request blocks = Unit {0}
+abbrev pub LeavesBlocks : Request → List EnteredBlock → Type 0
+LeavesBlocks (TimeoutExit timeout fault) blocks = (outer : List EnteredBlock) × (blocks ≡ OfTimeout timeout ∷ outer)
+LeavesBlocks (GroupExit group fault) blocks = (outer : List EnteredBlock) × (blocks ≡ OfGroup group ∷ outer)
+LeavesBlocks request blocks = Unit {0}

@@ -8,7 +8,7 @@ ghost use Rattle.model_says.specs.Endings.{Asks, Returns, Raises, saying_of};
 ghost use Rattle.model_says.specs.Says.{course, step_limit};
 ghost use Rattle.model_says.specs.Tape.{Resumed, Tape};
 ghost use Rattle.law_says.specs.Given.{AllOf, IsIn, IsClosed, InTape, InSaying};
-ghost use Rattle.law_says.specs.Opened.{entered_as, opened_with, answered, opened, Leaves};
+ghost use Rattle.law_says.specs.Opened.{entered_as, opened_with, answered, opened, LeavesBlocks};
 
 /// An exit is asked only of the block that is open innermost, with what its entry was answered, and
 /// it is the exit that belongs to that entry.
@@ -16,7 +16,7 @@ pub fn exits_are_of_the_innermost_block()
     ensures { (limit : ℕ) (program : Program) (place : ℕ) (arguments : List Value) (tape : Tape)
         (asked : Request)
         → saying_of (course limit program place arguments tape) ≡ Asks asked
-        → Leaves asked (opened limit program place arguments tape) }
+        → LeavesBlocks asked (opened limit program place arguments tape) }
 {}
 
 /// An input answers the request that waited. So a block is open from the value that its entry is

@@ -5,11 +5,11 @@ use Rattle.std.proofs.lemmas.List.Elements.{All-nil}
 use Rattle.std.proofs.lemmas.Option.{none-some}
 use Rattle.model_value.specs.declared.action.Action.TheVariants.{MainDone}
 use Rattle.model_loop.specs.Children.{IsTold}
-use Rattle.model_loop.specs.Circles.{at_once, through}
+use Rattle.model_loop.specs.Cycles.{at_once, through}
 use Rattle.model_loop.specs.Groups.{new_group}
 use Rattle.model_loop.specs.Loop.{Loop, in_parts}
 use Rattle.model_loop.specs.Numbered.{AreGivenOnce}
-use Rattle.model_loop.specs.Sound.{HasNoCircle, IsSound}
+use Rattle.model_loop.specs.Sound.{HasNoCycle, IsSound}
 use Rattle.model_loop.specs.Start.{first_loop, no_parts}
 use Rattle.model_loop.specs.Tasks.{spawn}
 use Rattle.law_sound.proofs.Registering.{register_step_sound}
@@ -19,9 +19,9 @@ use Rattle.law_sound.proofs.Steps.{spawn_step_sound}
 none_given : AreGivenOnce [] 0
 none_given = record { once = λ k. omega arith; below = λ k h. refl }
 
-no_circle : HasNoCircle no_parts
-no_circle id (at_once e) = absurd (false≢true e)
-no_circle id (through next e l) = absurd (false≢true e)
+no_cycle : HasNoCycle no_parts
+no_cycle id (at_once e) = absurd (false≢true e)
+no_cycle id (through next e l) = absurd (false≢true e)
 
 none_told : (id : ℕ) → IsTold no_parts id [] (new_group 0)
 none_told id = record {
@@ -43,7 +43,7 @@ no_loop = record { parts = no_parts; timeouts = []; groups = []; ledger = [] }
 pub no_loop_sound : IsSound None nobody no_loop
 no_loop_sound = record {
   numbered = record { stamps = none_given; tags = none_given; members = λ id. All-nil (λ member. member < id) };
-  no_circle = no_circle;
+  no_cycle = no_cycle;
   parts = record {
     owns = λ id task. (λ h. absurd (none-some task h), λ h. absurd (none-some id h));
     settled = λ id h. refl;
@@ -57,7 +57,7 @@ no_loop_sound = record {
       stays = λ task on l w h. absurd (none-some on w);
     };
     ready = record { free = λ task h. refl; woken = λ task h. absurd (omega (arith, h)) };
-    marks = λ task l m. absurd (false≢true m);
+    must_cancel = λ task l m. absurd (false≢true m);
   };
   timed = record { timers = refl; sleeps = λ id h. absurd (omega (arith, h)) };
   timeouts = λ id. record {

@@ -1,4 +1,4 @@
--- What each step of the loop carries on: what is numbered, that no circle is, what is called and scheduled.
+-- What each step of the loop carries on: what is numbered, that no cycle is, what is called and scheduled.
 use Rattle.std.proofs.Common.{◌≡◌, ℕ, List, None, Option, Some, [], ap, arith, false, inl, inr, length, not, refl, slice_get, sym, true}
 use Rattle.std.proofs.Common.{◌&&◌, ◌∙◌, ◌∷◌, ◌⊎◌}
 use Rattle.model_loop.specs.Parts.{Future, FutureKind, Handle, OfTask, Parts, Plain, Task}
@@ -24,13 +24,13 @@ use Rattle.law_changes.proofs.Numbering.{change_task_numbers, mark_asked_numbers
 use Rattle.model_loop.specs.Loop.{Group, Loop, book}
 use Rattle.model_loop.specs.Cancel.{cancel}
 use Rattle.model_value.specs.Action.{Action}
-use Rattle.model_loop.specs.Circles.{passes, passes_at}
-use Rattle.law_steps.proofs.Looks.{LooksSame, change_looks_same, same_callbacks, same_no_circle}
-use Rattle.law_steps.proofs.Passing.{no_circle_more, same_tasks_no_circle, settle_no_circle}
-use Rattle.law_cancel.proofs.Circling.{no_circle_kept, passes-same, register-view}
+use Rattle.model_loop.specs.Cycles.{passes, passes_at}
+use Rattle.law_steps.proofs.Looks.{LooksSame, change_looks_same, same_callbacks, same_no_cycle}
+use Rattle.law_steps.proofs.Passing.{no_cycle_more, same_tasks_no_cycle, settle_no_cycle}
+use Rattle.law_cancel.proofs.Cycling.{no_cycle_kept, passes-same, register-view}
 use Rattle.law_groups.specs.Tags.{IsQuiet, is_deadline}
 use Rattle.law_steps.specs.Frames.{taken}
-use Rattle.law_changes.specs.Blocks.{OfRequest, cancels, keeps_asked, counts, marks}
+use Rattle.law_changes.specs.Blocks.{OfRequest, cancels, keeps_asked, counts, sets_must_cancel}
 use Rattle.law_changes.specs.Blocks.{OfGroup, changes, aborts, waits, wakes, OfTold, in_told, requests, OfTaking, in_taking, takes, OfEnding}
 use Rattle.law_changes.specs.Blocks.{in_ending}
 use Rattle.law_changes.specs.Blocks.{asks, ends, OfCreating, in_creating, spawns, registers}
@@ -47,12 +47,12 @@ use Rattle.model_value.specs.Input.{Input}
 use Rattle.model_value.specs.declared.outcome.Outcome.TheVariants.{Value as Returned, Cancelled}
 use Rattle.std.proofs.lemmas.Bool.{cases_eq}
 use Rattle.std.proofs.lemmas.Option.{slice_get_past}
-use Rattle.model_loop.specs.Sound.{HasNoCircle}
+use Rattle.model_loop.specs.Sound.{HasNoCycle}
 use Rattle.model_value.specs.declared.action.Action.TheVariants.{GroupDone}
 
 pub record Carries (p q : Parts) : Type 0 where
   pub numbered : IsNumbered p → IsNumbered q
-  pub circle : HasNoCircle p → HasNoCircle q
+  pub cycle : HasNoCycle p → HasNoCycle q
   pub callbacks : AreCallbacks p → AreCallbacks q
   pub quiet : AreCallbacks p → IsQuiet p q
   pub plains : (id : ℕ) → is_plain p id ≡ true → is_plain q id ≡ true
@@ -60,7 +60,7 @@ pub record Carries (p q : Parts) : Type 0 where
 pub refl_carries : (p : Parts) → Carries p p
 refl_carries p = record {
   numbered = λ h. h;
-  circle = λ h. h;
+  cycle = λ h. h;
   callbacks = λ h. h;
   quiet = λ h. refl_quiet p;
   plains = λ id h. h;
@@ -69,7 +69,7 @@ refl_carries p = record {
 pub carries_on : (p q r : Parts) → Carries q r → Carries p q → Carries p r
 carries_on p q r b a = record {
   numbered = λ h. b.numbered (a.numbered h);
-  circle = λ h. b.circle (a.circle h);
+  cycle = λ h. b.cycle (a.cycle h);
   callbacks = λ h. b.callbacks (a.callbacks h);
   quiet = λ h. quiet_on p q r (b.quiet (a.callbacks h)) (a.quiet h);
   plains = λ id h. b.plains id (a.plains id h);
@@ -79,7 +79,7 @@ carries_on p q r b a = record {
 pub looks_carries : (p q : Parts) → LooksSame p q → (IsNumbered p → IsNumbered q) → IsQuiet p q → Carries p q
 looks_carries p q s numbered quiet = record {
   numbered = numbered;
-  circle = same_no_circle p q s;
+  cycle = same_no_cycle p q s;
   callbacks = same_callbacks p q s;
   quiet = λ h. quiet;
   plains = λ id h. s.plains id ∙ h;
@@ -97,7 +97,7 @@ uncancel_carries task p = change_carries task _ p (λ t. refl) (λ t. refl)
 pub settle_carries : (id : ℕ) (outcome : Outcome) (p : Parts) → Carries p (settle id outcome p)
 settle_carries id outcome p = record {
   numbered = settle_numbers id outcome p;
-  circle = settle_no_circle id outcome p;
+  cycle = settle_no_cycle id outcome p;
   callbacks = λ h. settle_cases AreCallbacks id outcome p h (λ q s. settled_callbacks id p q s h);
   quiet = settle_quiet id outcome p;
   plains = λ j h. settle_cases (λ q. is_plain q j ≡ true) id outcome p h (λ q s. (settled_names id p q s).plains j ∙ h);
@@ -107,7 +107,7 @@ request_carries : (change : PartsChange) (p : Parts) → OfRequest change p → 
 request_carries _ p (cancels future) = settle_carries future Cancelled p
 request_carries _ p (keeps_asked future) = looks_carries p _ (asked_looks future p) (mark_asked_numbers future p) (mark_asked_quiet future p)
 request_carries _ p (counts task) = change_carries task _ p (λ t. refl) (λ t. refl)
-request_carries _ p (marks task) = change_carries task _ p (λ t. refl) (λ t. refl)
+request_carries _ p (sets_must_cancel task) = change_carries task _ p (λ t. refl) (λ t. refl)
 
 requests_carry : {p q : Parts} → Reaches made_of_parts OfRequest p q → Carries p q
 requests_carry row = fold Carries refl_carries (λ p q r a b. carries_on p q r b a) request_carries row
@@ -122,7 +122,7 @@ each_carries by tasks p = requests_carry (each_in by tasks p)
 pub soon_carries : (action : Action) (p : Parts) → is_deadline action ≡ false → Carries p (soon action p)
 soon_carries action p other = record {
   numbered = soon_numbers action p;
-  circle = same_tasks_no_circle p (soon action p) refl refl;
+  cycle = same_tasks_no_cycle p (soon action p) refl refl;
   callbacks = λ h. h;
   quiet = λ h. soon_quiet action p other;
   plains = λ id h. h;
@@ -132,7 +132,7 @@ pub taken_carries : (handle : Handle) (rest : List Handle) (p : Parts) → p.pen
     → ((id : ℕ) → (not handle.dead && fires id handle.action) ≡ false) → Carries p (taken rest p)
 taken_carries handle rest p first none = record {
   numbered = taken_numbers handle rest p first;
-  circle = same_tasks_no_circle p (taken rest p) refl refl;
+  cycle = same_tasks_no_cycle p (taken rest p) refl refl;
   callbacks = λ h. h;
   quiet = λ h. taken_quiet handle rest p first none;
   plains = λ id h. h;
@@ -161,8 +161,8 @@ module _ (p : Parts) where
   made_callbacks : (kind : FutureKind) → AreCallbacks p → AreCallbacks (make_future kind p)
   made_callbacks kind are j = made_view (λ o. count_by is_no_callback (callbacks_at o)) kind refl j ∙ are j
 
-  plain_circle : HasNoCircle p → HasNoCircle (new_plain p)
-  plain_circle none = no_circle_more p (new_plain p) (λ x. at x (cases_eq x (length p.futures))) (λ t. inl refl) none
+  plain_cycle : HasNoCycle p → HasNoCycle (new_plain p)
+  plain_cycle none = no_cycle_more p (new_plain p) (λ x. at x (cases_eq x (length p.futures))) (λ t. inl refl) none
     where
       at : (x : ℕ) → (x ≡ length p.futures) ⊎ (x ≡ length p.futures → ⊥)
           → (slice_get (new_plain p).futures x ≡ slice_get p.futures x) ⊎ (passes (new_plain p) x ≡ [])
@@ -172,7 +172,7 @@ module _ (p : Parts) where
   pub plain_carries : Carries p (new_plain p)
   plain_carries = record {
     numbered = new_plain_numbers p;
-    circle = plain_circle;
+    cycle = plain_cycle;
     callbacks = made_callbacks Plain;
     quiet = λ h. make_quiet Plain p;
     plains = plain_kept Plain;
@@ -188,8 +188,8 @@ module _ (p : Parts) where
           (slice_get_past p.tasks (length p.tasks) (omega arith)))
       go (inr n) = ap (λ (o : Option Task). option_map_or (λ (x : Task). x.waiter) o None) (get-push_other p.tasks _ t n)
 
-  spawn_circle : HasNoCircle p → HasNoCircle (spawn p)
-  spawn_circle none = no_circle_more p (spawn p) (λ x. at x (cases_eq x (length p.futures))) (λ t. inl (spawned_waiter t)) none
+  spawn_cycle : HasNoCycle p → HasNoCycle (spawn p)
+  spawn_cycle none = no_cycle_more p (spawn p) (λ x. at x (cases_eq x (length p.futures))) (λ t. inl (spawned_waiter t)) none
     where
       free : waiter_of (spawn p) (length p.tasks) ≡ None
       free = ap (λ (o : Option Task). option_map_or (λ (x : Task). x.waiter) o None) (get-push_last p.tasks _)
@@ -204,7 +204,7 @@ module _ (p : Parts) where
   pub spawn_carries : Carries p (spawn p)
   spawn_carries = record {
     numbered = spawn_numbers p;
-    circle = spawn_circle;
+    cycle = spawn_cycle;
     callbacks = made_callbacks (OfTask (length p.tasks));
     quiet = λ h. spawn_quiet p;
     plains = plain_kept (OfTask (length p.tasks));
@@ -215,7 +215,7 @@ pub register_carries : (id : ℕ) (action : Action) (p : Parts) → is_callback 
     → Carries p (register id action p)
 register_carries id action p ok other = record {
   numbered = register_numbers id action p;
-  circle = no_circle_kept p (register id action p) (λ x. passes-same p (register id action p) x
+  cycle = no_cycle_kept p (register id action p) (λ x. passes-same p (register id action p) x
       (register-view (λ o. passes_at o x p) (λ f a. refl) id action p x)
       (λ t. ap (λ (ts : List Task). option_map_or (λ (it : Task). it.waiter) (slice_get ts t) None) (register-tasks id action p)));
   callbacks = register_callbacks id action p ok;

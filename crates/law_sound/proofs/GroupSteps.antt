@@ -57,7 +57,7 @@ pub child_done_step_sound : (told : ℕ → List ℕ) (id task : ℕ) (handle : 
 child_done_step_sound told id task handle rest l first live action s =
     build None (told_more told id task) (child_done id task l0) (record {
       numbered = kept.parts.numbered s.numbered;
-      no_circle = kept.parts.circle s.no_circle;
+      no_cycle = kept.parts.cycle s.no_cycle;
       timed = timed_kept l.parts (child_done id task l0).parts quiet.times kept.parts.plains s.timed;
       tags = λ j. subst (λ (ts : List Timeout). HasTag (child_done id task l0).parts j (slice_index_or ts j no_timeout)) (sym kept.timeouts)
           (tag_kept l.parts (child_done id task l0).parts quiet.tags j (timeout_of l j) (s.timeouts j));

@@ -19,9 +19,9 @@ use Rattle.law_sound.proofs.Carrying.{Carries, LoopCarries, book_loop, cancel_ca
 use Rattle.law_sound.proofs.Carrying.{plain_carries, settle_carries, soon_carries, spawn_carries, taken_carries, uncancel_carries}
 use Rattle.model_loop.specs.Loop.{Loop, Timeout, book, in_parts}
 use Rattle.model_value.specs.Action.{Action}
-use Rattle.model_loop.specs.Tasks.{begin_step, cancelling, change_task, finish, future_of, next_task, pause, set_waiter, spawn, uncancel, unmark}
+use Rattle.model_loop.specs.Tasks.{begin_step, cancelling, change_task, finish, future_of, next_task, pause, set_waiter, spawn, uncancel, clear_must_cancel}
 use Rattle.model_loop.specs.Parts.{Future, Handle, Many, Parts, Plain, Task, Timer}
-use Rattle.model_loop.specs.Sound.{HasNoCircle, IsSound}
+use Rattle.model_loop.specs.Sound.{HasNoCycle, IsSound}
 use Rattle.law_groups.proofs.StepHolds.{suspend_names, suspend_holds, begin_holds, finish_holds, pause_holds}
 use Rattle.model_loop.specs.Children.{IsOrderly}
 use Rattle.model_loop.specs.Entries.{AreTimed, ends_sleep_on, entries, no_sleep_as, timers_where, untimed}
@@ -35,7 +35,7 @@ use Rattle.law_steps.specs.Frames.{Follows, is_followed, taken}
 use Rattle.model_loop.specs.Futures.{is_pending, new_many, new_plain, next_future, settle}
 use Rattle.std.proofs.lemmas.Bool.{cases_eq, eq-eqb, ne_eqb}
 use Rattle.model_loop.specs.Suspend.{suspend}
-use Rattle.law_steps.proofs.Passing.{begin_no_circle, make_no_circle, same_tasks_no_circle}
+use Rattle.law_steps.proofs.Passing.{begin_no_cycle, make_no_cycle, same_tasks_no_cycle}
 use Rattle.model_loop.specs.Owning.{is_plain, is_plain_at}
 use Rattle.law_groups.specs.Holds.{Holds}
 use Rattle.law_steps.proofs.Making.{plain_old}
@@ -47,7 +47,7 @@ use Rattle.law_cancel.proofs.Effects.{change_task-futures, settle-tasks}
 use Rattle.model_value.specs.Value.{Exc, Outcome, Value}
 use Rattle.std.proofs.lemmas.List.Sums.{sum_by_push}
 use Rattle.law_groups.proofs.Revoking.{revoke_times, sleep_looks_same, sleep_tags}
-use Rattle.law_cancel.proofs.Circling.{suspend_makes_none}
+use Rattle.law_cancel.proofs.Cycling.{suspend_makes_none}
 use Rattle.model_loop.specs.Groups.{group_of}
 use Rattle.law_groups.proofs.Due.{due-tasks, due_looks_same, due_quiet}
 use Rattle.law_changes.proofs.StepNumbers.{begin_step_numbers, suspend_numbers}
@@ -78,7 +78,7 @@ tells_of running told l s = record { timeouts = s.balance.timeouts; groups = s.b
 -- what the parts of a state after a step have to say
 pub record SoundParts (q : Loop) : Type 0 where
   pub numbered : IsNumbered q.parts
-  pub no_circle : HasNoCircle q.parts
+  pub no_cycle : HasNoCycle q.parts
   pub timed : AreTimed q.parts
   pub tags : (id : ℕ) → HasTag q.parts id (timeout_of q id)
 
@@ -86,7 +86,7 @@ pub build : (running : Option ℕ) (told : ℕ → List ℕ) (q : Loop) → Soun
     → ((id : ℕ) → IsOrderly (group_of q id)) → TasksBalance q → Tells q → IsSound running told q
 build running told q r h orderly tasks tells = record {
   numbered = r.numbered;
-  no_circle = r.no_circle;
+  no_cycle = r.no_cycle;
   parts = h.parts;
   timed = r.timed;
   timeouts = r.tags;
@@ -103,7 +103,7 @@ build running told q r h orderly tasks tells = record {
 pub rest_of : (running : Option ℕ) (told : ℕ → List ℕ) (l q : Loop) → IsSound running told l → LoopCarries l q → SoundParts q
 rest_of running told l q s c = record {
   numbered = c.parts.numbered s.numbered;
-  no_circle = c.parts.circle s.no_circle;
+  no_cycle = c.parts.cycle s.no_cycle;
   timed = timed_kept l.parts q.parts quiet.times c.parts.plains s.timed;
   tags = λ id. subst (λ (ts : List Timeout). HasTag q.parts id (slice_index_or ts id no_timeout)) (sym c.timeouts)
       (tag_kept l.parts q.parts quiet.tags id (timeout_of l id) (s.timeouts id));
@@ -225,7 +225,7 @@ pub later_step_sound : (running : Option ℕ) (told : ℕ → List ℕ) (when ta
 later_step_sound running told when task future l plain s =
     build running told q (record {
       numbered = later_numbers when (SleepDone task future) l.parts s.numbered;
-      no_circle = same_tasks_no_circle l.parts q.parts refl refl s.no_circle;
+      no_cycle = same_tasks_no_cycle l.parts q.parts refl refl s.no_cycle;
       timed = record { timers = timers; sleeps = sleeps };
       tags = λ id. tag_kept l.parts q.parts tags id (timeout_of l id) (s.timeouts id);
     }) (looks_holds running running told told (group_of l) l.parts q.parts (handles_look_same l.parts q.parts refl refl (λ test f. refl))
@@ -274,7 +274,7 @@ pub begin_step_sound : (told : ℕ → List ℕ) (task : ℕ) (input : Input) (h
 begin_step_sound told task input handle rest l first live mine s =
     parts_sound None (Some task) told l (begin_step task input (taken rest l.parts)).parts s (record {
       numbered = λ n. begin_step_numbers task input (taken rest l.parts) (taken_numbers handle rest l.parts first n);
-      circle = λ n. begin_no_circle task input (taken rest l.parts) (same_tasks_no_circle l.parts (taken rest l.parts) refl refl n);
+      cycle = λ n. begin_no_cycle task input (taken rest l.parts) (same_tasks_no_cycle l.parts (taken rest l.parts) refl refl n);
       callbacks = λ a. begun.parts.callbacks;
       quiet = λ a. begin_quiet task input handle rest l.parts first mine;
       plains = λ id h. ap (λ (fs : List Future). is_plain_at (slice_get fs id)) futures ∙ h;
@@ -284,7 +284,7 @@ begin_step_sound told task input handle rest l first live mine s =
     begun : Holds (Some task) (Some task) told told (group_of l) (begin_step task input (taken rest l.parts)).parts
     begun = begin_holds told told (group_of l) task input handle rest l.parts first live mine (holds_of None told l s)
 
-    futures : (unmark task (set_waiter task None (taken rest l.parts))).futures ≡ l.parts.futures
+    futures : (clear_must_cancel task (set_waiter task None (taken rest l.parts))).futures ≡ l.parts.futures
     futures =
         change_task-futures task _ (set_waiter task None (taken rest l.parts)) ∙ change_task-futures task _ (taken rest l.parts)
 
@@ -298,7 +298,7 @@ pub suspend_step_sound : (told : ℕ → List ℕ) (task on : ℕ) (l : Loop) �
 suspend_step_sound told task on l here s =
     booked_sound (Some task) None told (suspend task on) l s (record {
       numbered = suspend_numbers task on l.parts;
-      circle = λ n. suspend_makes_none task on l.parts s.parts.owns n;
+      cycle = λ n. suspend_makes_none task on l.parts s.parts.owns n;
       callbacks = λ a. waits.parts.callbacks;
       quiet = suspend_quiet task on l.parts;
       plains = λ id h. (suspend_names told told (group_of l) task on l.parts here (holds_of (Some task) told l s)).plains id ∙ h;
@@ -317,12 +317,12 @@ finish_step_sound told task end l free s =
     carried : (end : Result Value Exc) → Carries l.parts (finish task end l.parts)
     carried (Err fault) = settle_carries (future_of l.parts task) _ l.parts
     carried (Ok value) =
-        carries_on l.parts (unmark task l.parts) _ (settle_carries (future_of l.parts task) _ (unmark task l.parts))
+        carries_on l.parts (clear_must_cancel task l.parts) _ (settle_carries (future_of l.parts task) _ (clear_must_cancel task l.parts))
         (change_carries task _ l.parts (λ t. refl) (λ t. refl))
 
     counts : (end : Result Value Exc) (t : ℕ) → cancelling (finish task end l.parts) t ≡ cancelling l.parts t
     counts (Err fault) t = settle_counts (future_of l.parts task) _ l.parts t
-    counts (Ok value) t = settle_counts (future_of l.parts task) _ (unmark task l.parts) t ∙ count_kept task _ l.parts (λ x. refl) t
+    counts (Ok value) t = settle_counts (future_of l.parts task) _ (clear_must_cancel task l.parts) t ∙ count_kept task _ l.parts (λ x. refl) t
 
 -- ---- what is made
 pub spawn_step_sound : (running : Option ℕ) (told : ℕ → List ℕ) (l : Loop) → IsSound running told l → IsSound running told (in_parts spawn l)
@@ -341,7 +341,7 @@ pub many_step_sound : (running : Option ℕ) (told : ℕ → List ℕ) (members 
 many_step_sound running told members l there s =
     parts_sound running running told l (new_many members l.parts) s (record {
       numbered = new_many_numbers members l.parts there;
-      circle = make_no_circle (Many members false) refl running running l.parts s.parts;
+      cycle = make_no_cycle (Many members false) refl running running l.parts s.parts;
       callbacks = λ a. made.parts.callbacks;
       quiet = λ a. make_quiet (Many members false) l.parts;
       plains = plain_old (Many members false) refl running running l.parts s.parts;

@@ -12,14 +12,14 @@ use Rattle.model_loop.specs.Loop.{Active, Created, Expired, Expiring, Finished, 
 use Rattle.model_loop.specs.Timeouts.{enter_timeout, exit_timeout, fire, give_up, is_active, leave_from, make_timeout, moment, next_timeout, reschedule}
 use Rattle.model_loop.specs.Timeouts.{reschedule_where, schedule, set_timeout, timeout_of, with_deadline, without_handle}
 use Rattle.model_loop.specs.Groups.{group_of, new_group}
-use Rattle.law_steps.proofs.Looks.{LooksSame, handles_look_same, looks_on, refl_looks, same_no_circle}
+use Rattle.law_steps.proofs.Looks.{LooksSame, handles_look_same, looks_on, refl_looks, same_no_cycle}
 use Rattle.std.proofs.lemmas.Bool.{and_from, and_parts, false≢true}
 use Rattle.model_loop.specs.Sound.{IsSound}
 use Rattle.law_groups.proofs.Firing.{within, enter_tags, exit_tags, fire_tags, make_timeout_tags, was_active}
 use Rattle.law_groups.proofs.Entries.{entries-fewer, entries-later, entries-soon, of_tag}
 use Rattle.model_value.specs.Action.{Action}
 use Rattle.law_groups.proofs.Revoking.{revoke_looks_same, revoke_times}
-use Rattle.model_loop.specs.Tasks.{future_of, is_marked, uncancel}
+use Rattle.model_loop.specs.Tasks.{future_of, must_cancel_of, uncancel}
 use Rattle.model_loop.specs.Entries.{ends_sleep_on, entries, untimed}
 use Rattle.law_sound.proofs.Steps.{build, holds_of, off, tags_of_sound, taken_looks, tells_of}
 use Rattle.law_groups.specs.Holds.{Holds}
@@ -37,17 +37,17 @@ use Rattle.model_value.specs.declared.action.Action.TheVariants.{Fires}
 use Rattle.law_changes.specs.Telling.{Tells, is_open}
 use Rattle.model_value.specs.Value.{Exc}
 use Rattle.law_steps.proofs.Settling.{soon-where}
-use Rattle.law_steps.proofs.Passing.{same_tasks_no_circle}
+use Rattle.law_steps.proofs.Passing.{same_tasks_no_cycle}
 use Rattle.model_loop.specs.Cancel.{cancel}
 
 -- where the parts look the same and their tags are kept by themselves
 scheduled : (running : Option ℕ) (told : ℕ → List ℕ) (l q : Loop) → IsSound running told l → HaveTags q
-    → LooksSame l.parts q.parts → ((task : ℕ) → is_marked q.parts task ≡ true → is_marked l.parts task ≡ true)
+    → LooksSame l.parts q.parts → ((task : ℕ) → must_cancel_of q.parts task ≡ true → must_cancel_of l.parts task ≡ true)
     → AddsNoTimes l.parts q.parts → q.groups ≡ l.groups → TasksBalance q → Tells q → IsSound running told q
 scheduled running told l q s tags looks fewer times groups tasks tells =
     build running told q (record {
       numbered = tags.numbered;
-      no_circle = same_no_circle l.parts q.parts looks s.no_circle;
+      no_cycle = same_no_cycle l.parts q.parts looks s.no_cycle;
       timed = timed_kept l.parts q.parts times (λ id h. looks.plains id ∙ h) s.timed;
       tags = tags.tags;
     }) (subst (λ (gs : List Group). Holds running running told told (λ id. slice_index_or gs id (new_group 0)) q.parts) (sym groups)
@@ -142,8 +142,8 @@ schedules id when l is = at when
     at (Some k) =
         on_schedules l (without_handle id l) _ (timed k (nat_le k (without_handle id l).parts.time)) (bare_schedules id l is)
 
-marked_of : (p q : Parts) → q.tasks ≡ p.tasks → (task : ℕ) → is_marked q task ≡ true → is_marked p task ≡ true
-marked_of p q ts task m = sym (ap (λ (l : List Task). option_map_or (λ (t : Task). t.must_cancel) (slice_get l task) false) ts) ∙ m
+must_cancel_as : (p q : Parts) → q.tasks ≡ p.tasks → (task : ℕ) → must_cancel_of q task ≡ true → must_cancel_of p task ≡ true
+must_cancel_as p q ts task m = sym (ap (λ (l : List Task). option_map_or (λ (t : Task). t.must_cancel) (slice_get l task) false) ts) ∙ m
 
 -- ---- entered, and another deadline
 pub enter_timeout_sound : (running : Option ℕ) (told : ℕ → List ℕ) (task : ℕ) (delay : Option ℤ) (l : Loop) → IsSound running told l
@@ -152,14 +152,14 @@ enter_timeout_sound running told task delay l s =
     let is = tags_of_sound running told l s in
     let k = schedules (next_timeout l) (option_map (deadline l.parts.time) delay) (make_timeout task l) (make_timeout_tags task l is) in
     scheduled running told l (enter_timeout task delay l) s (enter_tags task delay l is) k.looks
-    (marked_of l.parts (enter_timeout task delay l).parts k.tasks) k.times k.groups (enter_timeout_keeps task delay l s.balance.tasks)
+    (must_cancel_as l.parts (enter_timeout task delay l).parts k.tasks) k.times k.groups (enter_timeout_keeps task delay l s.balance.tasks)
     (enter_tells task delay l (tells_of running told l s))
 
 pub reschedule_sound : (running : Option ℕ) (told : ℕ → List ℕ) (id : ℕ) (when : Option ℤ) (l : Loop) → IsSound running told l
     → IsSound running told (reschedule id when l)
 reschedule_sound running told id when l s =
     scheduled running told l (reschedule id when l) s (reschedule_tags id when l is) k.looks
-    (marked_of l.parts (reschedule id when l).parts k.tasks) k.times k.groups (reschedule_keeps id when l s.balance.tasks)
+    (must_cancel_as l.parts (reschedule id when l).parts k.tasks) k.times k.groups (reschedule_keeps id when l s.balance.tasks)
     (reschedule_tells id when l (tells_of running told l s))
   where
     is : HaveTags l
@@ -184,19 +184,20 @@ exit_timeout_sound running told raised id l within open_ s =
 
     Leaves : Loop → Type 0
     Leaves q =
-        LooksSame l.parts q.parts × ((task : ℕ) → is_marked q.parts task ≡ true → is_marked l.parts task ≡ true)
+        LooksSame l.parts q.parts × ((task : ℕ) → must_cancel_of q.parts task ≡ true → must_cancel_of l.parts task ≡ true)
         × AddsNoTimes l.parts q.parts × (q.groups ≡ l.groups)
 
     bare : Schedules l (without_handle id l)
     bare = bare_schedules id l (tags_of_sound running told l s)
 
     plainly : (state : TimeoutState)
-        → LooksSame l.parts (without_handle id l).parts × ((task : ℕ) → is_marked (without_handle id l).parts task ≡ true → is_marked l.parts task ≡ true)
+        → LooksSame l.parts (without_handle id l).parts
+        × ((task : ℕ) → must_cancel_of (without_handle id l).parts task ≡ true → must_cancel_of l.parts task ≡ true)
         × AddsNoTimes l.parts (without_handle id l).parts × ((without_handle id l).groups ≡ l.groups)
-    plainly state = (bare.looks, marked_of l.parts (without_handle id l).parts bare.tasks, bare.times, bare.groups)
+    plainly state = (bare.looks, must_cancel_as l.parts (without_handle id l).parts bare.tasks, bare.times, bare.groups)
 
     at : (state : TimeoutState) → LooksSame l.parts (leave_from state raised id (without_handle id l)).loop.parts
-        × ((task : ℕ) → is_marked (leave_from state raised id (without_handle id l)).loop.parts task ≡ true → is_marked l.parts task ≡ true)
+        × ((task : ℕ) → must_cancel_of (leave_from state raised id (without_handle id l)).loop.parts task ≡ true → must_cancel_of l.parts task ≡ true)
         × AddsNoTimes l.parts (leave_from state raised id (without_handle id l)).loop.parts
         × ((leave_from state raised id (without_handle id l)).loop.groups ≡ l.groups)
     at Created = plainly Created
@@ -207,13 +208,13 @@ exit_timeout_sound running told raised id l within open_ s =
         let p = (without_handle id l).parts in
         let task = (timeout_of (without_handle id l) id).task in (
           looks_on l.parts p (uncancel task p) (uncancel_looks_same task p) bare.looks,
-          λ t m. marked_of l.parts p bare.tasks t (uncancel_fewer task p t m),
+          λ t m. must_cancel_as l.parts p bare.tasks t (uncancel_fewer task p t m),
           times_on l.parts p (uncancel task p) (change_task_quiet task _ p).times bare.times,
           bare.groups,
         )
 
     left : LooksSame l.parts (exit_timeout raised id l).loop.parts
-        × ((task : ℕ) → is_marked (exit_timeout raised id l).loop.parts task ≡ true → is_marked l.parts task ≡ true)
+        × ((task : ℕ) → must_cancel_of (exit_timeout raised id l).loop.parts task ≡ true → must_cancel_of l.parts task ≡ true)
         × AddsNoTimes l.parts (exit_timeout raised id l).loop.parts × ((exit_timeout raised id l).loop.groups ≡ l.groups)
     left = at (timeout_of l id).state
 
@@ -223,7 +224,7 @@ pub fire_sound : (told : ℕ → List ℕ) (id : ℕ) (handle : Handle) (rest : 
 fire_sound told id handle rest l first live action s =
     build None told (fire id l0) (record {
       numbered = tags.numbered;
-      no_circle = kept.circle (same_tasks_no_circle l.parts (taken rest l.parts) refl refl s.no_circle);
+      no_cycle = kept.cycle (same_tasks_no_cycle l.parts (taken rest l.parts) refl refl s.no_cycle);
       timed = timed_kept (taken rest l.parts) (fire id l0).parts (kept.quiet s.parts.callbacks).times kept.plains
           (timed_kept l.parts (taken rest l.parts) gone (λ j h. h) s.timed);
       tags = tags.tags;

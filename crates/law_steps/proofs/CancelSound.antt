@@ -8,12 +8,12 @@ use Rattle.std.specs.Option.{option_map_or}
 use Rattle.model_value.specs.declared.outcome.Outcome.TheVariants.{Cancelled}
 use Rattle.model_loop.specs.Parts.{Task, Parts, Future, FutureKind, Many, OfTask, Plain}
 use Rattle.model_loop.specs.Futures.{is_pending, settle}
-use Rattle.model_loop.specs.Tasks.{lives, waiter_of, future_of, is_marked, mark}
+use Rattle.model_loop.specs.Tasks.{lives, waiter_of, future_of, must_cancel_of, set_must_cancel}
 use Rattle.model_loop.specs.Spent.{spent_by, is_spent}
 use Rattle.model_loop.specs.Cancel.{cancel}
 use Rattle.model_loop.specs.Ways.{steps, steps_among, wakeups_on, is_running, wakeups_at, ways, HasOneWay, IsReady, resumes, wakes}
 use Rattle.model_loop.specs.Totals.{callbacks_of, callbacks_at, pending_where}
-use Rattle.model_loop.specs.Marks.{MayBeMarked}
+use Rattle.model_loop.specs.MustCancel.{MayKeepMustCancel}
 use Rattle.law_cancel.proofs.Lookups.{get-set_other}
 use Rattle.law_cancel.proofs.Counting.{change_task-kept}
 use Rattle.law_cancel.proofs.Effects.{mark_asked-tasks}
@@ -23,10 +23,10 @@ use Rattle.model_loop.specs.Owning.{is_plain_kind}
 use Rattle.model_loop.specs.Sound.{ArePartsSound}
 use Rattle.law_steps.proofs.Settling.{IsSettled, settle_effect, count_fewer, settle_cases}
 use Rattle.law_steps.proofs.SettleWays.{settled-waiter, settled-pending, settled-lives, settled_keeps}
-use Rattle.law_steps.proofs.Looks.{LooksSame, future_of-owned, spent_grows_below, same-lives, same_ways, same_owns, same_settled, same_may, same_marks}
+use Rattle.law_steps.proofs.Looks.{LooksSame, future_of-owned, spent_grows_below, same-lives, same_ways, same_owns, same_settled, same_may, same_must_cancel}
 use Rattle.law_steps.proofs.Looks.{change_looks_same, asked_looks_same, same_callbacks, same_ready}
-use Rattle.law_steps.proofs.Spreading.{CanBeMarked, begins, settles, asks, raises, marks, with_spread, Spreads}
-use Rattle.model_value.specs.declared.action.Action.TheVariants.{Step, StepInCircle, Wakeup}
+use Rattle.law_steps.proofs.Spreading.{CanMustCancel, begins, settles, asks, raises, sets_must_cancel, with_spread, Spreads}
+use Rattle.model_value.specs.declared.action.Action.TheVariants.{Step, StepInCycle, Wakeup}
 use Rattle.model_value.specs.Action.{Action}
 use Rattle.model_value.specs.Value.{Outcome}
 
@@ -69,20 +69,20 @@ settled_spent {id} {p} {q} s on = spent_grows_below (suc on) p q each on
         go (inr n) = inl (ap (λ o. spent_by f o j) (s.others j n))
 
 pub settled_may : {running : Option ℕ} (excused : Option ℕ) {id : ℕ} {p q : Parts} → IsSettled id p q → HasOneWay running p → (task : ℕ)
-    → lives p task ≡ true → MayBeMarked excused p task → MayBeMarked excused q task
+    → lives p task ≡ true → MayKeepMustCancel excused p task → MayKeepMustCancel excused q task
 settled_may excused s is task l (inl r) = inl r
 settled_may excused s is task l (inr (inl h)) = let c = s.called (steps task) in inr (inl (omega (arith, h, c)))
 settled_may {running} excused {id} {p} {q} s is task l (inr (inr w)) = go (cases_eq id w.0)
   where
-    go : (id ≡ w.0) ⊎ (id ≡ w.0 → ⊥) → MayBeMarked excused q task
+    go : (id ≡ w.0) ⊎ (id ≡ w.0 → ⊥) → MayKeepMustCancel excused q task
     go (inl same) =
         let one : wakeups_on p task id ≡ 1 = subst (λ j. wakeups_on p task j ≡ 1) (sym same) (is.stays task w.0 l w.1 w.2) in
         let c = s.called (steps task) in
         inr (inl (omega (arith, one, c)))
     go (inr n) = inr (inr (w.0, settled-waiter s task ∙ w.1, settled-pending s w.0 n ∙ w.2, settled_spent s w.0 w.3))
 
-pub settled_marked : {id : ℕ} {p q : Parts} → IsSettled id p q → (task : ℕ) → is_marked q task ≡ is_marked p task
-settled_marked s task = ap (λ (ts : List Task). option_map_or (λ (t : Task). t.must_cancel) (slice_get ts task) false) s.tasks
+pub settled_must_cancel : {id : ℕ} {p q : Parts} → IsSettled id p q → (task : ℕ) → must_cancel_of q task ≡ must_cancel_of p task
+settled_must_cancel s task = ap (λ (ts : List Task). option_map_or (λ (t : Task). t.must_cancel) (slice_get ts task) false) s.tasks
 
 pub settled_settled : (id : ℕ) (p q : Parts) → IsSettled id p q → AreSettled p → AreSettled q
 settled_settled id p q s settled j h = go (cases_eq id j)
@@ -115,7 +115,7 @@ settled_callbacks id p q s are j = go (cases_eq id j)
 -- no step that waits for nothing is a callback
 resumes_no_callback : (task : ℕ) (action : Action) → resumes task action ≡ true → is_no_callback action ≡ true
 resumes_no_callback task (Step other) h = refl
-resumes_no_callback task (StepInCircle other circle) h = refl
+resumes_no_callback task (StepInCycle other cycle) h = refl
 resumes_no_callback task _ h = absurd (false≢true h)
 
 pub wakes_steps : (task : ℕ) (action : Action) → wakes task action ≡ true → steps task action ≡ true
@@ -162,12 +162,12 @@ settled_sound running excused id p q free is s = record {
   waits_made = λ task on w. subst (λ (n : ℕ). on < n) (sym s.made) (is.waits_made task on (sym (settled-waiter s task) ∙ w));
   one_way = settled_keeps running id p q free is.one_way s;
   ready = settled_ready id p q s is.callbacks is.one_way.on_waiter is.ready;
-  marks = λ task l m. let l' = sym (settled-lives s task (free task))
-      ∙ l in settled_may excused s is.one_way task l' (is.marks task l' (sym (settled_marked s task) ∙ m));
+  must_cancel = λ task l m. let l' = sym (settled-lives s task (free task))
+      ∙ l in settled_may excused s is.one_way task l' (is.must_cancel task l' (sym (settled_must_cancel s task) ∙ m));
 }
 
 -- ---- what looks the same
-pub same_sound : (running excused : Option ℕ) (p q : Parts) → LooksSame p q → ((task : ℕ) → is_marked q task ≡ true → is_marked p task ≡ true)
+pub same_sound : (running excused : Option ℕ) (p q : Parts) → LooksSame p q → ((task : ℕ) → must_cancel_of q task ≡ true → must_cancel_of p task ≡ true)
     → ArePartsSound running excused p → ArePartsSound running excused q
 same_sound running excused p q s fewer is = record {
   owns = same_owns p q s is.owns;
@@ -178,13 +178,13 @@ same_sound running excused p q s fewer is = record {
   waits_made = λ task on w. subst (λ (n : ℕ). on < n) (sym s.made) (is.waits_made task on (sym (s.waiters task) ∙ w));
   one_way = same_ways running p q s is.one_way;
   ready = same_ready p q s is.ready;
-  marks = same_marks excused p q s fewer is.marks;
+  must_cancel = same_must_cancel excused p q s fewer is.must_cancel;
 }
 
--- ---- a mark: a task that waits for nothing that can be cancelled runs, or will be stepped, or waits for what is spent
-marked_may : (running excused : Option ℕ) → Covers running excused → (p : Parts) → ArePartsSound running excused p → (task : ℕ) → lives p task ≡ true
-    → CanBeMarked p task → MayBeMarked excused p task
-marked_may running excused covers p is task l can = go (cases_Bool (is_running running task))
+-- ---- must_cancel: a task that waits for nothing that can be cancelled runs, or will be stepped, or waits for what is spent
+must_cancel_may : (running excused : Option ℕ) → Covers running excused → (p : Parts) → ArePartsSound running excused p → (task : ℕ) → lives p task ≡ true
+    → CanMustCancel p task → MayKeepMustCancel excused p task
+must_cancel_may running excused covers p is task l can = go (cases_Bool (is_running running task))
   where
     -- one way, none of them on the waiter
     stepped : is_running running task ≡ false → wakeups_at p task (waiter_of p task) ≡ 0 → 0 < steps_among task p.pending
@@ -192,45 +192,46 @@ marked_may running excused covers p is task l can = go (cases_Bool (is_running r
         let one : ways p task ≡ 1 = is.one_way.one task ∙ rw (l, r) refl in
         omega (arith, one, z)
 
-    waits : is_running running task ≡ false → CanBeMarked p task → MayBeMarked excused p task
+    waits : is_running running task ≡ false → CanMustCancel p task → MayKeepMustCancel excused p task
     waits r (inl none) = inr (inl (stepped r (ap (wakeups_at p task) none)))
     waits r (inr w) = at (cases_Bool (is_pending p w.0))
       where
-        at : (is_pending p w.0 ≡ true) ⊎ (is_pending p w.0 ≡ false) → MayBeMarked excused p task
+        at : (is_pending p w.0 ≡ true) ⊎ (is_pending p w.0 ≡ false) → MayKeepMustCancel excused p task
         at (inl pending) = inr (inr (w.0, w.1, pending, w.2))
         at (inr done) = inr (inl (stepped r (ap (wakeups_at p task) w.1 ∙ ap (count_by (steps task)) (is.settled w.0 done))))
 
-    go : (is_running running task ≡ true) ⊎ (is_running running task ≡ false) → MayBeMarked excused p task
+    go : (is_running running task ≡ true) ⊎ (is_running running task ≡ false) → MayKeepMustCancel excused p task
     go (inl r) = inl (covers task r)
     go (inr r) = waits r can
 
-mark_sound : (running excused : Option ℕ) → Covers running excused → (id : ℕ) (p : Parts) → CanBeMarked p id → ArePartsSound running excused p
-    → ArePartsSound running excused (mark id p)
-mark_sound running excused covers id p can is = record {
-  owns = same_owns p (mark id p) s is.owns;
-  settled = same_settled p (mark id p) s is.settled;
-  callbacks = same_callbacks p (mark id p) s is.callbacks;
+set_must_cancel_sound : (running excused : Option ℕ) → Covers running excused → (id : ℕ) (p : Parts) → CanMustCancel p id → ArePartsSound running excused p
+    → ArePartsSound running excused (set_must_cancel id p)
+set_must_cancel_sound running excused covers id p can is = record {
+  owns = same_owns p (set_must_cancel id p) s is.owns;
+  settled = same_settled p (set_must_cancel id p) s is.settled;
+  callbacks = same_callbacks p (set_must_cancel id p) s is.callbacks;
   runs = λ task r. same-lives s task ∙ is.runs task r;
   free = λ task r. s.waiters task ∙ is.free task r;
   waits_made = λ task on w. subst (λ (n : ℕ). on < n) (sym s.made) (is.waits_made task on (sym (s.waiters task) ∙ w));
-  one_way = same_ways running p (mark id p) s is.one_way;
-  ready = same_ready p (mark id p) s is.ready;
-  marks = λ task l m. same_may excused p (mark id p) s task (may task (sym (same-lives s task) ∙ l) m (cases_eq id task));
+  one_way = same_ways running p (set_must_cancel id p) s is.one_way;
+  ready = same_ready p (set_must_cancel id p) s is.ready;
+  must_cancel = λ task l m. same_may excused p (set_must_cancel id p) s task (may task (sym (same-lives s task) ∙ l) m (cases_eq id task));
 }
   where
-    s : LooksSame p (mark id p)
+    s : LooksSame p (set_must_cancel id p)
     s = change_looks_same id _ p (λ t. refl) (λ t. refl)
 
-    may : (task : ℕ) → lives p task ≡ true → is_marked (mark id p) task ≡ true → (id ≡ task) ⊎ (id ≡ task → ⊥) → MayBeMarked excused p task
-    may task l m (inl same) = marked_may running excused covers p is task l (subst (CanBeMarked p) same can)
-    may task l m (inr n) = is.marks task l (sym (others task n) ∙ m)
+    may : (task : ℕ) → lives p task ≡ true → must_cancel_of (set_must_cancel id p) task ≡ true → (id ≡ task) ⊎ (id ≡ task → ⊥)
+        → MayKeepMustCancel excused p task
+    may task l m (inl same) = must_cancel_may running excused covers p is task l (subst (CanMustCancel p) same can)
+    may task l m (inr n) = is.must_cancel task l (sym (others task n) ∙ m)
       where
-        others : (task : ℕ) → (id ≡ task → ⊥) → is_marked (mark id p) task ≡ is_marked p task
+        others : (task : ℕ) → (id ≡ task → ⊥) → must_cancel_of (set_must_cancel id p) task ≡ must_cancel_of p task
         others task n = at (slice_get p.tasks id)
           where
             at : (o : Option Task)
-                → is_marked (option_map_or (λ (t : Task). record p { tasks = slice_set p.tasks id (record t { must_cancel = true }) }) o p) task
-                ≡ is_marked p task
+                → must_cancel_of (option_map_or (λ (t : Task). record p { tasks = slice_set p.tasks id (record t { must_cancel = true }) }) o p) task
+                ≡ must_cancel_of p task
             at None = refl
             at (Some t) = ap (λ (o : Option Task). option_map_or (λ (t : Task). t.must_cancel) o false)
                 (get-set_other p.tasks id task (record t { must_cancel = true }) n)
@@ -251,7 +252,8 @@ cancels_sound running excused covers (raises {q = q} g id task n e) is =
     same_sound running excused q _ (change_looks_same id _ q (λ t. refl) (λ t. refl))
     (λ u m. sym (change_task-kept (λ (o : Option Task). option_map_or (λ (t : Task). t.must_cancel) o false) id _ q (λ t. refl) u) ∙ m)
     (cancels_sound running excused covers g is)
-cancels_sound running excused covers (marks {q = q} g id can) is = mark_sound running excused covers id q can (cancels_sound running excused covers g is)
+cancels_sound running excused covers (sets_must_cancel {q = q} g id can) is =
+    set_must_cancel_sound running excused covers id q can (cancels_sound running excused covers g is)
 
 pub cancel_sound : (running excused : Option ℕ) → Covers running excused → (id : ℕ) (p : Parts) → ArePartsSound running excused p
     → ArePartsSound running excused (cancel id p).parts

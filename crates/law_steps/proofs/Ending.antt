@@ -9,13 +9,13 @@ use Rattle.model_value.specs.Value.{Value, Exc, Outcome}
 use Rattle.model_loop.specs.Parts.{Future, Parts}
 use Rattle.model_loop.specs.Handles.{soon}
 use Rattle.model_loop.specs.Futures.{is_pending, is_pending_at, settle}
-use Rattle.model_loop.specs.Tasks.{lives, future_of, is_marked, unmark, pause, finish, waiter_of}
+use Rattle.model_loop.specs.Tasks.{lives, future_of, must_cancel_of, clear_must_cancel, pause, finish, waiter_of}
 use Rattle.model_loop.specs.Ways.{one_if, steps, steps_among, is_running, ways, wanted, resumes, wakes}
-use Rattle.model_loop.specs.Marks.{MayBeMarked}
+use Rattle.model_loop.specs.MustCancel.{MayKeepMustCancel}
 use Rattle.model_loop.specs.Sound.{ArePartsSound}
 use Rattle.law_steps.proofs.Settling.{soon-where, settle_effect}
 use Rattle.law_steps.proofs.Looks.{future_of-same, spent-futures, change_looks_same}
-use Rattle.law_steps.proofs.Stepping.{steps_one, running_is, unmark_sound, finished_sound, resumes_steps}
+use Rattle.law_steps.proofs.Stepping.{steps_one, running_is, clear_must_cancel_sound, finished_sound, resumes_steps}
 use Rattle.model_loop.specs.Totals.{pending_where}
 
 -- a pending future, out of the test
@@ -47,10 +47,10 @@ pub finish_sound : (task : ℕ) (end : Result Value Exc) (p : Parts) → ArePart
 finish_sound task (Err fault) p is = settle_own_sound task _ p is
 finish_sound task (Ok value) p is =
     let s = change_looks_same task _ p (λ t. refl) (λ t. refl) in
-    subst (λ id. ArePartsSound None None (settle id (cond (is_marked p task) Cancelled (Returned value)) (unmark task p)))
-    (future_of-same p (unmark task p) s.made task (s.owned task))
-    (settle_own_sound task (cond (is_marked p task) Cancelled (Returned value)) (unmark task p)
-    (unmark_sound (Some task) (Some task) task p is))
+    subst (λ id. ArePartsSound None None (settle id (cond (must_cancel_of p task) Cancelled (Returned value)) (clear_must_cancel task p)))
+    (future_of-same p (clear_must_cancel task p) s.made task (s.owned task))
+    (settle_own_sound task (cond (must_cancel_of p task) Cancelled (Returned value)) (clear_must_cancel task p)
+    (clear_must_cancel_sound (Some task) (Some task) task p is))
 
 -- the running task will be stepped
 pub soon_step_sound : (task : ℕ) (action : Action) (p : Parts) → resumes task action ≡ true
@@ -74,7 +74,7 @@ soon_step_sound task action p resumed is = record {
     on_waiter = is.one_way.on_waiter;
     stays = is.one_way.stays;
   };
-  marks = λ other l m. may other (cases_eq task other) (is.marks other l m);
+  must_cancel = λ other l m. may other (cases_eq task other) (is.must_cancel other l m);
 }
   where
     mine : steps task action ≡ true
@@ -118,7 +118,7 @@ soon_step_sound task action p resumed is = record {
             let w : one_if (lives p other && not (is_running (Some task) other)) ≡ wanted None (soon action p) other = rw (ne_eqb task other n) refl in
             omega (arith, a, o, w)
 
-    may : (other : ℕ) → (task ≡ other) ⊎ (task ≡ other → ⊥) → MayBeMarked (Some task) p other → MayBeMarked None (soon action p) other
+    may : (other : ℕ) → (task ≡ other) ⊎ (task ≡ other → ⊥) → MayKeepMustCancel (Some task) p other → MayKeepMustCancel None (soon action p) other
     may other (inl same) h =
         let a : steps_among other (soon action p).pending ≡ steps_among other p.pending + 1 = soon-where (steps other) action p
         ∙ rw (subst (λ t. steps t action ≡ true) same mine) refl in

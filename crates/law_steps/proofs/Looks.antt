@@ -9,22 +9,22 @@ use Rattle.model_value.specs.Action.{Action}
 use Rattle.model_value.specs.Value.{Outcome}
 use Rattle.model_loop.specs.Parts.{FutureKind, Plain, OfTask, Many, Future, Task, Parts}
 use Rattle.model_loop.specs.Futures.{outcome_at, future_outcome, is_pending, is_pending_at, made_before, mark_asked, asked_kind, with_future}
-use Rattle.model_loop.specs.Tasks.{lives, waiter_of, future_of, change_task, is_marked}
+use Rattle.model_loop.specs.Tasks.{lives, waiter_of, future_of, change_task, must_cancel_of}
 use Rattle.model_loop.specs.Spent.{spent_kind, spent_until, spent_by, spent_below, is_spent}
 use Rattle.model_loop.specs.Ways.{one_if, resumes, wakes, IsReady, steps, steps_among, wakeups_on, is_running, wakeups_at, ways, HasOneWay}
 use Rattle.model_loop.specs.Totals.{callbacks_of, callbacks_at, pending_where}
-use Rattle.model_loop.specs.Marks.{MarksWait, MayBeMarked}
+use Rattle.model_loop.specs.MustCancel.{MustCancelWaits, MayKeepMustCancel}
 use Rattle.law_cancel.proofs.Lookups.{get-set_kept}
 use Rattle.law_cancel.proofs.Effects.{asked_as, change_task-futures, length-change_task, mark_asked-futures, mark_asked-tasks}
 use Rattle.law_cancel.proofs.Counting.{change_task-kept}
 use Rattle.model_loop.specs.Owning.{owner_in, owner_at, owner_of, own_future, OwnsFutures, AreSettled, AreCallbacks, is_no_callback, is_plain_kind, is_plain_at}
 use Rattle.model_loop.specs.Owning.{is_plain}
-use Rattle.model_loop.specs.Circles.{passes_until, passes_at}
-use Rattle.model_loop.specs.Sound.{HasNoCircle}
+use Rattle.model_loop.specs.Cycles.{passes_until, passes_at}
+use Rattle.model_loop.specs.Sound.{HasNoCycle}
 use Rattle.model_loop.specs.Children.{tells}
-use Rattle.model_value.specs.declared.action.Action.TheVariants.{Step, StepInCircle, Wakeup, GroupDone}
+use Rattle.model_value.specs.declared.action.Action.TheVariants.{Step, StepInCycle, Wakeup, GroupDone}
 use Rattle.law_steps.specs.Frames.{Follows}
-use Rattle.law_cancel.proofs.Circling.{passes-same, no_circle_kept}
+use Rattle.law_cancel.proofs.Cycling.{passes-same, no_cycle_kept}
 
 pub record LooksSame (p q : Parts) : Type 0 where
   pub pending : (test : Action → Bool) → Follows test → pending_where test q.pending ≡ pending_where test p.pending
@@ -43,19 +43,19 @@ pub record LooksSame (p q : Parts) : Type 0 where
 -- ---- tests that look at tasks and groups alone
 pub follow_resumes : (task : ℕ) → Follows (resumes task)
 follow_resumes task (Step other) h = absurd (false≢true (sym h))
-follow_resumes task (StepInCircle other circle) h = absurd (false≢true (sym h))
+follow_resumes task (StepInCycle other cycle) h = absurd (false≢true (sym h))
 follow_resumes task (Wakeup other) h = refl
 follow_resumes task _ h = refl
 
 pub follow_wakes : (task : ℕ) → Follows (wakes task)
 follow_wakes task (Step other) h = refl
-follow_wakes task (StepInCircle other circle) h = refl
+follow_wakes task (StepInCycle other cycle) h = refl
 follow_wakes task (Wakeup other) h = absurd (false≢true (sym h))
 follow_wakes task _ h = refl
 
 pub follow_steps : (task : ℕ) → Follows (steps task)
 follow_steps task (Step other) h = absurd (false≢true (sym h))
-follow_steps task (StepInCircle other circle) h = absurd (false≢true (sym h))
+follow_steps task (StepInCycle other cycle) h = absurd (false≢true (sym h))
 follow_steps task (Wakeup other) h = absurd (false≢true (sym h))
 follow_steps task _ h = refl
 
@@ -168,20 +168,21 @@ same_ready p q s is = record {
       (x.0, s.waiters task ∙ x.1, s.pends x.0 ∙ x.2);
 }
 
-pub same_no_circle : (p q : Parts) → LooksSame p q → HasNoCircle p → HasNoCircle q
-same_no_circle p q s none = no_circle_kept p q (λ x. passes-same p q x (s.passing x p) s.waiters) none
+pub same_no_cycle : (p q : Parts) → LooksSame p q → HasNoCycle p → HasNoCycle q
+same_no_cycle p q s none = no_cycle_kept p q (λ x. passes-same p q x (s.passing x p) s.waiters) none
 
-pub same_may : (running : Option ℕ) (p q : Parts) → LooksSame p q → (task : ℕ) → MayBeMarked running p task → MayBeMarked running q task
+pub same_may : (running : Option ℕ) (p q : Parts) → LooksSame p q → (task : ℕ) → MayKeepMustCancel running p task → MayKeepMustCancel running q task
 same_may running p q s task (inl r) = inl r
 same_may running p q s task (inr (inl h)) = inr (inl (subst (λ n. 0 < n) (sym (s.pending (steps task) (follow_steps task))) h))
 same_may running p q s task (inr (inr w)) = inr (inr (w.0, s.waiters task ∙ w.1, s.pends w.0 ∙ w.2, same-spent s w.0 w.3))
 
--- no more tasks are marked
-pub same_marks : (running : Option ℕ) (p q : Parts) → LooksSame p q → ((task : ℕ) → is_marked q task ≡ true → is_marked p task ≡ true) → MarksWait running p
-    → MarksWait running q
-same_marks running p q s fewer marks task l m = same_may running p q s task (marks task (sym (same-lives s task) ∙ l) (fewer task m))
+-- no more tasks must cancel
+pub same_must_cancel : (running : Option ℕ) (p q : Parts) → LooksSame p q → ((task : ℕ) → must_cancel_of q task ≡ true → must_cancel_of p task ≡ true)
+    → MustCancelWaits running p
+    → MustCancelWaits running q
+same_must_cancel running p q s fewer marks task l m = same_may running p q s task (marks task (sym (same-lives s task) ∙ l) (fewer task m))
 
--- ---- changes that look the same: a count or a mark of a task, and that a future was asked
+-- ---- changes that look the same: a count or must_cancel of a task, and that a future was asked
 pub change_task-pending : (id : ℕ) (change : Task → Task) (p : Parts) → (change_task id change p).pending ≡ p.pending
 change_task-pending id change p = at (slice_get p.tasks id)
   where

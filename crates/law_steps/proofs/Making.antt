@@ -11,7 +11,7 @@ use Rattle.model_loop.specs.Futures.{is_pending, is_pending_at, make_future}
 use Rattle.model_loop.specs.Tasks.{lives, waiter_of, future_of}
 use Rattle.model_loop.specs.Ways.{one_if, steps, is_running}
 use Rattle.model_loop.specs.Totals.{callbacks_of, callbacks_at, pending_where, registered_at}
-use Rattle.model_loop.specs.Marks.{MayBeMarked}
+use Rattle.model_loop.specs.MustCancel.{MayKeepMustCancel}
 use Rattle.law_cancel.proofs.Lookups.{get-push_last, get-push_other}
 use Rattle.model_loop.specs.Owning.{owner_in, owner_at, owner_of, own_future, is_no_callback, is_plain, is_plain_at}
 use Rattle.model_loop.specs.Sound.{ArePartsSound}
@@ -98,7 +98,7 @@ module _ (kind : FutureKind) (free : owner_in kind ≡ None) (running excused : 
       stays = λ t on l w h. ap (count_by (steps t)) (called_same on)
           ∙ is.one_way.stays t on (sym (made_living t) ∙ l) w (sym (pends_old on (is.waits_made t on w)) ∙ h);
     };
-    marks = λ t l k. may t (is.marks t (sym (made_living t) ∙ l) k);
+    must_cancel = λ t l k. may t (is.must_cancel t (sym (made_living t) ∙ l) k);
   }
     where
       settled : (id : ℕ) → is_pending (make_future kind p) id ≡ false → (id ≡ length p.futures) ⊎ (id ≡ length p.futures → ⊥)
@@ -106,7 +106,7 @@ module _ (kind : FutureKind) (free : owner_in kind ≡ None) (running excused : 
       settled id h (inl e) = ap (λ j. callbacks_of (make_future kind p) j) e ∙ ap callbacks_at made_new
       settled id h (inr k) = ap callbacks_at (made_old id k) ∙ is.settled id (sym (ap is_pending_at (made_old id k)) ∙ h)
 
-      may : (t : ℕ) → MayBeMarked excused p t → MayBeMarked excused (make_future kind p) t
+      may : (t : ℕ) → MayKeepMustCancel excused p t → MayKeepMustCancel excused (make_future kind p) t
       may t (inl r) = inl r
       may t (inr (inl h)) = inr (inl h)
       may t (inr (inr w)) =

@@ -1,4 +1,4 @@
--- Steps that add no pass make no circle.
+-- Steps that add no pass make no cycle.
 use Rattle.std.proofs.Common.{◌≡◌, ℕ, ◌⊎◌, true, false, ◌==◌, List, [], Option, Some, None, is_none, length, slice_get, refl, ap, sym, subst, ◌∙◌, inl, inr}
 use Rattle.std.proofs.Common.{Bool, Err, Ok, Result, arith, cond, nat_eq, nat_lt, ◌<◌, ◌||◌, ◌∷◌}
 use Rattle.std.proofs.lemmas.Bool.{cases_eq, false≢true, eqb-true, ltb-true}
@@ -7,10 +7,10 @@ use Rattle.std.specs.Option.{option_map_or, option_to_list}
 use Rattle.model_value.specs.Value.{Outcome, Exc, Value}
 use Rattle.model_loop.specs.Parts.{FutureKind, Plain, OfTask, Many, Future, Task, Parts}
 use Rattle.model_loop.specs.Futures.{settle, is_pending, is_pending_at, made_before, make_future}
-use Rattle.model_loop.specs.Tasks.{waiter_of, set_waiter, begin_step, spawn, unmark, finish, future_of}
-use Rattle.model_loop.specs.Circles.{passes_of_kind, passes_until, passes_at, passes, PassesTo, Leads, through, at_once}
-use Rattle.model_loop.specs.Sound.{HasNoCircle, ArePartsSound}
-use Rattle.law_cancel.proofs.Circling.{leads_kept, no_circle_kept, passes-same}
+use Rattle.model_loop.specs.Tasks.{waiter_of, set_waiter, begin_step, spawn, clear_must_cancel, finish, future_of}
+use Rattle.model_loop.specs.Cycles.{passes_of_kind, passes_until, passes_at, passes, PassesTo, Leads, through, at_once}
+use Rattle.model_loop.specs.Sound.{HasNoCycle, ArePartsSound}
+use Rattle.law_cancel.proofs.Cycling.{leads_kept, no_cycle_kept, passes-same}
 use Rattle.law_cancel.proofs.Effects.{change_task-futures}
 use Rattle.law_cancel.proofs.Counting.{change_task-kept}
 use Rattle.law_steps.proofs.Settling.{IsSettled, settle_cases}
@@ -18,15 +18,15 @@ use Rattle.law_steps.proofs.SettleWays.{settled-waiter}
 use Rattle.law_steps.proofs.Stepping.{at_task, waits_none}
 use Rattle.law_steps.proofs.Spawning.{new_future, old_future, waiter_new, waiter_same}
 use Rattle.model_value.specs.Input.{Input}
-use Rattle.law_steps.proofs.Looks.{change_looks_same, same_no_circle}
+use Rattle.law_steps.proofs.Looks.{change_looks_same, same_no_cycle}
 use Rattle.law_steps.proofs.Making.{made_new, made_old}
 use Rattle.model_loop.specs.Owning.{owner_in}
 use Rattle.std.proofs.lemmas.Option.{none-some, slice_get_within}
 
 -- each future is as it was or passes nowhere, and each task waits as it did or for nothing
-pub no_circle_more : (p q : Parts) → ((x : ℕ) → (slice_get q.futures x ≡ slice_get p.futures x) ⊎ (passes q x ≡ []))
-    → ((t : ℕ) → (waiter_of q t ≡ waiter_of p t) ⊎ (waiter_of q t ≡ None)) → HasNoCircle p → HasNoCircle q
-no_circle_more p q futures waiters none id l = none id (leads_kept p q edge l)
+pub no_cycle_more : (p q : Parts) → ((x : ℕ) → (slice_get q.futures x ≡ slice_get p.futures x) ⊎ (passes q x ≡ []))
+    → ((t : ℕ) → (waiter_of q t ≡ waiter_of p t) ⊎ (waiter_of q t ≡ None)) → HasNoCycle p → HasNoCycle q
+no_cycle_more p q futures waiters none id l = none id (leads_kept p q edge l)
   where
     edge : (x y : ℕ) → PassesTo q x y → PassesTo p x y
     edge x y h = go (futures x)
@@ -55,11 +55,11 @@ no_circle_more p q futures waiters none id l = none id (leads_kept p q edge l)
         go (inr z) = absurd (false≢true (ap (list_any (λ n. n == y)) (sym z) ∙ h))
 
 -- an outcome
-pub settle_no_circle : (id : ℕ) (outcome : Outcome) (p : Parts) → HasNoCircle p → HasNoCircle (settle id outcome p)
-settle_no_circle id outcome p none = settle_cases HasNoCircle id outcome p none settled
+pub settle_no_cycle : (id : ℕ) (outcome : Outcome) (p : Parts) → HasNoCycle p → HasNoCycle (settle id outcome p)
+settle_no_cycle id outcome p none = settle_cases HasNoCycle id outcome p none settled
   where
-    settled : (q : Parts) → IsSettled id p q → HasNoCircle q
-    settled q s = no_circle_more p q (λ x. at x (cases_eq id x)) (λ t. inl (settled-waiter s t)) none
+    settled : (q : Parts) → IsSettled id p q → HasNoCycle q
+    settled q s = no_cycle_more p q (λ x. at x (cases_eq id x)) (λ t. inl (settled-waiter s t)) none
       where
         over : (o : Option Future) (x : ℕ) → is_pending_at o ≡ false → passes_at o x q ≡ []
         over None x h = refl
@@ -74,35 +74,35 @@ settle_no_circle id outcome p none = settle_cases HasNoCircle id outcome p none 
         at x (inr n) = inl (s.others x n)
 
 -- a step's beginning
-pub begin_no_circle : (task : ℕ) (input : Input) (p : Parts) → HasNoCircle p → HasNoCircle (begin_step task input p).parts
-begin_no_circle task input p none = no_circle_more p begun (λ x. inl (futures x)) (λ t. at t (cases_eq task t)) none
+pub begin_no_cycle : (task : ℕ) (input : Input) (p : Parts) → HasNoCycle p → HasNoCycle (begin_step task input p).parts
+begin_no_cycle task input p none = no_cycle_more p begun (λ x. inl (futures x)) (λ t. at t (cases_eq task t)) none
   where
     waiting : Parts
     waiting = set_waiter task None p
 
     begun : Parts
-    begun = unmark task (set_waiter task None p)
+    begun = clear_must_cancel task (set_waiter task None p)
 
-    futures : (x : ℕ) → slice_get (unmark task (set_waiter task None p)).futures x ≡ slice_get p.futures x
+    futures : (x : ℕ) → slice_get (clear_must_cancel task (set_waiter task None p)).futures x ≡ slice_get p.futures x
     futures x =
         ap (λ (l : List Future). slice_get l x)
         (change_task-futures task _ (set_waiter task None p) ∙ change_task-futures task _ p)
 
-    through : (t : ℕ) → waiter_of (unmark task (set_waiter task None p)) t ≡ waiter_of (set_waiter task None p) t
+    through : (t : ℕ) → waiter_of (clear_must_cancel task (set_waiter task None p)) t ≡ waiter_of (set_waiter task None p) t
     through t =
         change_task-kept (λ (o : Option Task). option_map_or (λ (t : Task). t.waiter) o None) task _ (set_waiter task None p)
         (λ t. refl) t
 
-    at : (t : ℕ) → (task ≡ t) ⊎ (task ≡ t → ⊥) → (waiter_of (unmark task (set_waiter task None p)) t ≡ waiter_of p t)
-        ⊎ (waiter_of (unmark task (set_waiter task None p)) t ≡ None)
+    at : (t : ℕ) → (task ≡ t) ⊎ (task ≡ t → ⊥) → (waiter_of (clear_must_cancel task (set_waiter task None p)) t ≡ waiter_of p t)
+        ⊎ (waiter_of (clear_must_cancel task (set_waiter task None p)) t ≡ None)
     at t (inl same) = inr (through t ∙ subst (λ i. waiter_of (set_waiter task None p) i ≡ None) same (waits_none task p))
     at t (inr n) =
         inl (through t ∙ at_task (λ (o : Option Task). option_map_or (λ (t : Task). t.waiter) o None) task _ p t n)
 
 -- a new task
-pub spawn_no_circle : (running excused : Option ℕ) (p : Parts) → ArePartsSound running excused p → HasNoCircle p → HasNoCircle (spawn p)
-spawn_no_circle running excused p is none =
-    no_circle_more p (spawn p) (λ x. at x (cases_eq x (length p.futures))) (λ t. inl (waiter_same running excused p is t)) none
+pub spawn_no_cycle : (running excused : Option ℕ) (p : Parts) → ArePartsSound running excused p → HasNoCycle p → HasNoCycle (spawn p)
+spawn_no_cycle running excused p is none =
+    no_cycle_more p (spawn p) (λ x. at x (cases_eq x (length p.futures))) (λ t. inl (waiter_same running excused p is t)) none
   where
     at : (x : ℕ) → (x ≡ length p.futures) ⊎ (x ≡ length p.futures → ⊥) → (slice_get (spawn p).futures x ≡ slice_get p.futures x) ⊎ (passes (spawn p) x ≡ [])
     at x (inl e) = inr (subst (λ i. passes (spawn p) i ≡ []) (sym e)
@@ -110,16 +110,16 @@ spawn_no_circle running excused p is none =
     at x (inr k) = inl (old_future running excused p is x k)
 
 -- ---- a handle is appended or taken out, and a task ends
-pub same_tasks_no_circle : (p q : Parts) → q.futures ≡ p.futures → q.tasks ≡ p.tasks → HasNoCircle p → HasNoCircle q
-same_tasks_no_circle p q fs ts none =
-    no_circle_kept p q (λ x. passes-same p q x (ap (λ (l : List Future). passes_at (slice_get l x) x p) fs)
+pub same_tasks_no_cycle : (p q : Parts) → q.futures ≡ p.futures → q.tasks ≡ p.tasks → HasNoCycle p → HasNoCycle q
+same_tasks_no_cycle p q fs ts none =
+    no_cycle_kept p q (λ x. passes-same p q x (ap (λ (l : List Future). passes_at (slice_get l x) x p) fs)
     (λ t. ap (λ (l : List Task). option_map_or (λ (t : Task). t.waiter) (slice_get l t) None) ts)) none
 
-pub finish_no_circle : (task : ℕ) (end : Result Value Exc) (p : Parts) → HasNoCircle p → HasNoCircle (finish task end p)
-finish_no_circle task (Err fault) p none = settle_no_circle (future_of p task) _ p none
-finish_no_circle task (Ok value) p none =
-    settle_no_circle (future_of p task) _ (unmark task p)
-    (same_no_circle p (unmark task p) (change_looks_same task _ p (λ t. refl) (λ t. refl)) none)
+pub finish_no_cycle : (task : ℕ) (end : Result Value Exc) (p : Parts) → HasNoCycle p → HasNoCycle (finish task end p)
+finish_no_cycle task (Err fault) p none = settle_no_cycle (future_of p task) _ p none
+finish_no_cycle task (Ok value) p none =
+    settle_no_cycle (future_of p task) _ (clear_must_cancel task p)
+    (same_no_cycle p (clear_must_cancel task p) (change_looks_same task _ p (λ t. refl) (λ t. refl)) none)
 
 -- ---- a new future that is no task's: nothing passes to it
 module _ (kind : FutureKind) (free : owner_in kind ≡ None) (running excused : Option ℕ) (p : Parts) (is : ArePartsSound running excused p) where
@@ -203,5 +203,5 @@ module _ (kind : FutureKind) (free : owner_in kind ≡ None) (running excused : 
       let b = edge.1 in
       through next edge.0 (old_way l (λ same. absurd (omega (arith, b, same))))
 
-  pub make_no_circle : HasNoCircle p → HasNoCircle (make_future kind p)
-  make_no_circle none id l = let b = ends_below l in none id (old_way l (λ same. absurd (omega (arith, b, same))))
+  pub make_no_cycle : HasNoCycle p → HasNoCycle (make_future kind p)
+  make_no_cycle none id l = let b = ends_below l in none id (old_way l (λ same. absurd (omega (arith, b, same))))

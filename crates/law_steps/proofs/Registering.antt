@@ -15,7 +15,7 @@ use Rattle.std.specs.List.{count_by}
 use Rattle.model_loop.specs.Spent.{spent_by}
 use Rattle.std.specs.Option.{option_map_or}
 use Rattle.std.proofs.lemmas.List.Sums.{sum_by_push}
-use Rattle.model_loop.specs.Marks.{MayBeMarked}
+use Rattle.model_loop.specs.MustCancel.{MayKeepMustCancel}
 use Rattle.law_cancel.proofs.Lookups.{get-set_kept, get-set_other}
 use Rattle.std.proofs.Math.ListN.{length-set}
 
@@ -61,7 +61,7 @@ module _ (running excused : Option ℕ) (r : Parts) (on : ℕ) (f : Future) (act
       on_waiter = λ t id h. is.one_way.on_waiter t id (subst (λ k. 0 < k) (counted t id) h);
       stays = λ t id l w h. counted t id ∙ is.one_way.stays t id (sym (callback_living t) ∙ l) w (sym (see is_pending_at id refl) ∙ h);
     };
-    marks = λ t l m. may t (is.marks t (sym (callback_living t) ∙ l) m);
+    must_cancel = λ t l m. may t (is.must_cancel t (sym (callback_living t) ∙ l) m);
   }
     where
       settled : (id : ℕ) → is_pending with_callback id ≡ false → (on ≡ id) ⊎ (on ≡ id → ⊥) → callbacks_of with_callback id ≡ []
@@ -70,7 +70,7 @@ module _ (running excused : Option ℕ) (r : Parts) (on : ℕ) (f : Future) (act
       settled id h (inr n) = ap callbacks_at (get-set_other r.futures on id (record f { callbacks = f.callbacks ++ action ∷ [] }) n)
           ∙ is.settled id (sym (see is_pending_at id refl) ∙ h)
 
-      may : (t : ℕ) → MayBeMarked excused r t → MayBeMarked excused with_callback t
+      may : (t : ℕ) → MayKeepMustCancel excused r t → MayKeepMustCancel excused with_callback t
       may t (inl x) = inl x
       may t (inr (inl h)) = inr (inl h)
       may t (inr (inr w)) = inr

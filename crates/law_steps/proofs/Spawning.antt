@@ -10,11 +10,11 @@ use Rattle.model_value.specs.Action.{Action}
 use Rattle.model_value.specs.declared.action.Action.TheVariants.{Step}
 use Rattle.model_loop.specs.Parts.{OfTask, Handle, Future, Task, Parts}
 use Rattle.model_loop.specs.Futures.{is_pending, is_pending_at}
-use Rattle.model_loop.specs.Tasks.{lives, waiter_of, future_of, is_marked, spawn}
+use Rattle.model_loop.specs.Tasks.{lives, waiter_of, future_of, must_cancel_of, spawn}
 use Rattle.model_loop.specs.Spent.{spent_by, spent_below}
 use Rattle.model_loop.specs.Ways.{one_if, steps, wakeups_on, is_running, ways, wanted, wakes, resumes}
 use Rattle.model_loop.specs.Totals.{callbacks_of, callbacks_at, pending_where, registered_at, total}
-use Rattle.model_loop.specs.Marks.{MayBeMarked}
+use Rattle.model_loop.specs.MustCancel.{MayKeepMustCancel}
 use Rattle.law_cancel.proofs.Lookups.{get-push_last, get-push_other}
 use Rattle.law_cancel.proofs.Answering.{spent_by_same}
 use Rattle.model_loop.specs.Owning.{owner_at, owner_of, own_future, OwnsFutures, is_no_callback}
@@ -218,7 +218,7 @@ module _ (running excused : Option ℕ) (p : Parts) (is : ArePartsSound running 
         λ h. ap owner_at (old_future id e) ∙ (is.owns id t).1 (sym (ap (option_map (λ (x : Task). x.future)) (old_task t f)) ∙ h),
       )
 
-  may : (t : ℕ) → MayBeMarked excused p t → MayBeMarked excused (spawn p) t
+  may : (t : ℕ) → MayKeepMustCancel excused p t → MayKeepMustCancel excused (spawn p) t
   may t (inl r) = inl r
   may t (inr (inl h)) = let c = called (steps t) in inr (inl (omega (arith, c, h)))
   may t (inr (inr w)) =
@@ -241,7 +241,7 @@ module _ (running excused : Option ℕ) (p : Parts) (is : ArePartsSound running 
     runs = λ t r. old_lives t (running_old t r) ∙ is.runs t r;
     waits_made = λ t on w. let x = is.waits_made t on (sym (waiter_same t) ∙ w) in let l = more in omega (arith, x, l);
     one_way = record { one = one; on_waiter = on_waiter; stays = stays };
-    marks = λ t l k. marks t l k (cases_eq t (length p.tasks));
+    must_cancel = λ t l k. must_cancel t l k (cases_eq t (length p.tasks));
   }
     where
       callbacks : (id : ℕ) → (id ≡ length p.futures) ⊎ (id ≡ length p.futures → ⊥)
@@ -269,10 +269,10 @@ module _ (running excused : Option ℕ) (p : Parts) (is : ArePartsSound running 
       settled id h (inl e) = ap (λ j. callbacks_of (spawn p) j) e ∙ ap callbacks_at new_future
       settled id h (inr k) = ap callbacks_at (old_future id k) ∙ is.settled id (sym (ap is_pending_at (old_future id k)) ∙ h)
 
-      marks : (t : ℕ) → lives (spawn p) t ≡ true → is_marked (spawn p) t ≡ true → (t ≡ length p.tasks) ⊎ (t ≡ length p.tasks → ⊥)
-          → MayBeMarked excused (spawn p) t
-      marks t l k (inl e) = absurd
+      must_cancel : (t : ℕ) → lives (spawn p) t ≡ true → must_cancel_of (spawn p) t ≡ true → (t ≡ length p.tasks) ⊎ (t ≡ length p.tasks → ⊥)
+          → MayKeepMustCancel excused (spawn p) t
+      must_cancel t l k (inl e) = absurd
           (false≢true (sym (ap (λ (o : Option Task). option_map_or (λ (x : Task). x.must_cancel) o false) new_task)
-          ∙ subst (λ x. is_marked (spawn p) x ≡ true) e k))
-      marks t l k (inr e) = may t
-          (is.marks t (sym (old_lives t e) ∙ l) (sym (ap (λ (o : Option Task). option_map_or (λ (x : Task). x.must_cancel) o false) (old_task t e)) ∙ k))
+          ∙ subst (λ x. must_cancel_of (spawn p) x ≡ true) e k))
+      must_cancel t l k (inr e) = may t
+          (is.must_cancel t (sym (old_lives t e) ∙ l) (sym (ap (λ (o : Option Task). option_map_or (λ (x : Task). x.must_cancel) o false) (old_task t e)) ∙ k))

@@ -1,4 +1,4 @@
--- A cancel request as a row of small changes, where a task is marked only if it waits for nothing that can be cancelled.
+-- A cancel request as a row of small changes, where a task must cancel only if it waits for nothing that can be cancelled.
 use Rattle.std.proofs.Common.{◌≡◌, ℕ, zero, suc, ◌<◌, ◌⊎◌, Bool, true, false, List, [], ◌∷◌, ◌++◌, Option, Some, None, length, slice_get, refl, ap, sym, ◌∙◌}
 use Rattle.std.proofs.Common.{inl, inr, arith}
 use Rattle.std.specs.Option.{option_map_or}
@@ -7,9 +7,9 @@ use Rattle.model_value.specs.declared.outcome.Outcome.TheVariants.{Cancelled}
 use Rattle.model_value.specs.Value.{Outcome}
 use Rattle.model_loop.specs.Parts.{FutureKind, Plain, OfTask, Many, Future, Task, Parts}
 use Rattle.model_loop.specs.Futures.{made_before, settle, mark_asked}
-use Rattle.model_loop.specs.Tasks.{mark, raise_count, waiter_of}
+use Rattle.model_loop.specs.Tasks.{set_must_cancel, raise_count, waiter_of}
 use Rattle.model_loop.specs.Spent.{is_spent}
-use Rattle.model_loop.specs.Cancel.{CancelRequest, Canceller, answers, has_seen, cancel_each, asked_where, marked_unless, cancel_waiter, cancel_unseen}
+use Rattle.model_loop.specs.Cancel.{CancelRequest, Canceller, answers, has_seen, cancel_each, asked_where, must_cancel_unless, cancel_waiter, cancel_unseen}
 use Rattle.model_loop.specs.Cancel.{cancel_task, cancel_kind, cancel_until, cancel_at, cancel_below, cancel_within, cancel_with}
 use Rattle.law_cancel.proofs.Counting.{change_task-kept}
 use Rattle.law_cancel.proofs.Answering.{below_still, below_answer}
@@ -18,8 +18,8 @@ use Rattle.law_cancel.proofs.Total.{fewer, no_more}
 use Rattle.law_cancel.proofs.Trace as row
 
 -- a task that waits for nothing, or for what can't be cancelled
-abbrev pub CanBeMarked : Parts → ℕ → Type 0
-CanBeMarked p id = (waiter_of p id ≡ None) ⊎ ((on : ℕ) × (waiter_of p id ≡ Some on) × (is_spent p on ≡ true))
+abbrev pub CanMustCancel : Parts → ℕ → Type 0
+CanMustCancel p id = (waiter_of p id ≡ None) ⊎ ((on : ℕ) × (waiter_of p id ≡ Some on) × (is_spent p on ≡ true))
 
 pub data Spreads (s : List ℕ) (p : Parts) : List ℕ → Parts → Type 0 where
   begins : Spreads s p s p
@@ -29,21 +29,21 @@ pub data Spreads (s : List ℕ) (p : Parts) : List ℕ → Parts → Type 0 wher
       → future.outcome ≡ None → future.kind ≡ Many members asked → Spreads s p t (mark_asked id q)
   raises : {t : List ℕ} {q : Parts} → Spreads s p t q → (id : ℕ) (task : Task) → has_seen t id ≡ false → slice_get q.tasks id ≡ Some task
       → Spreads s p (t ++ id ∷ []) (raise_count id q)
-  marks : {t : List ℕ} {q : Parts} → Spreads s p t q → (id : ℕ) → CanBeMarked q id → Spreads s p t (mark id q)
+  sets_must_cancel : {t : List ℕ} {q : Parts} → Spreads s p t q → (id : ℕ) → CanMustCancel q id → Spreads s p t (set_must_cancel id q)
 
 pub spreads_on : {s t : List ℕ} {p q : Parts} {u : List ℕ} {r : Parts} → Spreads s p t q → Spreads t q u r → Spreads s p u r
 spreads_on g begins = g
 spreads_on g (settles h id future e o k) = settles (spreads_on g h) id future e o k
 spreads_on g (asks h id future members asked e o k) = asks (spreads_on g h) id future members asked e o k
 spreads_on g (raises h id task n e) = raises (spreads_on g h) id task n e
-spreads_on g (marks h id m) = marks (spreads_on g h) id m
+spreads_on g (sets_must_cancel h id m) = sets_must_cancel (spreads_on g h) id m
 
 pub as_row : {s : List ℕ} {p : Parts} {t : List ℕ} {q : Parts} → Spreads s p t q → row.Goes s p t q
 as_row begins = row.begins
 as_row (settles g id future e o k) = row.settles (as_row g) id future e o k
 as_row (asks g id future members asked e o k) = row.asks (as_row g) id future members asked e o k
 as_row (raises g id task n e) = row.raises (as_row g) id task n e
-as_row (marks g id m) = row.marks (as_row g) id
+as_row (sets_must_cancel g id m) = row.sets_must_cancel (as_row g) id
 
 -- ---- a request is such a row, where fewer than so many tasks are left
 abbrev IsRow : ℕ → Canceller → Type 0
@@ -72,10 +72,10 @@ asked_row s p true id r g h =
     let m = row.many_there (slice_get r.parts.futures id) h in
     asks g id m.future m.members m.asked m.there m.pending m.many
 
-marked_row : (s : List ℕ) (p : Parts) (answer : Bool) (task : ℕ) (r : CancelRequest) → Row s p r → (answer ≡ false → CanBeMarked r.parts task)
-    → Row s p (marked_unless answer task r)
-marked_row s p true task r g m = g
-marked_row s p false task r g m = marks g task (m refl)
+must_cancel_row : (s : List ℕ) (p : Parts) (answer : Bool) (task : ℕ) (r : CancelRequest) → Row s p r → (answer ≡ false → CanMustCancel r.parts task)
+    → Row s p (must_cancel_unless answer task r)
+must_cancel_row s p true task r g m = g
+must_cancel_row s p false task r g m = sets_must_cancel g task (m refl)
 
 raised-waiter : (id : ℕ) (p : Parts) (task : Task) → slice_get p.tasks id ≡ Some task → (w : Option ℕ) → task.waiter ≡ w → waiter_of (raise_count id p) id ≡ w
 raised-waiter id p task e w h =
@@ -85,10 +85,10 @@ raised-waiter id p task e w h =
 module _ (n : ℕ) (waiter : Canceller) (is : IsRow n waiter) (tells : Tells n waiter) where
   waiter_row : (task : ℕ) (w : Option ℕ) (s : List ℕ) (p : Parts) → left (length p.tasks) s < n → waiter_of p task ≡ w
       → Row s p (cancel_waiter waiter task w s p)
-  waiter_row task None s p l e = marks begins task (inl e)
+  waiter_row task None s p l e = sets_must_cancel begins task (inl e)
   waiter_row task (Some w) s p l e =
       let r = waiter w s p in
-      marked_row s p r.answer task r (is w s p l) (λ f.
+      must_cancel_row s p r.answer task r (is w s p l) (λ f.
       let t = tells w s p l f in
       inr (w, ap (λ (q : CancelRequest). waiter_of q.parts task) t.0 ∙ e, ap (λ (q : CancelRequest). is_spent q.parts w) t.0 ∙ t.1))
 

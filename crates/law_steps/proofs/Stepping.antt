@@ -7,13 +7,13 @@ use Rattle.std.proofs.lemmas.List.Sums.{sum_by-cons}
 use Rattle.std.specs.List.{count_by}
 use Rattle.std.specs.Option.{option_map_or}
 use Rattle.model_value.specs.Action.{Action}
-use Rattle.model_value.specs.declared.action.Action.TheVariants.{Step, StepInCircle, Wakeup}
+use Rattle.model_value.specs.declared.action.Action.TheVariants.{Step, StepInCycle, Wakeup}
 use Rattle.model_loop.specs.Parts.{Handle, Future, Task, Parts}
 use Rattle.model_loop.specs.Futures.{is_pending, is_pending_at}
-use Rattle.model_loop.specs.Tasks.{lives, waiter_of, future_of, change_task, is_marked, set_waiter, unmark, begin_step, uncancel}
+use Rattle.model_loop.specs.Tasks.{lives, waiter_of, future_of, change_task, must_cancel_of, set_waiter, clear_must_cancel, begin_step, uncancel}
 use Rattle.model_loop.specs.Ways.{one_if, steps, steps_among, wakeups_on, is_running, wakeups_at, ways, wanted, resumes, wakes}
 use Rattle.model_loop.specs.Totals.{callbacks_at, pending_where}
-use Rattle.model_loop.specs.Marks.{MayBeMarked}
+use Rattle.model_loop.specs.MustCancel.{MayKeepMustCancel}
 use Rattle.law_cancel.proofs.Lookups.{get-set_other, get-set_same}
 use Rattle.law_cancel.proofs.Counting.{change_task-kept}
 use Rattle.law_cancel.proofs.Effects.{change_task-futures}
@@ -23,11 +23,11 @@ use Rattle.law_steps.specs.Frames.{taken}
 use Rattle.law_steps.proofs.Settling.{IsSettled, fewer_pending}
 use Rattle.law_steps.proofs.SettleWays.{settled-waiter, settled-future, settled-pending, settled-lives, settled-ways, settled-wakeups, settled-gone}
 use Rattle.law_steps.proofs.Looks.{future_of-same, spent-futures, change_looks_same, change_task-pending, LooksSame}
-use Rattle.law_steps.proofs.CancelSound.{settled_may, settled_marked, settled_settled, settled_owns, same_sound, settled_callbacks, settled_ready}
+use Rattle.law_steps.proofs.CancelSound.{settled_may, settled_must_cancel, settled_settled, settled_owns, same_sound, settled_callbacks, settled_ready}
 use Rattle.law_steps.proofs.CancelSound.{wakes_steps}
 use Rattle.model_value.specs.Input.{Input}
 
--- ---- what a task waits for, and a mark, by its number
+-- ---- what a task waits for, and must_cancel, by its number
 pub at_task : {Y : Type 0} (f : Option Task → Y) (id : ℕ) (change : Task → Task) (p : Parts) (j : ℕ) → (id ≡ j → ⊥)
     → f (slice_get (change_task id change p).tasks j) ≡ f (slice_get p.tasks j)
 at_task f id change p j n = at (slice_get p.tasks id)
@@ -45,44 +45,46 @@ waits_none id p = at (slice_get p.tasks id) refl
     at None e = ap (λ (o : Option Task). option_map_or (λ (t : Task). t.waiter) o None) e
     at (Some t) e = ap (λ (o : Option Task). option_map_or (λ (t : Task). t.waiter) o None) (get-set_same p.tasks id t (record t { waiter = None }) e)
 
-pub unmarked : (id : ℕ) (p : Parts) → is_marked (unmark id p) id ≡ false
-unmarked id p = at (slice_get p.tasks id) refl
+pub cleared : (id : ℕ) (p : Parts) → must_cancel_of (clear_must_cancel id p) id ≡ false
+cleared id p = at (slice_get p.tasks id) refl
   where
     at : (o : Option Task) → slice_get p.tasks id ≡ o
-        → is_marked (option_map_or (λ (t : Task). record p { tasks = slice_set p.tasks id (record t { must_cancel = false }) }) o p) id ≡ false
+        → must_cancel_of (option_map_or (λ (t : Task). record p { tasks = slice_set p.tasks id (record t { must_cancel = false }) }) o p) id ≡ false
     at None e = ap (λ (o : Option Task). option_map_or (λ (t : Task). t.must_cancel) o false) e
     at (Some t) e = ap (λ (o : Option Task). option_map_or (λ (t : Task). t.must_cancel) o false)
         (get-set_same p.tasks id t (record t { must_cancel = false }) e)
 
--- fewer marks after an unmark
-pub unmark_fewer : (id : ℕ) (p : Parts) (task : ℕ) → is_marked (unmark id p) task ≡ true → is_marked p task ≡ true
-unmark_fewer id p task m = go (cases_eq id task)
+-- fewer that must cancel after one is cleared
+pub clear_must_cancel_fewer : (id : ℕ) (p : Parts) (task : ℕ) → must_cancel_of (clear_must_cancel id p) task ≡ true → must_cancel_of p task ≡ true
+clear_must_cancel_fewer id p task m = go (cases_eq id task)
   where
-    go : (id ≡ task) ⊎ (id ≡ task → ⊥) → is_marked p task ≡ true
-    go (inl same) = absurd (false≢true (sym (unmarked id p) ∙ subst (λ t. is_marked (unmark id p) t ≡ true) (sym same) m))
+    go : (id ≡ task) ⊎ (id ≡ task → ⊥) → must_cancel_of p task ≡ true
+    go (inl same) = absurd (false≢true (sym (cleared id p) ∙ subst (λ t. must_cancel_of (clear_must_cancel id p) t ≡ true) (sym same) m))
     go (inr n) = sym (at_task (λ (o : Option Task). option_map_or (λ (t : Task). t.must_cancel) o false) id _ p task n) ∙ m
 
-pub unmark_sound : (running excused : Option ℕ) (id : ℕ) (p : Parts) → ArePartsSound running excused p → ArePartsSound running excused (unmark id p)
-unmark_sound running excused id p is = same_sound running excused p (unmark id p) (change_looks_same id _ p (λ t. refl) (λ t. refl)) (unmark_fewer id p) is
+pub clear_must_cancel_sound : (running excused : Option ℕ) (id : ℕ) (p : Parts) → ArePartsSound running excused p
+    → ArePartsSound running excused (clear_must_cancel id p)
+clear_must_cancel_sound running excused id p is =
+    same_sound running excused p (clear_must_cancel id p) (change_looks_same id _ p (λ t. refl) (λ t. refl)) (clear_must_cancel_fewer id p) is
 
 -- a count of cancels falls
 pub uncancel_looks_same : (task : ℕ) (p : Parts) → LooksSame p (uncancel task p)
 uncancel_looks_same task p = change_looks_same task _ p (λ t. refl) (λ t. refl)
 
-pub uncancel_fewer : (id : ℕ) (p : Parts) (task : ℕ) → is_marked (uncancel id p) task ≡ true → is_marked p task ≡ true
+pub uncancel_fewer : (id : ℕ) (p : Parts) (task : ℕ) → must_cancel_of (uncancel id p) task ≡ true → must_cancel_of p task ≡ true
 uncancel_fewer id p task m =
     sym (change_task-kept (λ (o : Option Task). option_map_or (λ (t : Task). t.must_cancel) o false) id _ p (λ t. refl) task) ∙ m
 
 -- ---- which task an action steps
 pub steps_one : (action : Action) (a b : ℕ) → steps a action ≡ true → steps b action ≡ true → a ≡ b
 steps_one (Step other) a b x y = sym (eqb-true other a x) ∙ eqb-true other b y
-steps_one (StepInCircle other circle) a b x y = sym (eqb-true other a x) ∙ eqb-true other b y
+steps_one (StepInCycle other cycle) a b x y = sym (eqb-true other a x) ∙ eqb-true other b y
 steps_one (Wakeup other) a b x y = sym (eqb-true other a x) ∙ eqb-true other b y
 steps_one _ a b x y = absurd (false≢true x)
 
 pub resumes_steps : (task : ℕ) (action : Action) → resumes task action ≡ true → steps task action ≡ true
 resumes_steps task (Step other) h = h
-resumes_steps task (StepInCircle other circle) h = h
+resumes_steps task (StepInCycle other cycle) h = h
 resumes_steps task _ h = absurd (false≢true h)
 
 -- ---- a handle is taken out
@@ -205,7 +207,7 @@ module _ (task : ℕ) (handle : Handle) (rest : List Handle) (p : Parts) (first 
       on_waiter = λ other on h. on_waiter other on (subst (λ k. 0 < k) (wakes_same other on) h) (cases_eq task other);
       stays = λ other on l w h. stays other on (sym (living other) ∙ l) w (sym (pends on) ∙ h) (cases_eq task other);
     };
-    marks = λ other l m. marks other (sym (living other) ∙ l) m (cases_eq task other);
+    must_cancel = λ other l m. must_cancel other (sym (living other) ∙ l) m (cases_eq task other);
   }
     where
       free : (other : ℕ) → task ≡ other → waiter_of (set_waiter task None (taken rest p)) other ≡ None
@@ -253,21 +255,21 @@ module _ (task : ℕ) (handle : Handle) (rest : List Handle) (p : Parts) (first 
           absurd (none-some on (sym (waits_none task (taken rest p)) ∙ subst (λ t. waiter_of (set_waiter task None (taken rest p)) t ≡ Some on) (sym same) w))
       stays other on l w h (inr n) = wakes_same other on ∙ is.one_way.stays other on l (sym (others_wait other n) ∙ w) h
 
-      may : (other : ℕ) → (task ≡ other → ⊥) → MayBeMarked None p other → MayBeMarked (Some task) (set_waiter task None (taken rest p)) other
+      may : (other : ℕ) → (task ≡ other → ⊥) → MayKeepMustCancel None p other → MayKeepMustCancel (Some task) (set_waiter task None (taken rest p)) other
       may other n (inl r) = absurd (false≢true r)
       may other n (inr (inl h)) = let a = other_among other n in inr (inl (subst (λ l. 0 < steps_among other l) (sym hs) (omega (arith, a, h))))
       may other n (inr (inr w)) =
           inr (inr (w.0, others_wait other n ∙ w.1, pends w.0 ∙ w.2, spent-futures p (set_waiter task None (taken rest p)) fs w.0 w.3))
 
-      marks : (other : ℕ) → lives p other ≡ true → is_marked (set_waiter task None (taken rest p)) other ≡ true → (task ≡ other) ⊎ (task ≡ other → ⊥)
-          → MayBeMarked (Some task) (set_waiter task None (taken rest p)) other
-      marks other l m (inl same) = inl (eq-eqb task other same)
-      marks other l m (inr n) =
-          may other n (is.marks other l
+      must_cancel : (other : ℕ) → lives p other ≡ true → must_cancel_of (set_waiter task None (taken rest p)) other ≡ true → (task ≡ other) ⊎ (task ≡ other → ⊥)
+          → MayKeepMustCancel (Some task) (set_waiter task None (taken rest p)) other
+      must_cancel other l m (inl same) = inl (eq-eqb task other same)
+      must_cancel other l m (inr n) =
+          may other n (is.must_cancel other l
           (sym (at_task (λ (o : Option Task). option_map_or (λ (t : Task). t.must_cancel) o false) task _ (taken rest p) other n) ∙ m))
 
   pub begin_sound : (input : Input) → ArePartsSound (Some task) (Some task) (begin_step task input (taken rest p)).parts
-  begin_sound input = unmark_sound (Some task) (Some task) task (set_waiter task None (taken rest p)) begun_sound
+  begin_sound input = clear_must_cancel_sound (Some task) (Some task) task (set_waiter task None (taken rest p)) begun_sound
 
 -- ---- an end: the task's own future gets its outcome
 module _ (task : ℕ) (p q : Parts) (s : IsSettled (future_of p task) p q) (is : ArePartsSound (Some task) (Some task) p) where
@@ -331,10 +333,10 @@ module _ (task : ℕ) (p q : Parts) (s : IsSettled (future_of p task) p q) (is :
       stays = λ other on l w h. stays other on (sym (others_live other (not_it other l)) ∙ l) (sym (settled-waiter s other) ∙ w) h
           (cases_eq (future_of p task) on);
     };
-    marks = λ other l m.
+    must_cancel = λ other l m.
         let n = not_it other l in
         let l' = sym (others_live other n) ∙ l in
-        may other n (settled_may (Some task) s is.one_way other l' (is.marks other l' (sym (settled_marked s other) ∙ m)));
+        may other n (settled_may (Some task) s is.one_way other l' (is.must_cancel other l' (sym (settled_must_cancel s other) ∙ m)));
   }
     where
       on_waiter : (other on : ℕ) → 0 < wakeups_on q other on → (future_of p task ≡ on) ⊎ (future_of p task ≡ on → ⊥) → waiter_of p other ≡ Some on
@@ -348,6 +350,6 @@ module _ (task : ℕ) (p q : Parts) (s : IsSettled (future_of p task) p q) (is :
       stays other on l w h (inl same) = absurd (false≢true (sym s.done ∙ subst (λ j. is_pending q j ≡ true) (sym same) h))
       stays other on l w h (inr n) = settled-wakeups s other on n ∙ is.one_way.stays other on l w (sym (settled-pending s on n) ∙ h)
 
-      may : (other : ℕ) → (task ≡ other → ⊥) → MayBeMarked (Some task) q other → MayBeMarked None q other
+      may : (other : ℕ) → (task ≡ other → ⊥) → MayKeepMustCancel (Some task) q other → MayKeepMustCancel None q other
       may other n (inl r) = absurd (n (running_is task other r))
       may other n (inr h) = inr h

@@ -5,7 +5,7 @@ use Rattle.model_loop.specs.Totals.{registered_at}
 use Rattle.law_steps.proofs.Stepping.{taken-where, taken_fewer}
 use Rattle.model_loop.specs.Ways.{resumes, steps, steps_among, wakes}
 use Rattle.model_loop.specs.Sound.{ArePartsSound}
-use Rattle.model_loop.specs.Marks.{MayBeMarked}
+use Rattle.model_loop.specs.MustCancel.{MayKeepMustCancel}
 use Rattle.law_steps.specs.Frames.{taken}
 use Rattle.model_loop.specs.Parts.{Handle, Parts}
 use Rattle.law_steps.proofs.Looks.{spent-futures}
@@ -28,7 +28,7 @@ taken_sound handle rest p first none is = record {
     free = λ task h. let a = taken_fewer (resumes task) handle rest p first in is.ready.free task (omega (arith, a, h));
     woken = λ task h. let a = taken_fewer (wakes task) handle rest p first in is.ready.woken task (omega (arith, a, h));
   };
-  marks = λ task l m. may task (is.marks task l m);
+  must_cancel = λ task l m. may task (is.must_cancel task l m);
 }
   where
     dead : (b : Bool) → (b && false) ≡ false
@@ -38,7 +38,7 @@ taken_sound handle rest p first none is = record {
     same : (task : ℕ) → steps_among task p.pending ≡ steps_among task rest
     same task = taken-where (steps task) handle rest p first ∙ rw (none task, dead (not handle.dead)) (omega arith)
 
-    may : (task : ℕ) → MayBeMarked None p task → MayBeMarked None (taken rest p) task
+    may : (task : ℕ) → MayKeepMustCancel None p task → MayKeepMustCancel None (taken rest p) task
     may task (inl r) = inl r
     may task (inr (inl h)) = let e = same task in inr (inl (omega (arith, e, h)))
     may task (inr (inr w)) = inr (inr (w.0, w.1, w.2, spent-futures p (taken rest p) refl w.0 w.3))

@@ -1,4 +1,4 @@
--- A wait keeps the parts sound, and the cancel that a mark makes of it.
+-- A wait keeps the parts sound, and the cancel that must_cancel makes of it.
 use Rattle.std.proofs.Common.{◌≡◌, ℕ, zero, suc, ◌+◌, ◌<◌, ◌⊎◌, Bool, true, false, cond, List, [], ◌∷◌, ◌++◌, Option, Some, None, length, option_map, slice_get}
 use Rattle.std.proofs.Common.{slice_set, refl, ap, sym, subst, ◌∙◌, inl, inr, arith}
 use Rattle.std.proofs.Math.ListN.{length-set}
@@ -7,18 +7,18 @@ use Rattle.std.proofs.lemmas.Option.{same_Some, slice_get_past, slice_get_within
 use Rattle.std.proofs.lemmas.List.Sums.{sum_by_push}
 use Rattle.std.specs.List.{count_by}
 use Rattle.std.specs.Option.{option_map_or}
-use Rattle.model_value.specs.Action.{Action, Circle}
-use Rattle.model_value.specs.declared.action.Action.TheVariants.{StepInCircle, Wakeup}
+use Rattle.model_value.specs.Action.{Action, CycleKind}
+use Rattle.model_value.specs.declared.action.Action.TheVariants.{StepInCycle, Wakeup}
 use Rattle.model_loop.specs.Parts.{Future, Task, Parts}
 use Rattle.model_loop.specs.Futures.{is_pending, is_pending_at, with_future, register, registered, registered_on, future_outcome, outcome_at}
-use Rattle.model_loop.specs.Tasks.{lives, waiter_of, future_of, is_marked, unmark}
+use Rattle.model_loop.specs.Tasks.{lives, waiter_of, future_of, must_cancel_of, clear_must_cancel}
 use Rattle.model_loop.specs.Spent.{spent_by, is_spent}
 use Rattle.model_loop.specs.Cancel.{CancelRequest, cancel}
-use Rattle.model_loop.specs.Circles.{circle}
+use Rattle.model_loop.specs.Cycles.{cycle}
 use Rattle.model_loop.specs.Suspend.{wait_on, cancel_wait, suspend_unless, suspend}
 use Rattle.model_loop.specs.Ways.{steps, steps_among, wakeups_on, is_running, wakeups_at, ways, wanted, resumes, wakes}
 use Rattle.model_loop.specs.Totals.{callbacks_of, callbacks_at, pending_where}
-use Rattle.model_loop.specs.Marks.{MayBeMarked}
+use Rattle.model_loop.specs.MustCancel.{MayKeepMustCancel}
 use Rattle.law_cancel.proofs.Lookups.{get-set_same, get-set_other, get-set_kept}
 use Rattle.law_cancel.proofs.Counting.{change_task-kept}
 use Rattle.law_cancel.proofs.Effects.{change_task-there, change_task-futures, register-tasks, length-change_task}
@@ -27,7 +27,7 @@ use Rattle.model_loop.specs.Owning.{owner_at, owner_of, own_future, is_plain, is
 use Rattle.model_loop.specs.Sound.{ArePartsSound}
 use Rattle.law_steps.proofs.Looks.{future_of-same, spent_grows_below, change_task-pending}
 use Rattle.law_steps.proofs.CancelSound.{cancel_sound, wakes_steps}
-use Rattle.law_steps.proofs.Stepping.{at_task, running_is, unmarked, unmark_sound, resumes_steps}
+use Rattle.law_steps.proofs.Stepping.{at_task, running_is, cleared, clear_must_cancel_sound, resumes_steps}
 use Rattle.law_steps.proofs.Ending.{pending_there, soon_step_sound}
 use Rattle.law_steps.proofs.Settling.{fewer_pending}
 
@@ -41,7 +41,7 @@ pub record IsWaiting (task on : ℕ) (p q : Parts) : Type 0 where
   pub outcomes : (id : ℕ) → future_outcome q id ≡ future_outcome p id
   pub plains : (id : ℕ) → is_plain q id ≡ is_plain p id
   pub owned : (other : ℕ) → own_future q other ≡ own_future p other
-  pub marked : (other : ℕ) → is_marked q other ≡ is_marked p other
+  pub must_cancel : (other : ℕ) → must_cancel_of q other ≡ must_cancel_of p other
   pub spents : (f : ℕ → Bool) (id : ℕ) → spent_by f (slice_get q.futures id) id ≡ spent_by f (slice_get p.futures id) id
   pub waits : waiter_of q task ≡ Some on
   pub others_wait : (other : ℕ) → (task ≡ other → ⊥) → waiter_of q other ≡ waiter_of p other
@@ -59,7 +59,7 @@ wait_effect task on p it future here e o = record {
   outcomes = λ id. see outcome_at id refl;
   plains = λ id. see is_plain_at id refl;
   owned = λ other. kept (option_map (λ (t : Task). t.future)) (λ t. refl) other;
-  marked = λ other. kept (λ (o : Option Task). option_map_or (λ (t : Task). t.must_cancel) o false) (λ t. refl) other;
+  must_cancel = λ other. kept (λ (o : Option Task). option_map_or (λ (t : Task). t.must_cancel) o false) (λ t. refl) other;
   spents = λ f id. see (λ o. spent_by f o id) id refl;
   waits = ap (λ (q : Parts). option_map_or (λ (t : Task). t.waiter) (slice_get q.tasks task) None) (change_task-there task (waiting on) r it there)
       ∙ ap (λ (o : Option Task). option_map_or (λ (t : Task). t.waiter) o None) (get-set_same r.tasks task it (waiting on it) there);
@@ -182,7 +182,7 @@ module _ (task on : ℕ) (p q : Parts) (w : IsWaiting task on p q) (here : is_pe
       on_waiter = λ other id h. on_waiter other id h (cases_eq task other);
       stays = λ other id l v h. stays other id (sym (living other) ∙ l) v (sym (w.pends id) ∙ h) (cases_eq task other);
     };
-    marks = λ other l m. may other (cases_eq task other) (is.marks other (sym (living other) ∙ l) (sym (w.marked other) ∙ m));
+    must_cancel = λ other l m. may other (cases_eq task other) (is.must_cancel other (sym (living other) ∙ l) (sym (w.must_cancel other) ∙ m));
   }
     where
       callbacks : (id : ℕ) → (on ≡ id) ⊎ (on ≡ id → ⊥) → count_by is_no_callback (callbacks_of q id) ≡ 0
@@ -241,14 +241,15 @@ module _ (task on : ℕ) (p q : Parts) (w : IsWaiting task on p q) (here : is_pe
           subst (λ t. wakeups_on q t id ≡ 1) same (subst (λ j. wakeups_on q task j ≡ 1) i mine_on)
       stays other id l v h (inr n) = others_on other id n ∙ is.one_way.stays other id l (sym (w.others_wait other n) ∙ v) h
 
-      may : (other : ℕ) → (task ≡ other) ⊎ (task ≡ other → ⊥) → MayBeMarked (Some task) p other → MayBeMarked (Some task) q other
+      may : (other : ℕ) → (task ≡ other) ⊎ (task ≡ other → ⊥) → MayKeepMustCancel (Some task) p other → MayKeepMustCancel (Some task) q other
       may other (inl same) h = inl (eq-eqb task other same)
       may other (inr n) (inl r) = inl r
       may other (inr n) (inr (inl h)) = inr (inl (subst (λ l. 0 < steps_among other l) (sym w.pending) h))
       may other (inr n) (inr (inr v)) = inr (inr (v.0, w.others_wait other n ∙ v.1, w.pends v.0 ∙ v.2, spent v.0 v.3))
 
--- the excuse ends where the task isn't marked, or where it may be
-pub unexcused : (running : Option ℕ) (task : ℕ) (p : Parts) → (is_marked p task ≡ true → MayBeMarked None p task) → ArePartsSound running (Some task) p
+-- the excuse ends where the task need not cancel, or where it may be
+pub unexcused : (running : Option ℕ) (task : ℕ) (p : Parts) → (must_cancel_of p task ≡ true → MayKeepMustCancel None p task)
+    → ArePartsSound running (Some task) p
     → ArePartsSound running None p
 unexcused who task p reason is = record {
   owns = is.owns;
@@ -259,11 +260,12 @@ unexcused who task p reason is = record {
   waits_made = is.waits_made;
   one_way = is.one_way;
   ready = is.ready;
-  marks = λ other l m. may other m (is.marks other l m);
+  must_cancel = λ other l m. may other m (is.must_cancel other l m);
 }
   where
-    may : (other : ℕ) → is_marked p other ≡ true → MayBeMarked (Some task) p other → MayBeMarked None p other
-    may other m (inl r) = subst (MayBeMarked None p) (running_is task other r) (reason (subst (λ t. is_marked p t ≡ true) (sym (running_is task other r)) m))
+    may : (other : ℕ) → must_cancel_of p other ≡ true → MayKeepMustCancel (Some task) p other → MayKeepMustCancel None p other
+    may other m (inl r) = subst (MayKeepMustCancel None p) (running_is task other r)
+        (reason (subst (λ t. must_cancel_of p t ≡ true) (sym (running_is task other r)) m))
     may other m (inr h) = inr h
 
 pub task_there : (p : Parts) (task : ℕ) → lives p task ≡ true → (it : Task) × (slice_get p.tasks task ≡ Some it)
@@ -279,7 +281,7 @@ task_there p task l = at (slice_get p.tasks task) refl
 
 pub suspend_sound : (task on : ℕ) (p : Parts) → is_pending p on ≡ true → ArePartsSound (Some task) (Some task) p
     → ArePartsSound None None (suspend task on p).parts
-suspend_sound task on p here is = at (circle p task on)
+suspend_sound task on p here is = at (cycle p task on)
   where
     w : IsWaiting task on p (wait_on task on p)
     w = let u = task_there p task (is.runs task (eq-eqb task task refl)) in let g = pending_there p on here in
@@ -292,10 +294,11 @@ suspend_sound task on p here is = at (circle p task on)
     asked = cancel_sound None (Some task) (λ other r. absurd (false≢true r)) on (wait_on task on p) waits
 
     answered : (b : Bool) → (cancel on (wait_on task on p)).answer ≡ b
-        → ArePartsSound None None (cond b (unmark task (cancel on (wait_on task on p)).parts) (cancel on (wait_on task on p)).parts)
+        → ArePartsSound None None (cond b (clear_must_cancel task (cancel on (wait_on task on p)).parts) (cancel on (wait_on task on p)).parts)
     answered true e =
         let r = (cancel on (wait_on task on p)).parts in
-        unexcused None task (unmark task r) (λ m. absurd (false≢true (sym (unmarked task r) ∙ m))) (unmark_sound None (Some task) task r asked)
+        unexcused None task (clear_must_cancel task r) (λ m. absurd (false≢true (sym (cleared task r) ∙ m)))
+        (clear_must_cancel_sound None (Some task) task r asked)
     answered false e =
         let still = with_still on [] (wait_on task on p) e in
         let spent : is_spent (wait_on task on p) on ≡ true =
@@ -303,10 +306,10 @@ suspend_sound task on p here is = at (circle p task on)
         subst (λ (r : CancelRequest). ArePartsSound None None r.parts) (sym still)
         (unexcused None task (wait_on task on p) (λ m. inr (inr (on, w.waits, w.pends on ∙ here, spent))) waits)
 
-    marked : (b : Bool) → is_marked p task ≡ b → ArePartsSound None None (cancel_wait b task on (wait_on task on p)).parts
-    marked false e = unexcused None task (wait_on task on p) (λ m. absurd (false≢true (sym e ∙ sym (w.marked task) ∙ m))) waits
-    marked true e = answered (cancel on (wait_on task on p)).answer refl
+    must_cancel : (b : Bool) → must_cancel_of p task ≡ b → ArePartsSound None None (cancel_wait b task on (wait_on task on p)).parts
+    must_cancel false e = unexcused None task (wait_on task on p) (λ m. absurd (false≢true (sym e ∙ sym (w.must_cancel task) ∙ m))) waits
+    must_cancel true e = answered (cancel on (wait_on task on p)).answer refl
 
-    at : (o : Option Circle) → ArePartsSound None None (suspend_unless o task on p).parts
-    at (Some why) = soon_step_sound task (StepInCircle task why) p (eq-eqb task task refl) is
-    at None = marked (is_marked p task) refl
+    at : (o : Option CycleKind) → ArePartsSound None None (suspend_unless o task on p).parts
+    at (Some why) = soon_step_sound task (StepInCycle task why) p (eq-eqb task task refl) is
+    at None = must_cancel (must_cancel_of p task) refl

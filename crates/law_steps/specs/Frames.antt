@@ -1,7 +1,7 @@
 -- What the laws need of a step: whom it excuses, what it takes out, which futures it may end.
 use Rattle.std.specs.Prelude.{◌≡◌, ℕ, Bool, true, false, List, Option}
 use Rattle.model_value.specs.Action.{Action}
-use Rattle.model_value.specs.declared.action.Action.TheVariants.{Step, StepInCircle, Wakeup, GroupDone}
+use Rattle.model_value.specs.declared.action.Action.TheVariants.{Step, StepInCycle, Wakeup, GroupDone}
 use Rattle.model_loop.specs.Parts.{Handle, Parts}
 use Rattle.model_loop.specs.Tasks.{future_of, waiter_of}
 use Rattle.model_loop.specs.Totals.{IsAtHome}
@@ -27,7 +27,7 @@ IsOnWaiter p = (task : ℕ) → IsAtHome p (steps task) (waiter_of p task)
 -- tasks and groups.
 abbrev pub is_followed : Action → Bool
 is_followed (Step task) = true
-is_followed (StepInCircle task circle) = true
+is_followed (StepInCycle task cycle) = true
 is_followed (Wakeup task) = true
 is_followed (GroupDone group task) = true
 is_followed _ = false

@@ -2,7 +2,7 @@
 //! sound.
 #![tactic(auto)]
 
-pub mod circles;
+pub mod cycles;
 pub mod made;
 pub mod requests;
 pub mod steps;

@@ -16,7 +16,7 @@ use Rattle.law_changes.proofs.BlockRows.{wait_or_end_in}
 use Rattle.law_changes.proofs.Folds.{one, widen}
 use Rattle.law_groups.proofs.Holding.{group_same}
 use Rattle.law_turns.specs.After.{IsLoopAfter, MayLeaveLoop}
-use Rattle.law_turns.proofs.Loops.{loop_on, may_group, quiet_group, row_loop, exit_begun, exit_heard, begin_loop, begin_marks, heard_loop}
+use Rattle.law_turns.proofs.Loops.{loop_on, may_group, quiet_group, row_loop, exit_begun, exit_heard, begin_loop, begin_must_cancel, heard_loop}
 
 module _ (test : Value → Bool) (nothing : test Nothing ≡ true) (grown : Bool) (excused timeout begun : Option ℕ) (id : ℕ) where
   -- one that waits ends nothing, and any other ends the group
@@ -86,7 +86,7 @@ module _ (test : Value → Bool) (nothing : test Nothing ≡ true) (grown : Bool
   pub exit_begin_marks : (raised : Option Exc) (l : Loop) → id < length l.groups → (group_of (exit_begin raised id l).loop id).exiting ≡ true
   exit_begin_marks raised l within =
       ((wait_or_end_loop (exit_begun test nothing grown excused timeout None begun raised id l)).groups id).exiting
-      (begin_marks test nothing grown excused timeout None begun raised id l within)
+      (begin_must_cancel test nothing grown excused timeout None begun raised id l within)
 
   pub exit_woken_loop : (input : Input) (l : Loop) → IsLoopAfter test grown excused timeout (Some id) begun l (exit_woken input id l).loop
   exit_woken_loop input l =

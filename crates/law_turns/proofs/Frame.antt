@@ -3,7 +3,7 @@ use Rattle.std.proofs.Common.{ℕ, Bool, Option, refl, sym, subst, le_refl}
 use Rattle.model_value.specs.Value.{Value}
 use Rattle.model_loop.specs.Parts.{Parts}
 use Rattle.law_changes.specs.Changes.{PartsChange, CallsSoon, CallsLater, Revokes, MakesFuture, Settles, Registers, KeepsAsked, MakesTask, WaitsFor}
-use Rattle.law_changes.specs.Changes.{Marks, Unmarks, Counts, Uncounts, Passes, FallsDue, LeavesPending, made_of_parts}
+use Rattle.law_changes.specs.Changes.{SetsMustCancel, ClearsMustCancel, Counts, Uncounts, Passes, FallsDue, LeavesPending, made_of_parts}
 use Rattle.law_changes.specs.Reaches.{Reaches}
 use Rattle.law_changes.proofs.Folds.{fold}
 use Rattle.law_turns.specs.After.{IsAfter, MayLeave}
@@ -21,8 +21,8 @@ module _ (test : Value → Bool) (grown : Bool) (excused : Option ℕ) where
   change_leaves (KeepsAsked future) p may = asked_after test grown excused future p
   change_leaves MakesTask p may = subst (λ b. IsAfter test b excused p (made_of_parts MakesTask p)) (sym may) (spawn_after test excused p)
   change_leaves (WaitsFor task on) p may = change_after test grown excused task _ p (λ t. refl)
-  change_leaves (Marks task) p may = change_after test grown excused task _ p (λ t. refl)
-  change_leaves (Unmarks task) p may = change_after test grown excused task _ p (λ t. refl)
+  change_leaves (SetsMustCancel task) p may = change_after test grown excused task _ p (λ t. refl)
+  change_leaves (ClearsMustCancel task) p may = change_after test grown excused task _ p (λ t. refl)
   change_leaves (Counts task) p may = change_after test grown excused task _ p (λ t. refl)
   change_leaves (Uncounts task) p may = change_after test grown excused task _ p (λ t. refl)
   change_leaves (Passes now) p may =

@@ -193,8 +193,8 @@ module _ (test : Value → Bool) (nothing : test Nothing ≡ true) (grown : Bool
         still = λ h. absurd (false≢true (sym h ∙ may));
       })))
 
-  pub begin_marks : (raised : Option Exc) (id : ℕ) (l : Loop) → id < length l.groups → (group_of (exit_begun raised id l) id).exiting ≡ true
-  begin_marks raised id l within =
+  pub begin_must_cancel : (raised : Option Exc) (id : ℕ) (l : Loop) → id < length l.groups → (group_of (exit_begun raised id l) id).exiting ≡ true
+  begin_must_cancel raised id l within =
       ((begun_loop raised id l).groups id).exiting
       (ap (λ (g : Group). g.exiting) (group_same id (record (group_of l id) { exiting = true; body = raised; kept = only_cancelled raised }) l within))
 

@@ -7,7 +7,7 @@ use Rattle.model_value.specs.Value.{Nothing}
 use Rattle.model_value.specs.declared.action.Action.TheVariants as action
 use Rattle.model_value.specs.declared.input.Input.TheVariants.{Send, Throw}
 use Rattle.model_wire.specs.declared.event.Event.TheVariants as event
-use Rattle.model_loop.specs.Circles.{circle_fault}
+use Rattle.model_loop.specs.Cycles.{cycle_exception}
 use Rattle.model_loop.specs.Deadlines.{fires}
 use Rattle.model_loop.specs.Loop.{in_parts}
 use Rattle.model_loop.specs.Parts.{Handle}
@@ -27,7 +27,7 @@ use Rattle.law_cases.specs.Trees.{is_of_streams}
 use Rattle.law_cases.proofs.Going.{effect_is}
 use Rattle.law_turns.specs.Fits.{FitsStep}
 use Rattle.law_turns.specs.FitsTurn.{AreSound, GoesOnFit, FitsAction, FitsLive, FitsIf, FitsNext, FitsBelow, FitsPending}
-use Rattle.law_turns.specs.Replied.{IsStanding}
+use Rattle.law_turns.specs.Replied.{IsResumePoint}
 use Rattle.law_turns.specs.SoundState.{HasSoundLoop, LeavesSoundLoop}
 use Rattle.law_turns.proofs.Serving.{step_handle}
 use Rattle.law_turns.proofs.Streaming.{goes_sound, streams_unfollowed}
@@ -55,11 +55,11 @@ module _ {S : Type 0} (limit : ℕ) (added : Extra S) where
 
     -- ---- one that steps a task
     steps_task : (it : Action) (task : ℕ) (input : Input) → handle.action ≡ it → steps task it ≡ true → handle.dead ≡ false
-        → IsStanding (generator_of task s).standing s → FitsStep limit added task input (noted (event.Ran it) out)
+        → IsResumePoint (generator_of task s).resume_point s → FitsStep limit added task input (noted (event.Ran it) out)
         → LeavesSoundLoop (step limit added task input (noted (event.Ran it) out))
-    steps_task it task input is mine live standing fit =
+    steps_task it task input is mine live resume_point fit =
         subst (λ a. LeavesSoundLoop (step limit added task input (noted (event.Ran a) out))) is
-        (step_handle limit added s task input handle rest first live (ap (steps task) is ∙ mine) sound standing
+        (step_handle limit added s task input handle rest first live (ap (steps task) is ∙ mine) sound resume_point
         (subst (λ a. FitsStep limit added task input (noted (event.Ran a) out)) (sym is) fit))
 
     -- ---- one of listeners, connections and children
@@ -77,9 +77,9 @@ module _ {S : Type 0} (limit : ℕ) (added : Extra S) where
     lively (action.Step task) live is fit =
         live_as limit added s handle rest first sound (action.Step task) live is
         (steps_task (action.Step task) task (Send Nothing) is (eq-eqb task task refl) live fit.0 fit.1)
-    lively (action.StepInCircle task circle) live is fit =
-        live_as limit added s handle rest first sound (action.StepInCircle task circle) live is
-        (steps_task (action.StepInCircle task circle) task (Throw (circle_fault circle)) is (eq-eqb task task refl) live fit.0 fit.1)
+    lively (action.StepInCycle task cycle) live is fit =
+        live_as limit added s handle rest first sound (action.StepInCycle task cycle) live is
+        (steps_task (action.StepInCycle task cycle) task (Throw (cycle_exception cycle)) is (eq-eqb task task refl) live fit.0 fit.1)
     lively (action.Wakeup task) live is fit =
         live_as limit added s handle rest first sound (action.Wakeup task) live is
         (steps_task (action.Wakeup task) task (woken_with out.loop.parts task) is (eq-eqb task task refl) live fit.0 fit.1)

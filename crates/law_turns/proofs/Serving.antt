@@ -6,14 +6,14 @@ use Rattle.model_wire.specs.declared.event.Event.TheVariants as event
 use Rattle.model_loop.specs.Parts.{Handle}
 use Rattle.model_loop.specs.Ways.{steps}
 use Rattle.model_machine.specs.Extra.{Extra}
-use Rattle.model_machine.specs.Replies.{RequestReply, Answers, Raises, Rests, Halts, reply}
+use Rattle.model_machine.specs.Replies.{RequestReply, Answers, Raises, Suspends, Halts, reply}
 use Rattle.model_machine.specs.State.{State, generator_of, noted, unbooked_in}
 use Rattle.model_machine.specs.Step.{taken_as, says_of, served, serve, serve_all, most_answers, step}
 use Rattle.model_machine.specs.Told.{told_in}
 use Rattle.model_machine.specs.Went.{Went}
 use Rattle.law_sound.proofs.Steps.{finish_step_sound}
 use Rattle.law_turns.specs.Fits.{FitsAfter, FitsSaying, FitsWithin, FitsAll, FitsStep}
-use Rattle.law_turns.specs.Replied.{RunsSound, RepliesSound, IsStanding}
+use Rattle.law_turns.specs.Replied.{RunsSound, RepliesSound, IsResumePoint}
 use Rattle.law_turns.specs.SoundState.{HasSoundLoop, LeavesSoundLoop}
 use Rattle.law_turns.proofs.Streaming.{reply_sound}
 use Rattle.law_turns.proofs.Stepping.{step_begins}
@@ -25,7 +25,7 @@ module _ {S : Type 0} (limit : ℕ) (added : Extra S) (task : ℕ) where
       → RepliesSound task r → FitsAfter Fits fresh task r → LeavesSoundLoop (taken_as r fresh task go_on)
   after_sound Fits go_on each fresh (Answers value now) h fit = each _ h fit
   after_sound Fits go_on each fresh (Raises fault now) h fit = each _ h fit
-  after_sound Fits go_on each fresh (Rests now) h fit = h
+  after_sound Fits go_on each fresh (Suspends now) h fit = h
   after_sound Fits go_on each fresh (Halts end last) h fit = tt
 
   served_sound : (Fits : State S → Type 0) (go_on : State S → Went S)
@@ -50,7 +50,7 @@ module _ {S : Type 0} (limit : ℕ) (added : Extra S) (task : ℕ) where
   -- ---- a handle that steps the task
   module _ (s : State S) (handle : Handle) (rest : List Handle) (first : s.loop.parts.pending ≡ handle ∷ rest)
       (live : handle.dead ≡ false) (mine : steps task handle.action ≡ true) (sound : HasSoundLoop s)
-      (standing : IsStanding (generator_of task s).standing s) where
+      (resume_point : IsResumePoint (generator_of task s).resume_point s) where
     abbrev gone : State S
     gone = noted (event.Ran handle.action) (unbooked_in (λ p. record p { pending = rest }) s)
 
@@ -59,13 +59,13 @@ module _ {S : Type 0} (limit : ℕ) (added : Extra S) (task : ℕ) where
     stepped input fit =
         after_sound (FitsAll limit added task) (serve_all limit added task)
         (λ t h f. serve_sound (most_answers limit (generator_of task t).tape) t h f) true _
-        (step_begins added s task input handle rest first live mine sound (generator_of task s).standing standing) fit
+        (step_begins added s task input handle rest first live mine sound (generator_of task s).resume_point resume_point) fit
 
 -- ---- the whole callback
 pub step_handle : {S : Type 0} (limit : ℕ) (added : Extra S) (s : State S) (task : ℕ) (input : Input) (handle : Handle)
     (rest : List Handle) → s.loop.parts.pending ≡ handle ∷ rest → handle.dead ≡ false → steps task handle.action ≡ true
-    → HasSoundLoop s → IsStanding (generator_of task s).standing s
+    → HasSoundLoop s → IsResumePoint (generator_of task s).resume_point s
     → FitsStep limit added task input (noted (event.Ran handle.action) (unbooked_in (λ p. record p { pending = rest }) s))
     → LeavesSoundLoop (step limit added task input (noted (event.Ran handle.action) (unbooked_in (λ p. record p { pending = rest }) s)))
-step_handle limit added s task input handle rest first live mine sound standing fit =
-    stepped limit added task s handle rest first live mine sound standing input fit
+step_handle limit added s task input handle rest first live mine sound resume_point fit =
+    stepped limit added task s handle rest first live mine sound resume_point input fit

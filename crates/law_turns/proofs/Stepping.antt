@@ -24,7 +24,7 @@ use Rattle.model_machine.specs.Extra.{Extra}
 use Rattle.model_machine.specs.Replies.{Answers, decides, exits_as, exits_group}
 use Rattle.law_cases.specs.Closed.{stands_at_streams}
 use Rattle.model_machine.specs.Sound.{AreStreamsFutures, stands_at}
-use Rattle.model_machine.specs.State.{Standing, Asked, Sleeping, Leaving, Serving, Connecting, Yielding}
+use Rattle.model_machine.specs.State.{ResumePoint, Asked, Sleeping, Leaving, Serving, Connecting, Yielding}
 use Rattle.model_machine.specs.State.{Reading, ReadingAll, State, noted, stands, unbooked_in, with_loop}
 use Rattle.model_machine.specs.Step.{given_up}
 use Rattle.model_machine.specs.Told.{told_by, told_in}
@@ -33,7 +33,7 @@ use Rattle.law_groups.proofs.Quiet.{handles-first}
 use Rattle.law_groups.proofs.Waits.{waits_pending}
 use Rattle.law_sound.proofs.Steps.{begin_step_sound, revoke_step_sound, suspend_step_sound}
 use Rattle.law_sound.proofs.GroupSteps.{exit_woken_step_sound}
-use Rattle.law_turns.specs.Replied.{RunsSound, RepliesSound, IsStanding}
+use Rattle.law_turns.specs.Replied.{RunsSound, RepliesSound, IsResumePoint}
 use Rattle.law_turns.specs.SoundState.{HasSoundLoop}
 use Rattle.law_turns.proofs.Turning.{as_told, tells_none}
 use Rattle.law_turns.proofs.Requests.{begin_after}
@@ -87,9 +87,9 @@ module _ {S : Type 0} (added : Extra S) (s : State S) (task : ℕ) (input : Inpu
   abbrev gone : State S
   gone = noted (event.Ran handle.action) (unbooked_in (λ p. record p { pending = rest }) s)
 
-  abbrev begun : Standing → State S
-  begun standing =
-      stands Asked task (unbooked_in (λ p. (begin_step task input (given_up standing gone.loop.parts)).parts) gone)
+  abbrev begun : ResumePoint → State S
+  begun resume_point =
+      stands Asked task (unbooked_in (λ p. (begin_step task input (given_up resume_point gone.loop.parts)).parts) gone)
 
   told_as_before : (running : Option ℕ) (l : Loop) → IsSound running (told_in s.events) l
       → IsSound running (told_in (s.events ++ event.Ran handle.action ∷ [])) l
@@ -97,7 +97,7 @@ module _ {S : Type 0} (added : Extra S) (s : State S) (task : ℕ) (input : Inpu
       as_told running (told_in s.events) (told_in (s.events ++ event.Ran handle.action ∷ [])) l
       (tells_none s.events handle.action (step_tells_none task handle.action mine)) h
 
-  pub runs : (standing : Standing) → IsStanding standing s → RunsSound task (begun standing)
+  pub runs : (resume_point : ResumePoint) → IsResumePoint resume_point s → RunsSound task (begun resume_point)
   runs Asked fit = told_as_before (Some task) _ (begun_plainly (told_in s.events) task handle rest s.loop first live mine sound input)
   runs (Sleeping tag) fit =
       told_as_before (Some task) _ (begun_awake (told_in s.events) task handle rest s.loop first live mine sound tag input fit)
@@ -125,14 +125,14 @@ module _ {S : Type 0} (added : Extra S) (s : State S) (task : ℕ) (input : Inpu
       at (RaisedBy fault) e = woken
 
   -- a request of a kind at which a task may stand so
-  asked_at : Standing → Request
+  asked_at : ResumePoint → Request
   asked_at (Connecting conn) = request.Connect Nothing
   asked_at (Yielding whom) = request.Drain Nothing
   asked_at (Reading from op on) = request.ReadLine Nothing
   asked_at (ReadingAll from taken on) = request.Read Nothing Nothing
   asked_at _ = request.Pause
 
-  stands_there : (standing : Standing) → stands_at_streams standing ≡ true → stands_at standing (asked_at standing) ≡ true
+  stands_there : (resume_point : ResumePoint) → stands_at_streams resume_point ≡ true → stands_at resume_point (asked_at resume_point) ≡ true
   unfolding asked_at
   stands_there (Connecting conn) is = refl
   stands_there (Yielding whom) is = refl
@@ -143,7 +143,7 @@ module _ {S : Type 0} (added : Extra S) (s : State S) (task : ℕ) (input : Inpu
   stands_there (Leaving group) is = absurd (false≢true is)
   stands_there (Serving key) is = absurd (false≢true is)
 
-  woken_sound : (standing : Standing) (now : State S) → RunsSound task now → RunsSound task (woken_at standing now)
+  woken_sound : (resume_point : ResumePoint) (now : State S) → RunsSound task now → RunsSound task (woken_at resume_point now)
   woken_sound Asked now h = h
   woken_sound (Sleeping tag) now h = h
   woken_sound (Leaving group) now h = h
@@ -154,27 +154,30 @@ module _ {S : Type 0} (added : Extra S) (s : State S) (task : ℕ) (input : Inpu
   woken_sound (ReadingAll from taken on) now h = h
 
   -- at a request on listeners, connections and children
-  streams_begin : (standing : Standing) (with_ : Input) (now : State S) → stands_at_streams standing ≡ true → AreStreamsFutures now → RunsSound task now
-      → RepliesSound task (decides added standing task with_ now)
-  streams_begin standing with_ now is kept h =
-      at (streams_decide added task now kept (asked_at standing) standing with_ is (stands_there standing is))
+  streams_begin : (resume_point : ResumePoint) (with_ : Input) (now : State S) → stands_at_streams resume_point ≡ true → AreStreamsFutures now
+      → RunsSound task now
+      → RepliesSound task (decides added resume_point task with_ now)
+  streams_begin resume_point with_ now is kept h =
+      at (streams_decide added task now kept (asked_at resume_point) resume_point with_ is (stands_there resume_point is))
     where
-      at : ((value : Value) × (with_ ≡ Send value) × (decides added standing task with_ now ≡ Answers value now))
-          ⊎ StreamReplies task standing (woken_at standing now) (asked_at standing) (decides added standing task with_ now)
-          → RepliesSound task (decides added standing task with_ now)
+      at : ((value : Value) × (with_ ≡ Send value) × (decides added resume_point task with_ now ≡ Answers value now))
+          ⊎ StreamReplies task resume_point (woken_at resume_point now) (asked_at resume_point) (decides added resume_point task with_ now)
+          → RepliesSound task (decides added resume_point task with_ now)
       at (inl told) = subst (RepliesSound task) (sym told.2) h
       at (inr it) =
-          streams_sound task standing (woken_at standing now) (asked_at standing) (decides added standing task with_ now) it (woken_sound standing now h)
+          streams_sound task resume_point (woken_at resume_point now) (asked_at resume_point) (decides added resume_point task with_ now) it
+          (woken_sound resume_point now h)
 
   -- what was plain is so once the step began
-  kept_begun : (standing : Standing) → given_up standing gone.loop.parts ≡ gone.loop.parts → AreStreamsFutures s → AreStreamsFutures (begun standing)
-  kept_begun standing same kept =
-      streams_more (λ future. is_plain s.loop.parts future ≡ true) (λ future. is_plain (begun standing).loop.parts future ≡ true)
+  kept_begun : (resume_point : ResumePoint) → given_up resume_point gone.loop.parts ≡ gone.loop.parts → AreStreamsFutures s
+      → AreStreamsFutures (begun resume_point)
+  kept_begun resume_point same kept =
+      streams_more (λ future. is_plain s.loop.parts future ≡ true) (λ future. is_plain (begun resume_point).loop.parts future ≡ true)
       (λ future h. subst (λ p. is_plain (begin_step task input p).parts future ≡ true) (sym same)
       ((begin_after (λ value. true) false None task input gone.loop.parts).plain future h)) s.streams kept
 
-  pub step_begins : (standing : Standing) → IsStanding standing s
-      → RepliesSound task (decides added standing task (begin_step task input (given_up standing gone.loop.parts)).input (begun standing))
+  pub step_begins : (resume_point : ResumePoint) → IsResumePoint resume_point s
+      → RepliesSound task (decides added resume_point task (begin_step task input (given_up resume_point gone.loop.parts)).input (begun resume_point))
   step_begins Asked fit = replied_sound task (begin_step task input gone.loop.parts).input (begun Asked) (runs Asked fit)
   step_begins (Sleeping tag) fit =
       replied_sound task (begin_step task input (revoke tag gone.loop.parts)).input (begun (Sleeping tag)) (runs (Sleeping tag) fit)

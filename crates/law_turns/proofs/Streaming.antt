@@ -13,13 +13,14 @@ use Rattle.model_machine.specs.Extra.{Extra}
 use Rattle.model_machine.specs.Outcomes.{input_of}
 use Rattle.model_machine.specs.Replies.{RequestReply, reply}
 use Rattle.model_machine.specs.Sound.{AreStreamsFutures}
-use Rattle.model_machine.specs.State.{Standing, Asked, State}
+use Rattle.model_machine.specs.State.{ResumePoint, Asked, State}
 use Rattle.model_machine.specs.Told.{told_in}
 use Rattle.model_machine.specs.Went.{Went}
 use Rattle.law_steps.specs.Frames.{is_followed}
 use Rattle.law_groups.specs.Tags.{is_deadline}
-use Rattle.law_changes.specs.Changes.{PartsChange, CallsSoon, CallsLater, Revokes, MakesFuture, Settles, Registers, KeepsAsked, MakesTask, WaitsFor, Marks}
-use Rattle.law_changes.specs.Changes.{Unmarks, Counts, Uncounts, Passes, FallsDue, LeavesPending, made_of_parts}
+use Rattle.law_changes.specs.Changes.{PartsChange, CallsSoon, CallsLater, Revokes, MakesFuture, Settles, Registers, KeepsAsked, MakesTask, WaitsFor}
+use Rattle.law_changes.specs.Changes.{SetsMustCancel}
+use Rattle.law_changes.specs.Changes.{ClearsMustCancel, Counts, Uncounts, Passes, FallsDue, LeavesPending, made_of_parts}
 use Rattle.law_changes.specs.Reaches.{Reaches, stays, goes}
 use Rattle.law_sound.proofs.Registering.{register_step_sound, soon_step_sound}
 use Rattle.law_sound.proofs.Steps.{pause_step_sound, plain_step_sound, settle_step_sound, spawn_step_sound, suspend_step_sound}
@@ -84,8 +85,8 @@ module _ (running : Option ℕ) (told : ℕ → List ℕ) (l : Loop) where
   change_sound (KeepsAsked future) p may sound = absurd may
   change_sound MakesTask p may sound = absurd may
   change_sound (WaitsFor task on) p may sound = absurd may
-  change_sound (Marks task) p may sound = absurd may
-  change_sound (Unmarks task) p may sound = absurd may
+  change_sound (SetsMustCancel task) p may sound = absurd may
+  change_sound (ClearsMustCancel task) p may sound = absurd may
   change_sound (Counts task) p may sound = absurd may
   change_sound (Uncounts task) p may sound = absurd may
   change_sound (Passes now) p may sound = absurd may
@@ -102,7 +103,7 @@ end_sound running s t it sound =
     as_told running (told_in s.events) (told_in t.events) t.loop it.told
     (subst (IsSound running (told_in s.events)) (sym it.loop) (row_sound running (told_in s.events) s.loop it.row sound))
 
-module _ {S : Type 0} (task : ℕ) (stood : Standing) (s : State S) where
+module _ {S : Type 0} (task : ℕ) (stood : ResumePoint) (s : State S) where
   -- ---- each case of a request
   pub streams_sound : (asked : Request) (it : RequestReply S) → StreamReplies task stood s asked it → RunsSound task s → RepliesSound task it
   streams_sound asked it (refuses fault) sound = sound
@@ -114,7 +115,7 @@ module _ {S : Type 0} (task : ℕ) (stood : Standing) (s : State S) where
   streams_sound asked it (raises t streams fault it_) sound = end_sound (Some task) s t it_.ended sound
   streams_sound asked it (waits_on t streams on it_ here may) sound =
       suspend_step_sound (told_in t.events) task on t.loop here (end_sound (Some task) s t it_.ended sound)
-  streams_sound asked it (stands_on t streams standing on it_ here at may opened) sound =
+  streams_sound asked it (stands_on t streams resume_point on it_ here at may opened) sound =
       suspend_step_sound (told_in t.events) task on t.loop here (end_sound (Some task) s t it_.ended sound)
   streams_sound asked it (yields t streams whom it_ may opened) sound =
       pause_step_sound (told_in t.events) task t.loop (end_sound (Some task) s t it_.ended sound)

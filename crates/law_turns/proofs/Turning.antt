@@ -81,7 +81,7 @@ tells_more events id task group = told_in-ran events (GroupDone id task) group �
 pub as_told : (running : Option ℕ) (a b : ℕ → List ℕ) (l : Loop) → ((group : ℕ) → b group ≡ a group) → IsSound running a l → IsSound running b l
 as_told running a b l same s = record {
   numbered = s.numbered;
-  no_circle = s.no_circle;
+  no_cycle = s.no_cycle;
   parts = s.parts;
   timed = s.timed;
   timeouts = s.timeouts;

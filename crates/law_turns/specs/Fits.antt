@@ -7,7 +7,7 @@ use Rattle.model_says.specs.Endings.{Saying, Asks, Returns, Raises as Raised, Ru
 use Rattle.model_loop.specs.Groups.{group_of}
 use Rattle.model_loop.specs.Tasks.{begin_step}
 use Rattle.model_machine.specs.Extra.{Extra}
-use Rattle.model_machine.specs.Replies.{RequestReply, Answers, Raises, Rests, Halts, decides, reply}
+use Rattle.model_machine.specs.Replies.{RequestReply, Answers, Raises, Suspends, Halts, decides, reply}
 use Rattle.model_machine.specs.State.{Asked, State, generator_of, resumed, stands, unbooked_in}
 use Rattle.model_machine.specs.Step.{given_up, most_answers, says_of}
 use Rattle.law_turns.specs.Replied.{HasPlainFutures, IsFit}
@@ -22,7 +22,7 @@ HasNoOpenGroup task s =
 abbrev pub FitsAfter : {S : Type 0} → (State S → Type 0) → (fresh : Bool) → ℕ → RequestReply S → Type 0
 FitsAfter then_ fresh task (Answers value now) = then_ (resumed fresh task (Send value) now)
 FitsAfter then_ fresh task (Raises fault now) = then_ (resumed fresh task (Throw fault) now)
-FitsAfter then_ fresh task (Rests now) = Unit {0}
+FitsAfter then_ fresh task (Suspends now) = Unit {0}
 FitsAfter then_ fresh task (Halts end last) = Unit {0}
 
 module _ {S : Type 0} (limit : ℕ) (added : Extra S) (task : ℕ) where
@@ -44,7 +44,7 @@ module _ {S : Type 0} (limit : ℕ) (added : Extra S) (task : ℕ) where
   -- of a whole step
   abbrev pub FitsStep : Input → State S → Type 0
   FitsStep input s =
-      let standing = (generator_of task s).standing in
-      let begun = begin_step task input (given_up standing s.loop.parts) in
+      let resume_point = (generator_of task s).resume_point in
+      let begun = begin_step task input (given_up resume_point s.loop.parts) in
       FitsAfter FitsAll true task
-      (decides added standing task begun.input (stands Asked task (unbooked_in (λ p. begun.parts) s)))
+      (decides added resume_point task begun.input (stands Asked task (unbooked_in (λ p. begun.parts) s)))

@@ -6,7 +6,7 @@ use Rattle.model_value.specs.Value.{Nothing}
 use Rattle.model_value.specs.declared.action.Action.TheVariants as action
 use Rattle.model_value.specs.declared.input.Input.TheVariants.{Send, Throw}
 use Rattle.model_wire.specs.declared.event.Event.TheVariants as event
-use Rattle.model_loop.specs.Circles.{circle_fault}
+use Rattle.model_loop.specs.Cycles.{cycle_exception}
 use Rattle.model_loop.specs.Parts.{Handle}
 use Rattle.model_machine.specs.Extra.{Extra}
 use Rattle.model_machine.specs.Outcomes.{woken_with}
@@ -16,7 +16,7 @@ use Rattle.model_machine.specs.Turn.{effect, run_first}
 use Rattle.model_machine.specs.Went.{Went, Goes, Stops}
 use Rattle.law_cases.specs.Trees.{is_of_streams}
 use Rattle.law_turns.specs.Fits.{FitsStep}
-use Rattle.law_turns.specs.Replied.{IsStanding}
+use Rattle.law_turns.specs.Replied.{IsResumePoint}
 use Rattle.law_turns.specs.SoundState.{HasSoundLoop, LeavesSoundLoop}
 
 -- all of these states are sound
@@ -33,11 +33,11 @@ module _ {S : Type 0} (limit : ℕ) (added : Extra S) where
   -- `s` is the state before the handle was taken out, and `gone` the one after that
   abbrev pub FitsAction : Action → (s gone : State S) → Type 0
   FitsAction (action.Step task) s gone =
-      IsStanding (generator_of task s).standing s × FitsStep limit added task (Send Nothing) gone
-  FitsAction (action.StepInCircle task circle) s gone =
-      IsStanding (generator_of task s).standing s × FitsStep limit added task (Throw (circle_fault circle)) gone
+      IsResumePoint (generator_of task s).resume_point s × FitsStep limit added task (Send Nothing) gone
+  FitsAction (action.StepInCycle task cycle) s gone =
+      IsResumePoint (generator_of task s).resume_point s × FitsStep limit added task (Throw (cycle_exception cycle)) gone
   FitsAction (action.Wakeup task) s gone =
-      IsStanding (generator_of task s).standing s × FitsStep limit added task (woken_with gone.loop.parts task) gone
+      IsResumePoint (generator_of task s).resume_point s × FitsStep limit added task (woken_with gone.loop.parts task) gone
   FitsAction (action.ExtraItem code bytes) s gone =
       LeavesSoundLoop (effect limit added (action.ExtraItem code bytes) gone)
   FitsAction (action.Extra key) s gone = LeavesSoundLoop (effect limit added (action.Extra key) gone)

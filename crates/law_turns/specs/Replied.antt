@@ -9,9 +9,9 @@ use Rattle.model_loop.specs.Owning.{is_plain}
 use Rattle.model_loop.specs.Sound.{IsSound}
 use Rattle.model_loop.specs.Timeouts.{timeout_of}
 use Rattle.model_machine.specs.Arguments.{as_awaited, as_timeout, as_group}
-use Rattle.model_machine.specs.Replies.{RequestReply, Answers, Raises, Rests, Halts}
+use Rattle.model_machine.specs.Replies.{RequestReply, Answers, Raises, Suspends, Halts}
 use Rattle.model_machine.specs.Sound.{AreStreamsFutures}
-use Rattle.model_machine.specs.State.{Standing, Asked, Sleeping, Leaving, Serving, Connecting, Yielding, Reading, ReadingAll, State}
+use Rattle.model_machine.specs.State.{ResumePoint, Asked, Sleeping, Leaving, Serving, Connecting, Yielding, Reading, ReadingAll, State}
 use Rattle.model_machine.specs.Told.{told_in}
 use Rattle.law_cases.specs.Closed.{is_to_streams}
 use Rattle.law_changes.specs.Telling.{is_open}
@@ -29,7 +29,7 @@ HasPlainFutures s = (id on : ℕ) → slice_get s.futures id ≡ Some on → is_
 abbrev pub RepliesSound : {S : Type 0} → ℕ → RequestReply S → Type 0
 RepliesSound task (Answers value now) = RunsSound task now
 RepliesSound task (Raises fault now) = RunsSound task now
-RepliesSound task (Rests now) = HasSoundLoop now
+RepliesSound task (Suspends now) = HasSoundLoop now
 RepliesSound task (Halts end last) = Unit {0}
 
 -- What is awaited is there; a block that is left is open; what connections and children keep are plain futures. Requests that
@@ -48,13 +48,13 @@ IsFit asked s = is_to_streams asked ≡ true → AreStreamsFutures s
 
 -- A task whose step begins stands at nothing that was added; a sleep's tag names ends of sleeps alone, a group whose exit it
 -- left waiting is exiting, and what connections and children keep are plain futures.
-abbrev pub IsStanding : {S : Type 0} → Standing → State S → Type 0
-IsStanding Asked s = Unit {0}
-IsStanding (Sleeping tag) s = entries (no_sleep_as tag) s.loop.parts ≡ 0
-IsStanding (Leaving id) s =
+abbrev pub IsResumePoint : {S : Type 0} → ResumePoint → State S → Type 0
+IsResumePoint Asked s = Unit {0}
+IsResumePoint (Sleeping tag) s = entries (no_sleep_as tag) s.loop.parts ≡ 0
+IsResumePoint (Leaving id) s =
     (id < length s.loop.groups) × ((group_of s.loop id).exiting ≡ true) × ((group_of s.loop id).ended ≡ false)
-IsStanding (Serving key) s = ⊥
-IsStanding (Connecting conn) s = AreStreamsFutures s
-IsStanding (Yielding whom) s = AreStreamsFutures s
-IsStanding (Reading from op on) s = AreStreamsFutures s
-IsStanding (ReadingAll from taken on) s = AreStreamsFutures s
+IsResumePoint (Serving key) s = ⊥
+IsResumePoint (Connecting conn) s = AreStreamsFutures s
+IsResumePoint (Yielding whom) s = AreStreamsFutures s
+IsResumePoint (Reading from op on) s = AreStreamsFutures s
+IsResumePoint (ReadingAll from taken on) s = AreStreamsFutures s

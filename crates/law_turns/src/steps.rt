@@ -9,10 +9,10 @@ ghost use Rattle.model_loop.specs.Tasks.{begin_step};
 ghost use Rattle.model_loop.specs.Ways.{steps};
 ghost use Rattle.model_machine.specs.Extra.{Extra};
 ghost use Rattle.model_machine.specs.Replies.{decides, reply};
-ghost use Rattle.model_machine.specs.State.{Standing, Asked, State, generator_of, noted, stands, unbooked_in};
+ghost use Rattle.model_machine.specs.State.{ResumePoint, Asked, State, generator_of, noted, stands, unbooked_in};
 ghost use Rattle.model_machine.specs.Step.{given_up, step};
 ghost use Rattle.law_turns.specs.Fits.{FitsStep};
-ghost use Rattle.law_turns.specs.Replied.{RunsSound, HasPlainFutures, RepliesSound, IsFit, IsStanding};
+ghost use Rattle.law_turns.specs.Replied.{RunsSound, HasPlainFutures, RepliesSound, IsFit, IsResumePoint};
 ghost use Rattle.law_turns.specs.SoundState.{HasSoundLoop, LeavesSoundLoop};
 
 /// A step begins by a handle that steps its task: the handle of a sleep is given up, the task waits
@@ -23,11 +23,11 @@ pub fn a_step_begins_sound<S>()
         (rest : List Handle)
         → s.loop.parts.pending ≡ handle ∷ rest → handle.dead ≡ false
         → steps task handle.action ≡ true → HasSoundLoop s
-        → (standing : Standing) → IsStanding standing s →
+        → (resume_point : ResumePoint) → IsResumePoint resume_point s →
         let gone = noted (Ran handle.action) (unbooked_in (λ p. record p { pending = rest }) s) in
-        let begun = begin_step task input (given_up standing gone.loop.parts) in
+        let begun = begin_step task input (given_up resume_point gone.loop.parts) in
         RepliesSound task
-        (decides added standing task begun.input
+        (decides added resume_point task begun.input
         (stands Asked task (unbooked_in (λ p. begun.parts) gone))) }
 {}
 
@@ -47,7 +47,7 @@ pub fn a_step_keeps_it_sound<S>()
         (handle : Handle) (rest : List Handle)
         → s.loop.parts.pending ≡ handle ∷ rest → handle.dead ≡ false
         → steps task handle.action ≡ true → HasSoundLoop s
-        → IsStanding (generator_of task s).standing s →
+        → IsResumePoint (generator_of task s).resume_point s →
         let gone = noted (Ran handle.action) (unbooked_in (λ p. record p { pending = rest }) s) in
         FitsStep limit added task input gone → LeavesSoundLoop (step limit added task input gone) }
 {}

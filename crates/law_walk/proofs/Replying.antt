@@ -41,7 +41,7 @@ use Rattle.model_machine.specs.Replies.{connects, connects_as, decides, drains, 
 use Rattle.model_machine.specs.Replies.{launches_as, limits_as, listens, listens_as, numbered_if, reads, reads_all, reads_all_as, reads_as, reads_count}
 use Rattle.model_machine.specs.Replies.{replied, reply, serves, serves_as, serves_until, streams_change, streams_do, timed_out_if, to_port, to_port_if}
 use Rattle.model_machine.specs.Replies.{waits_no_more, woken, woken_within, writes_as, shown_all}
-use Rattle.model_machine.specs.State.{Standing, Asked, Sleeping, Leaving, Serving, Connecting, Yielding, Reading, ReadingAll, State, with_loop}
+use Rattle.model_machine.specs.State.{ResumePoint, Asked, Sleeping, Leaving, Serving, Connecting, Yielding, Reading, ReadingAll, State, with_loop}
 use Rattle.model_machine.specs.State.{with_streams}
 use Rattle.law_cases.specs.Cases.{Replies, raises, leaves_none, exits_none, tells, names_itself, hands_on, pauses_on, alarms, awaits as awaits_it, prints}
 use Rattle.law_cases.specs.Cases.{makes, sets, fails, cancels, uncancels, spawns_it, enters, leaves, moves, enters_one, exits, creates_it, serves_it}
@@ -339,8 +339,8 @@ module _ {S : Type 0} {After : Parts → Parts → Type 0} {Keeps : Doer → Str
       tree_kept kept s s [] (give_up_read on from s.streams) ordered (record { streams = refl; events = sym (append-nil s.events); parts = refl })
       (trees.gives_up on from s.streams)
 
-  pub decides_ordered : (standing : Standing) (input : Input) (s : State S) → In Holds s → EndsInStep s.events
-      → LeavesBy Tells Holds (decides added standing task input s)
+  pub decides_ordered : (resume_point : ResumePoint) (input : Input) (s : State S) → In Holds s → EndsInStep s.events
+      → LeavesBy Tells Holds (decides added resume_point task input s)
   decides_ordered Asked input s ordered began = replied_ordered input s ordered
   decides_ordered (Sleeping tag) input s ordered began = replied_ordered input s ordered
   decides_ordered (Leaving group) input s ordered began =

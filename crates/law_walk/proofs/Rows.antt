@@ -16,10 +16,11 @@ use Rattle.model_loop.specs.Timeouts.{enter_timeout, exit_timeout, fire, is_acti
 use Rattle.model_loop.specs.Timeouts.{timeout_of, without_handle}
 use Rattle.model_machine.specs.Extra.{ExtraStep, MakesPlain, MakesMany, Settles as ExtraSettles, Releases, Registers as ExtraRegisters, made_by, made_by_all}
 use Rattle.model_machine.specs.Extra.{CallsSoon as ExtraSoon, CallsLater as ExtraLater, Revokes as ExtraRevokes, Cancels, Uncancels}
-use Rattle.law_changes.specs.Blocks.{OfRequest, cancels, keeps_asked, counts, marks, OfWait, circles, registers_step, begins_wait, in_wait, unmarks}
+use Rattle.law_changes.specs.Blocks.{OfRequest, cancels, keeps_asked, counts, sets_must_cancel, OfWait, cycles, registers_step, begins_wait, in_wait}
+use Rattle.law_changes.specs.Blocks.{clears_must_cancel}
 use Rattle.law_changes.specs.Blocks.{OfSchedule, gives_up, fires_soon, fires_later, tags, OfGroup, changes, aborts, waits, wakes, OfTold, in_told, requests}
 use Rattle.law_changes.specs.Blocks.{asks, OfTaking, in_taking, takes, OfEnding, in_ending, ends, OfCreating, in_creating, spawns, registers}
-use Rattle.law_changes.specs.Changes.{PartsChange, CallsSoon, CallsLater, Revokes, MakesFuture, Settles, Registers, WaitsFor, Unmarks, Uncounts}
+use Rattle.law_changes.specs.Changes.{PartsChange, CallsSoon, CallsLater, Revokes, MakesFuture, Settles, Registers, WaitsFor, ClearsMustCancel, Uncounts}
 use Rattle.law_changes.specs.Changes.{LoopChange, OfParts, MakesTimeout, ChangesTimeout, MakesGroup, ChangesGroup, AsksCancel, TakesBack, BeginsExit}
 use Rattle.law_changes.specs.Changes.{made_of_loop, made_of_parts}
 use Rattle.law_changes.specs.Reaches.{Reaches, goes}
@@ -37,7 +38,7 @@ module _ {After : Parts → Parts → Type 0} (goes_on : GoesOn After) where
   may_request _ p (cancels future) = tt
   may_request _ p (keeps_asked future) = tt
   may_request _ p (counts task) = tt
-  may_request _ p (marks task) = tt
+  may_request _ p (sets_must_cancel task) = tt
 
   pub cancel_goes : (future : ℕ) (p : Parts) → After p (cancel future p).parts
   cancel_goes future p = parts_goes (widen may_request (cancel_in future p))
@@ -62,18 +63,18 @@ module _ {After : Parts → Parts → Type 0} (goes_on : GoesOn After) where
 
   -- ---- tasks
   pub begin_goes : (task : ℕ) (input : Input) (p : Parts) → After p (begin_step task input p).parts
-  begin_goes task input p = parts_goes (goes (one (WaitsFor task None) tt) (Unmarks task) tt)
+  begin_goes task input p = parts_goes (goes (one (WaitsFor task None) tt) (ClearsMustCancel task) tt)
 
   pub finish_goes : (task : ℕ) (end : Result Value Exc) (p : Parts) → After p (finish task end p)
-  finish_goes task (Ok value) p = parts_goes (goes (one (Unmarks task) tt) (Settles (future_of p task) _) tt)
+  finish_goes task (Ok value) p = parts_goes (goes (one (ClearsMustCancel task) tt) (Settles (future_of p task) _) tt)
   finish_goes task (Err fault) p = parts_goes (one (Settles (future_of p task) _) tt)
 
   may_wait : (task on_ : ℕ) (change : PartsChange) (p : Parts) → OfWait task on_ change p → MayOfParts change p
-  may_wait task on_ _ p (circles why) = refl
+  may_wait task on_ _ p (cycles why) = refl
   may_wait task on_ _ p registers_step = refl
   may_wait task on_ _ p begins_wait = tt
   may_wait task on_ change p (in_wait it) = may_request change p it
-  may_wait task on_ _ p unmarks = tt
+  may_wait task on_ _ p clears_must_cancel = tt
 
   pub suspend_goes : (task on_ : ℕ) (p : Parts) → After p (suspend task on_ p).parts
   suspend_goes task on_ p = parts_goes (widen (may_wait task on_) (suspend_in task on_ p))

@@ -21,7 +21,7 @@ use Rattle.model_stream.specs.Streams.{Streams, act, handler_of}
 use Rattle.model_machine.specs.Extra.{Extra}
 use Rattle.model_machine.specs.Mids.{mids, mids_below, mids_by, mids_fitted, mids_if, mids_unless, next_mids, then_mids}
 use Rattle.model_machine.specs.Outcomes.{finished_as}
-use Rattle.model_machine.specs.Replies.{RequestReply, Answers, Raises, Rests, Halts, decides, most_ids, reply}
+use Rattle.model_machine.specs.Replies.{RequestReply, Answers, Raises, Suspends, Halts, decides, most_ids, reply}
 use Rattle.model_machine.specs.State.{Asked, State, generator_of, noted, stands, unbooked_in}
 use Rattle.model_machine.specs.Step.{given_up, says_of, serve, serve_all, served, step, taken_as}
 use Rattle.model_machine.specs.Turn.{call_of, cancelled_if, effect, finished_if, goes_with, handled_if, has_returned, is_stalled, made_by, next_below, ran}
@@ -32,7 +32,7 @@ use Rattle.std.proofs.lemmas.Bool.{true≢false}
 use Rattle.std.proofs.lemmas.List.{append_assoc}
 use Rattle.model_loop.specs.Parts.{Parts}
 use Rattle.model_loop.specs.Tasks.{future_of, spawn}
-use Rattle.model_machine.specs.State.{Standing, Sleeping, Leaving, Serving, Connecting, Yielding, Reading, ReadingAll}
+use Rattle.model_machine.specs.State.{ResumePoint, Sleeping, Leaving, Serving, Connecting, Yielding, Reading, ReadingAll}
 use Rattle.model_machine.specs.Turn.{wait_of}
 use Rattle.law_changes.specs.Changes.{MakesTask, Registers, Revokes, Settles}
 use Rattle.law_walk.proofs.Rows as loops
@@ -44,7 +44,7 @@ use Rattle.law_walk.proofs.Trees.{asked_comes, does_comes, moved_holds, tree_kep
 use Rattle.law_walk.proofs.Replying.{decides_ordered, reply_ordered}
 
 -- ---- what a turn does of itself to the loop
-given_up_goes : {After : Parts → Parts → Type 0} (goes_on : GoesOn After) (standing : Standing) (p : Parts) → After p (given_up standing p)
+given_up_goes : {After : Parts → Parts → Type 0} (goes_on : GoesOn After) (resume_point : ResumePoint) (p : Parts) → After p (given_up resume_point p)
 given_up_goes goes_on Asked p = goes_on.same p
 given_up_goes goes_on (Sleeping tag) p = goes_on.change (Revokes tag) p tt
 given_up_goes goes_on (Leaving group) p = goes_on.same p
@@ -63,7 +63,7 @@ module _ {S : Type 0} (Tells Holds : Streams → List Event → Parts → Type 0
       → LeavesTo Tells Holds (taken_as it fresh task go_on)
   taken_ordered (Answers value now) fresh go_on it each = each _ it
   taken_ordered (Raises fault now) fresh go_on it each = each _ it
-  taken_ordered (Rests now) fresh go_on it each = it
+  taken_ordered (Suspends now) fresh go_on it each = it
   taken_ordered (Halts how last) fresh go_on it each = it
 
 module _ {S : Type 0} {After : Parts → Parts → Type 0} {Keeps : Doer → Streams → List Move → Streams → Type 0}
@@ -93,13 +93,13 @@ module _ {S : Type 0} {After : Parts → Parts → Type 0} {Keeps : Doer → Str
   step_ordered : (task : ℕ) (input : Input) (s : State S) → In Holds s → EndsInStep s.events → LeavesTo Tells Holds (step limit added task input s)
   unfolding step
   step_ordered task input s ordered began =
-      let standing = (generator_of task s).standing in
-      let begun = begin_step task input (given_up standing s.loop.parts) in
+      let resume_point = (generator_of task s).resume_point in
+      let begun = begin_step task input (given_up resume_point s.loop.parts) in
       let awake = stands Asked task (unbooked_in (λ p. begun.parts) s) in
-      taken_ordered Tells Holds task (decides added standing task begun.input awake) true (serve_all limit added task)
-      (decides_ordered goes_on trees kept added task standing begun.input awake (quietly s
-      (goes_on.next s.loop.parts (given_up standing s.loop.parts) begun.parts (given_up_goes goes_on standing s.loop.parts)
-      (loops.begin_goes goes_on task input (given_up standing s.loop.parts))) ordered) began) (λ t it. serve_ordered _ task t it)
+      taken_ordered Tells Holds task (decides added resume_point task begun.input awake) true (serve_all limit added task)
+      (decides_ordered goes_on trees kept added task resume_point begun.input awake (quietly s
+      (goes_on.next s.loop.parts (given_up resume_point s.loop.parts) begun.parts (given_up_goes goes_on resume_point s.loop.parts)
+      (loops.begin_goes goes_on task input (given_up resume_point s.loop.parts))) ordered) began) (λ t it. serve_ordered _ task t it)
 
   -- ---- callbacks
   go_ordered : (tree : Doing Streams) (s : State S) → In Holds s → Always (Keeps Anyone s.streams) tree → LeavesTo Tells Holds (streams_go tree s)
@@ -131,8 +131,8 @@ module _ {S : Type 0} {After : Parts → Parts → Type 0} {Keeps : Doer → Str
   effect_ordered : (it : Action) → acts_alone it ≡ false → (s : State S) → HasRan it s.events → In Holds s → LeavesTo Tells Holds (effect limit added it s)
   unfolding effect
   effect_ordered (action.Step task) other s has_run ordered = step_ordered task _ s ordered (began (action.Step task) s.events has_run refl)
-  effect_ordered (action.StepInCircle task circle) other s has_run ordered =
-      step_ordered task _ s ordered (began (action.StepInCircle task circle) s.events has_run refl)
+  effect_ordered (action.StepInCycle task cycle) other s has_run ordered =
+      step_ordered task _ s ordered (began (action.StepInCycle task cycle) s.events has_run refl)
   effect_ordered (action.Wakeup task) other s has_run ordered = step_ordered task _ s ordered (began (action.Wakeup task) s.events has_run refl)
   effect_ordered (action.SleepDone task future) other s has_run ordered = quietly s (goes_on.change (Settles future _) s.loop.parts tt) ordered
   effect_ordered (action.GroupDone group task) other s has_run ordered = quietly s (loops.child_done_goes goes_on group task s.loop) ordered
@@ -198,7 +198,7 @@ module _ {S : Type 0} {After : Parts → Parts → Type 0} {Keeps : Doer → Str
 
       by : (it : Action) → handle.action ≡ it → handle.dead ≡ false → LeavesTo Tells (Holds bar left) (effect limit added it (running it rest s))
       by (action.Step task) is live = runs (action.Step task) is live refl
-      by (action.StepInCircle task circle) is live = runs (action.StepInCircle task circle) is live refl
+      by (action.StepInCycle task cycle) is live = runs (action.StepInCycle task cycle) is live refl
       by (action.Wakeup task) is live = runs (action.Wakeup task) is live refl
       by (action.SleepDone task future) is live = runs (action.SleepDone task future) is live refl
       by (action.GroupDone group task) is live = runs (action.GroupDone group task) is live refl

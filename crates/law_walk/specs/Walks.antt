@@ -24,7 +24,7 @@ use Rattle.model_machine.specs.Does.{changed}
 use Rattle.model_machine.specs.Extra.{Extra}
 use Rattle.model_machine.specs.Mids.{mids}
 use Rattle.model_machine.specs.Outside.{select, watched}
-use Rattle.model_machine.specs.Replies.{RequestReply, Answers, Raises, Rests, Halts}
+use Rattle.model_machine.specs.Replies.{RequestReply, Answers, Raises, Suspends, Halts}
 use Rattle.model_machine.specs.State.{State}
 use Rattle.model_machine.specs.Turn.{turn, woken_by}
 use Rattle.model_machine.specs.Went.{Went, Goes, Stops}
@@ -42,13 +42,13 @@ abbrev pub LeavesTo : {S : Type 0} → (Tells Holds : Streams → List Event →
 LeavesTo Tells Holds (Goes now) = In Holds now
 LeavesTo Tells Holds (Stops how last) = IsUnmet how ⊎ In Tells last
 
-abbrev pub Leaves : {S : Type 0} → (Streams → List Event → Parts → Type 0) → Went S → Type 0
-Leaves Holds = LeavesTo Holds Holds
+abbrev pub WentLeaves : {S : Type 0} → (Streams → List Event → Parts → Type 0) → Went S → Type 0
+WentLeaves Holds = LeavesTo Holds Holds
 
 abbrev pub LeavesBy : {S : Type 0} → (Tells Holds : Streams → List Event → Parts → Type 0) → RequestReply S → Type 0
 LeavesBy Tells Holds (Answers value now) = In Holds now
 LeavesBy Tells Holds (Raises fault now) = In Holds now
-LeavesBy Tells Holds (Rests now) = In Holds now
+LeavesBy Tells Holds (Suspends now) = In Holds now
 LeavesBy Tells Holds (Halts how last) = IsUnmet how ⊎ In Tells last
 
 abbrev pub AreAllIn : {S : Type 0} → (Streams → List Event → Parts → Type 0) → List (State S) → Type 0
@@ -70,7 +70,7 @@ IsRunIn Holds limit added (suc turns) s =
 -- what it schedules, and what is added does: steps of tasks, ends of sleeps, and what is told of tasks, timeouts and main
 abbrev pub is_of_loop : Action → Bool
 is_of_loop (action.Step task) = true
-is_of_loop (action.StepInCircle task circle) = true
+is_of_loop (action.StepInCycle task cycle) = true
 is_of_loop (action.Wakeup task) = true
 is_of_loop (action.SleepDone task future) = true
 is_of_loop (action.GroupDone group task) = true
@@ -141,7 +141,7 @@ acts_alone _ = false
 -- a step of a task
 abbrev pub is_step : Action → Bool
 is_step (action.Step task) = true
-is_step (action.StepInCircle task circle) = true
+is_step (action.StepInCycle task cycle) = true
 is_step (action.Wakeup task) = true
 is_step _ = false
 

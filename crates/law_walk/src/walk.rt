@@ -5,7 +5,7 @@ ghost use Rattle.std.specs.Prelude.{ℕ};
 ghost use Rattle.model_machine.specs.Extra.{Extra};
 ghost use Rattle.model_machine.specs.State.{State};
 ghost use Rattle.model_machine.specs.Turn.{run_below, turn};
-ghost use Rattle.law_walk.specs.Walks.{BeginWith, IsRunIn, Leaves};
+ghost use Rattle.law_walk.specs.Walks.{BeginWith, IsRunIn, WentLeaves};
 
 /// What happened stays: the events of each state of a run begin with those of the state from which
 /// it went on, between two turns, between any two callbacks of a turn, and where the run ends, but
@@ -15,7 +15,7 @@ pub fn what_happened_stays<S>()
     ensures run { (limit : ℕ) (added : Extra S) (turns : ℕ) (s : State S)
         → IsRunIn (BeginWith s.events) limit added turns s }
     ensures turn { (limit : ℕ) (added : Extra S) (s : State S)
-        → Leaves (BeginWith s.events) (turn limit added s) }
+        → WentLeaves (BeginWith s.events) (turn limit added s) }
     ensures callbacks { (limit : ℕ) (added : Extra S) (bar count : ℕ) (s : State S)
-        → Leaves (BeginWith s.events) (run_below limit added bar count s) }
+        → WentLeaves (BeginWith s.events) (run_below limit added bar count s) }
 {}

@@ -107,14 +107,14 @@ NetKeeps asks (Got given) faults faults_now = fits asks given ≡ true
 NetKeeps asks Failed faults faults_now = Rose faults faults_now
 NetKeeps asks Memory faults faults_now = Unit {0}
 
-abbrev pub Keeps : Call → Others → (faults faults_now : ℕ) → Type 0
-Keeps (call.Select wait watched) others faults faults_now = PollKeeps watched others.polled faults faults_now
-Keeps (call.Feed child bytes) others faults faults_now = Unit {0}
-Keeps (call.End child) others faults faults_now = Unit {0}
-Keeps (call.Kill child) others faults faults_now = Unit {0}
-Keeps (call.Launch words) others faults faults_now = Unit {0}
-Keeps (call.Extra code bytes) others faults faults_now = Unit {0}
-Keeps asks others faults faults_now = NetKeeps asks others.net faults faults_now
+abbrev pub HubKeeps : Call → Others → (faults faults_now : ℕ) → Type 0
+HubKeeps (call.Select wait watched) others faults faults_now = PollKeeps watched others.polled faults faults_now
+HubKeeps (call.Feed child bytes) others faults faults_now = Unit {0}
+HubKeeps (call.End child) others faults faults_now = Unit {0}
+HubKeeps (call.Kill child) others faults faults_now = Unit {0}
+HubKeeps (call.Launch words) others faults faults_now = Unit {0}
+HubKeeps (call.Extra code bytes) others faults faults_now = Unit {0}
+HubKeeps asks others faults faults_now = NetKeeps asks others.net faults faults_now
 
 -- ---- the launcher
 abbrev pub kills_after : Call → Option Kills → Option Kills
@@ -168,7 +168,7 @@ pub record Asks (asks : Call) (old new : HubSeen) (said : Said) : Type 0 where
   -- what it asks of the poller, and what that answers
   pub polls : new.poller.asked ≡ told_with (polls_of asks others.lanes old.hub) old.poller.asked
   pub answers : new.poller.answers ≡ told_with (answers_of asks others) old.poller.answers
-  pub keeps : Keeps asks others old.poller.faults new.poller.faults
+  pub keeps : HubKeeps asks others old.poller.faults new.poller.faults
   -- what it asks of the launcher
   pub kills : new.launcher.kills ≡ kills_after asks old.launcher.kills
   pub launches : new.launcher.launches ≡ launches_after asks said (length old.hub.children) old.launcher.launches

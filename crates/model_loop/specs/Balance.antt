@@ -68,7 +68,7 @@ pub record TimeoutBalances (id : ℕ) (ledger : List LedgerEntry) (state : Timeo
   pub asked : count_by (asks (is_by_timeout id)) ledger ≡ one_if (has_expired state)
   pub took : count_by (takes (is_by_timeout id)) ledger ≡ one_if (is_expired state)
 
--- What it tells of a group: it asked where its request is marked, its exit began where it is exiting, and it took its
+-- What it tells of a group: it asked where its request is set, its exit began where it is exiting, and it took its
 -- request back once where it asked before its exit began.
 pub record GroupBalances (id : ℕ) (ledger : List LedgerEntry) (requested exiting : Bool) : Type 0 where
   pub asked : count_by (asks (is_by_group id)) ledger ≡ one_if requested

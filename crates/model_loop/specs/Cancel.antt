@@ -5,7 +5,7 @@ use Rattle.model_value.specs.declared.outcome.Outcome.TheVariants.{Cancelled}
 use Rattle.model_value.specs.Value.{Outcome}
 use Rattle.model_loop.specs.Parts.{FutureKind, Plain, OfTask, Many, Future, Task, Parts}
 use Rattle.model_loop.specs.Futures.{made_before, settle, mark_asked}
-use Rattle.model_loop.specs.Tasks.{mark, raise_count}
+use Rattle.model_loop.specs.Tasks.{set_must_cancel, raise_count}
 
 -- a request as it goes: the parts, the tasks that it visited, in order, and the last answer
 pub record CancelRequest : Type 0 where
@@ -37,14 +37,14 @@ asked_where false id request = request
 asked_where true id request = record request { parts = mark_asked id request.parts }
 
 -- where what the task waits for can't be cancelled, the cancel waits for the task's next step
-abbrev pub marked_unless : Bool → ℕ → CancelRequest → CancelRequest
-marked_unless true task request = request
-marked_unless false task request = record request { parts = mark task request.parts; answer = true }
+abbrev pub must_cancel_unless : Bool → ℕ → CancelRequest → CancelRequest
+must_cancel_unless true task request = request
+must_cancel_unless false task request = record request { parts = set_must_cancel task request.parts; answer = true }
 
 abbrev pub cancel_waiter : Canceller → ℕ → Option ℕ → List ℕ → Parts → CancelRequest
-cancel_waiter cancel task None seen p = answers true seen (mark task p)
+cancel_waiter cancel task None seen p = answers true seen (set_must_cancel task p)
 cancel_waiter cancel task (Some waiter) seen p =
-    let request = cancel waiter seen p in marked_unless request.answer task request
+    let request = cancel waiter seen p in must_cancel_unless request.answer task request
 
 -- a task that the request comes to first counts it, and the cancel goes on to what it waits for
 abbrev pub cancel_unseen : Canceller → ℕ → Option Task → List ℕ → Parts → CancelRequest

@@ -5,7 +5,7 @@ use Rattle.model_value.specs.declared.outcome.Outcome.TheVariants.{Cancelled}
 use Rattle.model_loop.specs.Parts.{Plain, OfTask, Many, FutureKind, Future, Task, Parts}
 use Rattle.model_loop.specs.Futures.{is_pending, made_before, settle}
 use Rattle.model_loop.specs.Tasks.{raise_count}
-use Rattle.model_loop.specs.Cancel.{CancelRequest, answers, asked_where, has_seen, marked_unless}
+use Rattle.model_loop.specs.Cancel.{CancelRequest, answers, asked_where, has_seen, must_cancel_unless}
 
 -- a pending future of this kind
 pub record IsPendingAs (p : Parts) (id : ℕ) (kind : FutureKind) : Type 0 where
@@ -28,11 +28,11 @@ mutual
     -- a task that was visited answers true
     visited : {id : ℕ} {seen : List ℕ} {p : Parts} {task : ℕ} → IsPendingAs p id (OfTask task) → has_seen seen task ≡ true
         → Cancels id seen p (answers true seen p)
-    -- another one counts the request, which goes on to what it waits for; where that can't be cancelled, the task is marked
+    -- another one counts the request, which goes on to what it waits for; where that can't be cancelled, the task must cancel
     task : {id : ℕ} {seen : List ℕ} {p : Parts} {task : ℕ} {it : Task} {request : CancelRequest} → IsPendingAs p id (OfTask task)
         → has_seen seen task ≡ false → slice_get p.tasks task ≡ Some it
         → CancelsWaiter it.waiter (seen ++ task ∷ []) (raise_count task p) request
-        → Cancels id seen p (marked_unless request.answer task request)
+        → Cancels id seen p (must_cancel_unless request.answer task request)
     -- a future whose task there is not, which no run has
     no_task : {id : ℕ} {seen : List ℕ} {p : Parts} {task : ℕ} → IsPendingAs p id (OfTask task)
         → has_seen seen task ≡ false → slice_get p.tasks task ≡ None → Cancels id seen p (answers true seen p)

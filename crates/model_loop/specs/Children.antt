@@ -53,7 +53,7 @@ HasErrors p told group = group.errors ≡ failures p told ++ body_at_end group.e
 pub record IsOrderly (group : Group) : Type 0 where
   pub exiting_entered : group.exiting ≡ true → group.entered ≡ true
   -- a kept CancelledError goes with no failure of the body, and a body that raised aborts the group
-  pub kept_clean : (fault : Exc) → group.kept ≡ Some fault → body_failure group.body ≡ []
+  pub kept_clean : (exception : Exc) → group.kept ≡ Some exception → body_failure group.body ≡ []
   pub body_aborts : group.aborting ≡ false → group.body ≡ None
   -- before its exit it keeps nothing, and waits for nothing before that and after it
   pub body_exiting : group.exiting ≡ false → group.body ≡ None

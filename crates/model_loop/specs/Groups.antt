@@ -73,8 +73,8 @@ refusal_text IsFinished = codes "TaskGroup is finished"
 refusal_text IsShuttingDown = codes "TaskGroup is shutting down"
 
 -- what a refused `create` raises
-abbrev pub refusal_fault : Refusal → Exc
-refusal_fault cause = exception_of RuntimeError (refusal_text cause)
+abbrev pub refusal_exception : Refusal → Exc
+refusal_exception cause = exception_of RuntimeError (refusal_text cause)
 
 -- a new task of a group, which is told when it is done
 abbrev pub with_child : ℕ → Parts → Parts
@@ -104,7 +104,7 @@ abort_where false id l = l
 
 -- ---- a child is done
 abbrev pub failure_in : Option Outcome → Option Exc
-failure_in (Some (Failed fault)) = Some fault
+failure_in (Some (Failed exception)) = Some exception
 failure_in _ = None
 
 -- the exception with which a task failed, if it did
@@ -137,10 +137,10 @@ abort_and_request_unless false id l = request_parent id (abort id l)
 -- The first failure aborts the group and asks for its parent's cancel, unless the group aborts already.
 abbrev pub blame : Option Exc → ℕ → Loop → Loop
 blame None id l = l
-blame (Some fault) id l =
+blame (Some exception) id l =
     let group = group_of l id in
     abort_and_request_unless (group.aborting || group.requested) id
-    (set_group id (record group { errors = group.errors ++ fault ∷ [] }) l)
+    (set_group id (record group { errors = group.errors ++ exception ∷ [] }) l)
 
 abbrev pub child_done : ℕ → ℕ → Loop → Loop
 child_done id task l = blame (failure_of l.parts task) id (wake_exit id (without_child id task l))
@@ -151,7 +151,7 @@ pub data GroupExit : Type 0 where
   Waits : (future : ℕ) → GroupExit
   -- the block's own outcome stands
   Passes : GroupExit
-  Raises : (fault : Exc) → GroupExit
+  Raises : (exception : Exc) → GroupExit
 
 pub record Exited : Type 0 where
   pub loop : Loop
@@ -162,7 +162,7 @@ group_text = codes "unhandled errors in a TaskGroup"
 
 -- how deep and how heavy an exception may be
 abbrev pub is_bearable : Exc → Bool
-is_bearable fault = nat_le (exc_depth fault) 64 && nat_le (exc_weight fault) 1048576
+is_bearable exception = nat_le (exc_depth exception) 64 && nat_le (exc_weight exception) 1048576
 
 -- The group of several exceptions. One that would be too deep or too heavy loses its members.
 abbrev pub exception_group : List Exc → Exc
@@ -177,13 +177,13 @@ raised_of (error ∷ errors) = Raises (exception_group (error ∷ errors))
 -- the body's exception where it is a failure, which CancelledError isn't
 abbrev pub body_failure : Option Exc → List Exc
 body_failure None = []
-body_failure (Some fault) = if is_cancelled fault then [] else fault ∷ []
+body_failure (Some exception) = if is_cancelled exception then [] else exception ∷ []
 
 -- A kept CancelledError is raised where no task failed. Otherwise all failures are raised together, the body's last; with
 -- none the block's own outcome stands.
 abbrev pub end_exit : Option Exc → List Exc → ℕ → Loop → Exited
-end_exit (Some fault) [] id l =
-    record { loop = set_group id (record (group_of l id) { ended = true }) l; answer = Raises fault }
+end_exit (Some exception) [] id l =
+    record { loop = set_group id (record (group_of l id) { ended = true }) l; answer = Raises exception }
 end_exit _ errors id l =
     let group = group_of l id in
     let all = errors ++ body_failure group.body in
@@ -207,7 +207,7 @@ wait_or_end id l = wait_or_end_with (group_of l id).children id l
 
 abbrev pub only_cancelled : Option Exc → Option Exc
 only_cancelled None = None
-only_cancelled (Some fault) = if is_cancelled fault then Some fault else None
+only_cancelled (Some exception) = if is_cancelled exception then Some exception else None
 
 abbrev pub begin_exit : Option Exc → ℕ → Loop → Loop
 begin_exit raised id l =
@@ -234,13 +234,13 @@ abbrev pub exit_begin : Option Exc → ℕ → Loop → Exited
 exit_begin raised id l = wait_or_end id (abort_if_raised raised id (take_back id (begin_exit raised id l)))
 
 abbrev pub keep_and_abort_unless : Bool → Exc → ℕ → Loop → Loop
-keep_and_abort_unless true fault id l = l
-keep_and_abort_unless false fault id l = abort id (set_group id (record (group_of l id) { kept = Some fault }) l)
+keep_and_abort_unless true exception id l = l
+keep_and_abort_unless false exception id l = abort id (set_group id (record (group_of l id) { kept = Some exception }) l)
 
 -- A cancel of the parent while the exit waits is kept and aborts the group; while the group aborts it is dropped.
 abbrev pub hear : Input → ℕ → Loop → Loop
 hear (Send value) id l = l
-hear (Throw fault) id l = keep_and_abort_unless (group_of l id).aborting fault id l
+hear (Throw exception) id l = keep_and_abort_unless (group_of l id).aborting exception id l
 
 -- the exit goes on after its wait, with a value or with CancelledError
 abbrev pub exit_woken : Input → ℕ → Loop → Exited

@@ -15,7 +15,7 @@ pub data Origin : Type 0 where
   ByGroup : (group : ℕ) → Origin
   -- a group that aborts, of a child
   ByAbort : (group : ℕ) → Origin
-  -- a marked task that waits, of what it waits for
+  -- a task that must cancel and waits, of what it waits for
   ByWait : (task : ℕ) → Origin
   -- the end of the run, of each task that lives
   ByEnd : Origin

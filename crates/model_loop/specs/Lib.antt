@@ -2,7 +2,7 @@ pub mod Balance
 pub mod Cancel
 pub mod Cancelling
 pub mod Children
-pub mod Circles
+pub mod Cycles
 pub mod Deadlines
 pub mod Ending
 pub mod Entries
@@ -11,7 +11,7 @@ pub mod Groups
 pub mod Handles
 pub mod Ledger
 pub mod Loop
-pub mod Marks
+pub mod MustCancel
 pub mod Numbered
 pub mod Owning
 pub mod Parts

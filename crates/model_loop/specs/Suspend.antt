@@ -1,12 +1,12 @@
 -- A task's step ends with the await of a future that isn't done. Source: `tasks.py`, `__step_run_and_handle_result`.
 use Rattle.std.specs.Prelude.{ℕ, Bool, true, false, Option, Some, None, if◌then◌else◌}
-use Rattle.model_value.specs.Action.{Circle}
-use Rattle.model_value.specs.declared.action.Action.TheVariants.{StepInCircle, Wakeup}
+use Rattle.model_value.specs.Action.{CycleKind}
+use Rattle.model_value.specs.declared.action.Action.TheVariants.{StepInCycle, Wakeup}
 use Rattle.model_loop.specs.Parts.{Parts}
 use Rattle.model_loop.specs.Handles.{soon}
 use Rattle.model_loop.specs.Futures.{register}
-use Rattle.model_loop.specs.Tasks.{set_waiter, unmark, is_marked}
-use Rattle.model_loop.specs.Circles.{circle}
+use Rattle.model_loop.specs.Tasks.{set_waiter, clear_must_cancel, must_cancel_of}
+use Rattle.model_loop.specs.Cycles.{cycle}
 use Rattle.model_loop.specs.Ledger.{Booked, unbooked, request, ByWait}
 
 -- the task is woken when the future is done
@@ -22,12 +22,12 @@ abbrev pub cancel_wait : Bool → ℕ → ℕ → Parts → Booked
 cancel_wait false task on p = unbooked p
 cancel_wait true task on p =
     let asked = request (ByWait task) on p in
-    record (asked.booked) { parts = if asked.answer then unmark task asked.booked.parts else asked.booked.parts }
+    record (asked.booked) { parts = if asked.answer then clear_must_cancel task asked.booked.parts else asked.booked.parts }
 
-abbrev pub suspend_unless : Option Circle → ℕ → ℕ → Parts → Booked
-suspend_unless (Some circle) task on p = unbooked (soon (StepInCircle task circle) p)
-suspend_unless None task on p = cancel_wait (is_marked p task) task on (wait_on task on p)
+abbrev pub suspend_unless : Option CycleKind → ℕ → ℕ → Parts → Booked
+suspend_unless (Some cycle) task on p = unbooked (soon (StepInCycle task cycle) p)
+suspend_unless None task on p = cancel_wait (must_cancel_of p task) task on (wait_on task on p)
 
--- A task awaits a pending future. An await in a circle is refused by a step that throws.
+-- A task awaits a pending future. An await in a cycle is refused by a step that throws.
 abbrev pub suspend : ℕ → ℕ → Parts → Booked
-suspend task on p = suspend_unless (circle p task on) task on p
+suspend task on p = suspend_unless (cycle p task on) task on p

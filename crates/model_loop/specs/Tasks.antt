@@ -25,8 +25,8 @@ abbrev pub cancelling : Parts → ℕ → ℕ
 cancelling p id = option_map_or (λ (task : Task). task.cancels) (slice_get p.tasks id) 0
 
 -- whether a cancel waits for the task's next step
-abbrev pub is_marked : Parts → ℕ → Bool
-is_marked p id = option_map_or (λ (task : Task). task.must_cancel) (slice_get p.tasks id) false
+abbrev pub must_cancel_of : Parts → ℕ → Bool
+must_cancel_of p id = option_map_or (λ (task : Task). task.must_cancel) (slice_get p.tasks id) false
 
 -- whether there is a task of this number that isn't done
 abbrev pub lives : Parts → ℕ → Bool
@@ -36,11 +36,11 @@ abbrev pub change_task : ℕ → (Task → Task) → Parts → Parts
 change_task id change p =
     option_map_or (λ (task : Task). record p { tasks = slice_set p.tasks id (change task) }) (slice_get p.tasks id) p
 
-abbrev pub mark : ℕ → Parts → Parts
-mark id = change_task id (λ (task : Task). record task { must_cancel = true })
+abbrev pub set_must_cancel : ℕ → Parts → Parts
+set_must_cancel id = change_task id (λ (task : Task). record task { must_cancel = true })
 
-abbrev pub unmark : ℕ → Parts → Parts
-unmark id = change_task id (λ (task : Task). record task { must_cancel = false })
+abbrev pub clear_must_cancel : ℕ → Parts → Parts
+clear_must_cancel id = change_task id (λ (task : Task). record task { must_cancel = false })
 
 abbrev pub set_waiter : ℕ → Option ℕ → Parts → Parts
 set_waiter id waiter = change_task id (λ (task : Task). record task { waiter = waiter })
@@ -78,19 +78,19 @@ is_cancelled (exc kind text bytes members) = same_kind CancelledError kind
 -- an input that cancels, which one that throws CancelledError already does
 abbrev pub cancelling_input : Input → Input
 cancelling_input (Send value) = Throw cancelled_error
-cancelling_input (Throw fault) = if is_cancelled fault then Throw fault else Throw cancelled_error
+cancelling_input (Throw exception) = if is_cancelled exception then Throw exception else Throw cancelled_error
 
 -- a step that has begun: the parts, and what the coroutine is resumed with
 pub record Begun : Type 0 where
   pub parts : Parts
   pub input : Input
 
--- A step begins: the task waits no more, and a mark is used up by the input.
+-- A step begins: the task waits no more, and must_cancel is used up by the input.
 abbrev pub begin_step : ℕ → Input → Parts → Begun
 begin_step id input p =
     record {
-      parts = unmark id (set_waiter id None p);
-      input = if is_marked p id then cancelling_input input else input;
+      parts = clear_must_cancel id (set_waiter id None p);
+      input = if must_cancel_of p id then cancelling_input input else input;
     }
 
 -- a bare `yield`: the next step is called soon
@@ -106,5 +106,5 @@ pause id = soon (Step id)
 -- Where it raised CancelledError the task ends cancelled too, and keeps no text.
 abbrev pub finish : ℕ → Result Value Exc → Parts → Parts
 finish id (Ok value) p =
-    settle (future_of p id) (if is_marked p id then Cancelled else Returned value) (unmark id p)
-finish id (Err fault) p = settle (future_of p id) (if is_cancelled fault then Cancelled else Failed fault) p
+    settle (future_of p id) (if must_cancel_of p id then Cancelled else Returned value) (clear_must_cancel id p)
+finish id (Err exception) p = settle (future_of p id) (if is_cancelled exception then Cancelled else Failed exception) p

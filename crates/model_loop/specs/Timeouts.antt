@@ -85,8 +85,8 @@ state_name Expired = codes "expired"
 state_name Finished = codes "finished"
 
 -- what a reschedule raises that is refused
-abbrev pub reschedule_fault : TimeoutState → Exc
-reschedule_fault state = exception_of RuntimeError (codes "Cannot change state of " ++ state_name state ++ codes " Timeout")
+abbrev pub reschedule_exception : TimeoutState → Exc
+reschedule_exception state = exception_of RuntimeError (codes "Cannot change state of " ++ state_name state ++ codes " Timeout")
 
 -- the deadline has come: the task's cancel is asked for, once
 abbrev pub fire : ℕ → Loop → Loop
@@ -127,8 +127,8 @@ abbrev pub exit_timeout : Option Exc → ℕ → Loop → Left
 exit_timeout raised id l = leave_from (timeout_of l id).state raised id (without_handle id l)
 
 -- what is then raised
-abbrev pub timeout_fault : Exc
-timeout_fault = exception_of TimeoutError []
+abbrev pub timeout_exception : Exc
+timeout_exception = exception_of TimeoutError []
 
 -- `expired()`
 abbrev pub has_expired : TimeoutState → Bool

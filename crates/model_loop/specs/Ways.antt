@@ -3,7 +3,7 @@
 use Rattle.std.specs.Prelude.{◌≡◌, ℕ, ◌+◌, ◌<◌, Bool, true, false, not, ◌&&◌, ◌==◌, List, Option, Some, None}
 use Rattle.std.specs.List.{count_by, sum_by}
 use Rattle.model_value.specs.Action.{Action}
-use Rattle.model_value.specs.declared.action.Action.TheVariants.{Step, StepInCircle, Wakeup}
+use Rattle.model_value.specs.declared.action.Action.TheVariants.{Step, StepInCycle, Wakeup}
 use Rattle.model_loop.specs.Parts.{Handle, Timer, Future, Parts}
 use Rattle.model_loop.specs.Futures.{is_pending}
 use Rattle.model_loop.specs.Tasks.{lives, waiter_of}
@@ -12,7 +12,7 @@ use Rattle.model_loop.specs.Totals.{pending_where, callbacks_of, registered_at, 
 -- whether an action steps the task without its waiting for anything
 abbrev pub resumes : ℕ → Action → Bool
 resumes task (Step other) = other == task
-resumes task (StepInCircle other circle) = other == task
+resumes task (StepInCycle other cycle) = other == task
 resumes task _ = false
 
 -- whether it steps the task after what it waits for
@@ -23,7 +23,7 @@ wakes task _ = false
 -- whether it is a step of the task
 abbrev pub steps : ℕ → Action → Bool
 steps task (Step other) = other == task
-steps task (StepInCircle other circle) = other == task
+steps task (StepInCycle other cycle) = other == task
 steps task (Wakeup other) = other == task
 steps task _ = false
 

@@ -45,7 +45,7 @@ as_delay _ = None
 
 -- an exception that a future may fail with: not CancelledError, by which it would be cancelled
 abbrev pub as_failure : Value → Option Exc
-as_failure (Exception fault) = if is_cancelled fault then None else Some fault
+as_failure (Exception exception) = if is_cancelled exception then None else Some exception
 as_failure _ = None
 
 -- a connection that was made

@@ -48,7 +48,7 @@ made_by_all (step ∷ steps) l = made_by_all steps (made_by step l)
 -- what comes of a request
 pub data ExtraAnswer : Type 0 where
   Answers : (value : Value) → ExtraAnswer
-  Raises : (fault : Exc) → ExtraAnswer
+  Raises : (exception : Exc) → ExtraAnswer
   -- the task waits for this future, and the request is kept under this key
   Waits : (on key : ℕ) → ExtraAnswer
   -- the outside is asked, in the middle of the step, and the request is kept under this key
@@ -57,13 +57,13 @@ pub data ExtraAnswer : Type 0 where
 -- the key under which a request is kept that will be woken
 abbrev pub key_of : ExtraAnswer → Option ℕ
 key_of (Answers value) = None
-key_of (Raises fault) = None
+key_of (Raises exception) = None
 key_of (Waits on key) = Some key
 key_of (Asks code bytes key) = Some key
 
 abbrev pub asks_outside : ExtraAnswer → Bool
 asks_outside (Answers value) = false
-asks_outside (Raises fault) = false
+asks_outside (Raises exception) = false
 asks_outside (Waits on key) = false
 asks_outside (Asks code bytes key) = true
 
@@ -109,7 +109,7 @@ abbrev pub nothing_called : ExtraCall (Unit {0})
 nothing_called = record { state = tt; steps = [] }
 
 abbrev pub nothing_said : Exc → ExtraSaid (Unit {0})
-nothing_said fault = record { call = nothing_called; answer = Raises fault }
+nothing_said exception = record { call = nothing_called; answer = Raises exception }
 
 -- No code is known. Nothing is kept, so nothing is woken and nothing runs.
 abbrev pub no_extra : Extra (Unit {0})

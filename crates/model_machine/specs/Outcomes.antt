@@ -17,7 +17,7 @@ use Rattle.model_machine.specs.State.{State}
 -- what an outcome is to whoever awaits it
 abbrev pub input_of : Outcome → Input
 input_of (Returned value) = Send value
-input_of (Failed fault) = Throw fault
+input_of (Failed exception) = Throw exception
 input_of Cancelled = Throw cancelled_error
 
 -- What a task is woken with: how that ended for which it waits. It waits for something that is done.
@@ -31,7 +31,7 @@ no_task_lives p = list_all (λ task. not (lives p task)) (range_with_len 0 (next
 -- the end of a run whose main ended so
 abbrev pub end_of : Outcome → End
 end_of (Returned value) = end.Returned value
-end_of (Failed fault) = end.Raised fault
+end_of (Failed exception) = end.Raised exception
 end_of Cancelled = end.Cancelled
 
 -- main's outcome, where main's callback ran and no task lives any more; main's task is task 0

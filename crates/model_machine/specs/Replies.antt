@@ -24,14 +24,14 @@ use Rattle.model_wire.specs.Call.{Answer}
 use Rattle.model_wire.specs.Trace.{End}
 use Rattle.model_loop.specs.Futures.{future_outcome, new_plain, next_future, settle}
 use Rattle.model_loop.specs.Groups.{GroupExit, Waits, Passes, Raises as RaisedBy, Exited, Refusal, create, enter_group, exit_begin, exit_woken, group_of}
-use Rattle.model_loop.specs.Groups.{make_group, next_group, refusal, refusal_fault}
+use Rattle.model_loop.specs.Groups.{make_group, next_group, refusal, refusal_exception}
 use Rattle.model_loop.specs.Handles.{deadline, later}
 use Rattle.model_loop.specs.Ledger.{ByScript, request, uncancel_by}
 use Rattle.model_loop.specs.Loop.{book}
 use Rattle.model_loop.specs.Parts.{Parts}
 use Rattle.model_loop.specs.Suspend.{suspend}
 use Rattle.model_loop.specs.Tasks.{cancelling, next_task, pause, spawn}
-use Rattle.model_loop.specs.Timeouts.{enter_timeout, exit_timeout, has_expired, is_active, next_timeout, reschedule, reschedule_fault, timeout_fault}
+use Rattle.model_loop.specs.Timeouts.{enter_timeout, exit_timeout, has_expired, is_active, next_timeout, reschedule, reschedule_exception, timeout_exception}
 use Rattle.model_loop.specs.Timeouts.{timeout_of}
 use Rattle.model_stream.specs.declared.answers.ChildWait.{ChildWait}
 use Rattle.model_stream.specs.declared.answers.ChildWait.TheVariants as wait_as
@@ -56,7 +56,7 @@ use Rattle.model_machine.specs.Does.{does}
 use Rattle.model_machine.specs.Extra as extra
 use Rattle.model_machine.specs.Extra.{Extra, ExtraAnswer, ExtraSaid, called}
 use Rattle.model_machine.specs.Outcomes.{input_of}
-use Rattle.model_machine.specs.State.{Standing, Asked, Sleeping, Leaving, Serving, Connecting, Yielding, Reading, ReadingAll, State, in_loop, with_loop}
+use Rattle.model_machine.specs.State.{ResumePoint, Asked, Sleeping, Leaving, Serving, Connecting, Yielding, Reading, ReadingAll, State, in_loop, with_loop}
 use Rattle.model_machine.specs.State.{with_streams, unbooked_in, noted, stands, with_coroutine}
 use Rattle.model_machine.specs.Went.{ask_so}
 
@@ -64,9 +64,9 @@ pub data RequestReply (S : Type 0) : Type 0 where
   -- the coroutine goes on with a value
   Answers : (value : Value) (now : State S) → RequestReply S
   -- or with an exception that is raised in it
-  Raises : (fault : Exc) (now : State S) → RequestReply S
+  Raises : (exception : Exc) (now : State S) → RequestReply S
   -- the step ends
-  Rests : (now : State S) → RequestReply S
+  Suspends : (now : State S) → RequestReply S
   -- the run ends
   Halts : (end : End) (last : State S) → RequestReply S
 
@@ -90,7 +90,7 @@ numbered made next s = numbered_if (nat_lt made most_ids) next s
 -- ---- values and outcomes
 abbrev pub replied : {S : Type 0} → Input → State S → RequestReply S
 replied (Send value) s = Answers value s
-replied (Throw fault) s = Raises fault s
+replied (Throw exception) s = Raises exception s
 
 abbrev pub ended : {S : Type 0} → State S → ℕ → Option Outcome
 ended s on = future_outcome s.loop.parts on
@@ -121,7 +121,7 @@ waits task on s = in_loop (book (suspend task on)) s
 
 abbrev pub awaits_as : {S : Type 0} → Option Outcome → (task on : ℕ) → State S → RequestReply S
 awaits_as (Some outcome) task on s = replied (input_of outcome) s
-awaits_as None task on s = Rests (waits task on s)
+awaits_as None task on s = Suspends (waits task on s)
 
 -- what is done is awaited at once
 abbrev pub awaits : {S : Type 0} → (task on : ℕ) → State S → RequestReply S
@@ -129,7 +129,7 @@ awaits task on s = awaits_as (ended s on) task on s
 
 -- a bare `yield`
 abbrev pub pauses : {S : Type 0} → ℕ → State S → RequestReply S
-pauses task s = Rests (unbooked_in (pause task) s)
+pauses task s = Suspends (unbooked_in (pause task) s)
 
 -- a future of its own, which a timer's handle will resolve
 abbrev pub alarmed : (task : ℕ) (delay : ℤ) → Parts → Parts
@@ -137,7 +137,7 @@ alarmed task delay p = later (deadline p.time delay) (SleepDone task (next_futur
 
 abbrev pub sleeps_for : {S : Type 0} → (task : ℕ) (delay : ℤ) → State S → RequestReply S
 sleeps_for task delay s =
-    Rests (stands (Sleeping s.loop.parts.next_tag) task
+    Suspends (stands (Sleeping s.loop.parts.next_tag) task
     (waits task (next_future s.loop.parts) (unbooked_in (alarmed task delay) s)))
 
 -- a sleep of 0 or less is a bare `yield`
@@ -183,7 +183,7 @@ enters_timeout task delay s =
     Answers (Timeout (next_timeout s.loop)) (in_loop (enter_timeout task delay) s)
 
 abbrev pub timed_out_if : {S : Type 0} → Bool → State S → RequestReply S
-timed_out_if true s = Raises timeout_fault s
+timed_out_if true s = Raises timeout_exception s
 timed_out_if false s = Answers Nothing s
 
 abbrev pub exits_timeout : {S : Type 0} → Option Exc → ℕ → State S → RequestReply S
@@ -191,7 +191,7 @@ exits_timeout raised id s =
     let left = exit_timeout raised id s.loop in timed_out_if left.timed_out (with_loop left.loop s)
 
 abbrev pub reschedules_if : {S : Type 0} → Bool → ℕ → Option ℤ → State S → RequestReply S
-reschedules_if false id when s = Raises (reschedule_fault (timeout_of s.loop id).state) s
+reschedules_if false id when s = Raises (reschedule_exception (timeout_of s.loop id).state) s
 reschedules_if true id when s = Answers Nothing (in_loop (reschedule id when) s)
 
 abbrev pub reschedules : {S : Type 0} → ℕ → Option ℤ → State S → RequestReply S
@@ -204,15 +204,15 @@ enters_group task s =
 
 -- what the exit of a group, begun or gone on, makes of its task's step
 abbrev pub exits_as : {S : Type 0} → GroupExit → (task id : ℕ) → State S → RequestReply S
-exits_as (Waits on) task id s = Rests (stands (Leaving id) task (waits task on s))
+exits_as (Waits on) task id s = Suspends (stands (Leaving id) task (waits task on s))
 exits_as Passes task id s = Answers Nothing s
-exits_as (RaisedBy fault) task id s = Raises fault s
+exits_as (RaisedBy exception) task id s = Raises exception s
 
 abbrev pub exits_group : {S : Type 0} → Exited → (task id : ℕ) → State S → RequestReply S
 exits_group exited task id s = exits_as exited.answer task id (with_loop exited.loop s)
 
 abbrev pub creates_unless : {S : Type 0} → Option Refusal → ℕ → ℕ → List Value → State S → RequestReply S
-creates_unless (Some cause) id coroutine arguments s = Raises (refusal_fault cause) s
+creates_unless (Some cause) id coroutine arguments s = Raises (refusal_exception cause) s
 creates_unless None id coroutine arguments s =
     Answers (Task (next_task s.loop.parts)) (with_coroutine coroutine arguments (in_loop (create id) s))
 
@@ -248,7 +248,7 @@ listens handler port s = streams_do (listen port handler s.streams) listens_as s
 
 abbrev pub connects_as : {S : Type 0} → ℕ → Option (ℕ × ℕ) → State S → RequestReply S
 connects_as task None s = Raises connect_refused s
-connects_as task (Some begun) s = Rests (stands (Connecting begun.0) task (waits task begun.1 s))
+connects_as task (Some begun) s = Suspends (stands (Connecting begun.0) task (waits task begun.1 s))
 
 abbrev pub connects : {S : Type 0} → (task port : ℕ) → State S → RequestReply S
 connects task port s = streams_do (connect port (next_future s.loop.parts) s.streams) (connects_as task) s
@@ -271,9 +271,9 @@ awaits_closed_as (Some on) task s = awaits task on s
 -- Closing, a drain first yields once; then it looks again.
 abbrev pub drains_as : {S : Type 0} → (task : ℕ) → Handed → Drain → State S → RequestReply S
 drains_as task whom drain_as.Goes s = Answers Nothing s
-drains_as task whom drain_as.Yields s = Rests (stands (Yielding whom) task (unbooked_in (pause task) s))
-drains_as task whom (drain_as.Waits on) s = Rests (waits task on s)
-drains_as task whom (drain_as.Raises fault) s = Raises fault s
+drains_as task whom drain_as.Yields s = Suspends (stands (Yielding whom) task (unbooked_in (pause task) s))
+drains_as task whom (drain_as.Waits on) s = Suspends (waits task on s)
+drains_as task whom (drain_as.Raises exception) s = Raises exception s
 
 abbrev pub drains : {S : Type 0} → (yielded : Bool) → (task : ℕ) → Handed → State S → RequestReply S
 drains yielded task whom s =
@@ -286,8 +286,8 @@ limits_as limited.BadLimits s = Raises (exception_of ValueError (codes "limits")
 -- A read looks at what is held as it begins and again at each waking.
 abbrev pub reads_as : {S : Type 0} → (task : ℕ) → ReadOp → StreamReader → StreamGot → State S → RequestReply S
 reads_as task op from (got.Bytes bytes) s = Answers (Bytes bytes) s
-reads_as task op from (got.Raises fault) s = Raises fault s
-reads_as task op from (got.Waits on) s = Rests (stands (Reading from op on) task (waits task on s))
+reads_as task op from (got.Raises exception) s = Raises exception s
+reads_as task op from (got.Waits on) s = Suspends (stands (Reading from op on) task (waits task on s))
 
 abbrev pub reads : {S : Type 0} → (task : ℕ) → ReadOp → StreamReader → State S → RequestReply S
 reads task op from s = streams_do (read (next_future s.loop.parts) op from s.streams) (reads_as task op from) s
@@ -295,8 +295,8 @@ reads task op from s = streams_do (read (next_future s.loop.parts) op from s.str
 -- with a negative count: what each look took is joined
 abbrev pub reads_all_as : {S : Type 0} → (task : ℕ) → StreamReader → (taken : List ℕ) → StreamGot → State S → RequestReply S
 reads_all_as task from taken (got.Bytes bytes) s = Answers (Bytes taken) s
-reads_all_as task from taken (got.Raises fault) s = Raises fault s
-reads_all_as task from taken (got.Waits on) s = Rests (stands (ReadingAll from taken on) task (waits task on s))
+reads_all_as task from taken (got.Raises exception) s = Raises exception s
+reads_all_as task from taken (got.Waits on) s = Suspends (stands (ReadingAll from taken on) task (waits task on s))
 
 abbrev pub reads_all : {S : Type 0} → (task : ℕ) → StreamReader → (taken : List ℕ) → State S → RequestReply S
 reads_all task from taken s =
@@ -314,7 +314,7 @@ waits_no_more on from s = with_streams (give_up_read on from s.streams) s
 -- what was waited for came, or an exception did
 abbrev pub hears : {S : Type 0} → Input → (State S → RequestReply S) → State S → RequestReply S
 hears (Send value) next s = next s
-hears (Throw fault) next s = Raises fault s
+hears (Throw exception) next s = Raises exception s
 
 abbrev pub launches_as : {S : Type 0} → Option ℕ → State S → RequestReply S
 launches_as None s = Raises (exception_of OSError (codes "launch refused")) s
@@ -325,7 +325,7 @@ launches words s = streams_do (launch words (next_future s.loop.parts) s.streams
 
 abbrev pub awaits_exit_as : {S : Type 0} → (task : ℕ) → ChildWait → State S → RequestReply S
 awaits_exit_as task (wait_as.Code code) s = Answers (Int code) s
-awaits_exit_as task (wait_as.Waits on) s = Rests (waits task on s)
+awaits_exit_as task (wait_as.Waits on) s = Suspends (waits task on s)
 
 abbrev pub code_of : Option ℤ → Value
 code_of None = Nothing
@@ -337,7 +337,7 @@ Wake S = (key : ℕ) → Input → State S → RequestReply S
 
 abbrev pub serves_until : {S : Type 0} → Option Outcome → Wake S → (task on key : ℕ) → State S → RequestReply S
 serves_until (Some outcome) wake task on key s = wake key (input_of outcome) s
-serves_until None wake task on key s = Rests (stands (Serving key) task (waits task on s))
+serves_until None wake task on key s = Suspends (stands (Serving key) task (waits task on s))
 
 abbrev pub extra_refused : Input
 extra_refused = Throw (exception_of OSError (codes "extra refused"))
@@ -363,7 +363,7 @@ serves_asking code bytes wake key s =
 
 abbrev pub serves_as : {S : Type 0} → ExtraAnswer → Wake S → ℕ → State S → RequestReply S
 serves_as (extra.Answers value) wake task s = Answers value s
-serves_as (extra.Raises fault) wake task s = Raises fault s
+serves_as (extra.Raises exception) wake task s = Raises exception s
 serves_as (extra.Waits on key) wake task s = serves_until (ended s on) wake task on key s
 serves_as (extra.Asks code bytes key) wake task s = serves_asking code bytes wake key s
 
@@ -386,8 +386,8 @@ module _ {S : Type 0} (added : Extra S) where
   reply task (request.Print values) s = Answers Nothing (noted (event.Said task (shown_all values)) s)
   reply task request.MakeFuture s = numbered (length s.futures) makes_future s
   reply task (request.Set future value) s = given (as_future s future) (λ on. settles on (Returned value)) s
-  reply task (request.Fail future fault) s =
-      given (as_future s future) (λ on. given (as_failure fault) (λ it. settles on (Failed it))) s
+  reply task (request.Fail future exception) s =
+      given (as_future s future) (λ on. given (as_failure exception) (λ it. settles on (Failed it))) s
   reply task (request.IsDone x) s =
       given (as_awaited s x) (λ on now. Answers (Truth (is_some (ended now on))) now) s
   reply task (request.IsCancelled x) s =
@@ -448,13 +448,13 @@ module _ {S : Type 0} (added : Extra S) where
       given (as_child s child) (λ id now. streams_change (kill id now.streams) (Answers Nothing) now) s
 
   -- what the request at which a task stands makes of the input that its step begins with
-  abbrev pub decides : Standing → ℕ → Input → State S → RequestReply S
+  abbrev pub decides : ResumePoint → ℕ → Input → State S → RequestReply S
   decides Asked task input s = replied input s
   decides (Sleeping tag) task input s = replied input s
   decides (Leaving group) task input s = exits_group (exit_woken input group s.loop) task group s
   decides (Serving key) task input s = woken task key input s
   decides (Connecting conn) task (Send value) s = Answers value s
-  decides (Connecting conn) task (Throw fault) s = streams_change (drop_connect conn s.streams) (Raises fault) s
+  decides (Connecting conn) task (Throw exception) s = streams_change (drop_connect conn s.streams) (Raises exception) s
   decides (Yielding whom) task input s = hears input (drains true task whom) s
   decides (Reading from op on) task input s = hears input (reads task op from) (waits_no_more on from s)
   decides (ReadingAll from taken on) task input s = hears input (reads_all task from taken) (waits_no_more on from s)

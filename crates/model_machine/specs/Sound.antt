@@ -30,13 +30,13 @@ use Rattle.model_stream.specs.Kept.{StreamsKeep, times_kept}
 use Rattle.model_stream.specs.Requests.{StreamReader, OfConn, OfChild}
 use Rattle.model_stream.specs.Streams.{Streams, no_streams}
 use Rattle.model_machine.specs.Extra.{Extra}
-use Rattle.model_machine.specs.State.{Standing, Asked, Sleeping, Leaving, Serving, Connecting, Yielding, Reading, ReadingAll, State, generator_of}
+use Rattle.model_machine.specs.State.{ResumePoint, Asked, Sleeping, Leaving, Serving, Connecting, Yielding, Reading, ReadingAll, State, generator_of}
 use Rattle.model_machine.specs.Step.{says_of}
 use Rattle.model_machine.specs.Told.{told_in}
 
 -- ---- tasks and their tapes
 -- whether a task that waits at this request may stand so
-abbrev pub stands_at : Standing → Request → Bool
+abbrev pub stands_at : ResumePoint → Request → Bool
 stands_at Asked request.Pause = true
 stands_at Asked (request.Await x) = true
 stands_at Asked (request.Sleep delay) = true
@@ -67,7 +67,7 @@ pub record IsUnbegun (p : Parts) (task : ℕ) : Type 0 where
 pub record IsAsking {S : Type 0} (added : Extra S) (s : State S) (task : ℕ) : Type 0 where
   pub asked : Request
   pub says : says_of step_limit added task s ≡ Asks asked
-  pub stands : stands_at (generator_of task s).standing asked ≡ true
+  pub stands : stands_at (generator_of task s).resume_point asked ≡ true
 
 -- what is called when main is done is registered on main's future alone, and pending only then
 pub record IsMainTold (p : Parts) : Type 0 where
@@ -103,7 +103,7 @@ abbrev pub IsOpenedReader : Streams → StreamReader → Type 0
 IsOpenedReader s (OfConn id) = id < length s.connections
 IsOpenedReader s (OfChild pipe id) = id < length s.children
 
-abbrev pub IsOpenedAt : Streams → Standing → Type 0
+abbrev pub IsOpenedAt : Streams → ResumePoint → Type 0
 IsOpenedAt s Asked = Unit {0}
 IsOpenedAt s (Sleeping tag) = Unit {0}
 IsOpenedAt s (Leaving group) = Unit {0}
@@ -114,10 +114,10 @@ IsOpenedAt s (Reading from op on) = IsOpenedReader s from
 IsOpenedAt s (ReadingAll from taken on) = IsOpenedReader s from
 
 pub record StandsRightly {S : Type 0} (s : State S) (task : ℕ) : Type 0 where
-  pub sleeping : (tag : ℕ) → (generator_of task s).standing ≡ Sleeping tag → NamesItsSleep s.loop.parts task tag
-  pub leaving : (id : ℕ) → (generator_of task s).standing ≡ Leaving id → (group_of s.loop id).parent ≡ task
-  pub leaving_now : (id : ℕ) → (generator_of task s).standing ≡ Leaving id → IsLeft s id
-  pub opened : IsOpenedAt s.streams (generator_of task s).standing
+  pub sleeping : (tag : ℕ) → (generator_of task s).resume_point ≡ Sleeping tag → NamesItsSleep s.loop.parts task tag
+  pub leaving : (id : ℕ) → (generator_of task s).resume_point ≡ Leaving id → (group_of s.loop id).parent ≡ task
+  pub leaving_now : (id : ℕ) → (generator_of task s).resume_point ≡ Leaving id → IsLeft s id
+  pub opened : IsOpenedAt s.streams (generator_of task s).resume_point
 
 -- ---- open blocks
 abbrev pub is_open : TimeoutState → Bool
@@ -178,7 +178,7 @@ abbrev mutual
 
 abbrev pub sends_made : ℕ → Input → Bool
 sends_made made (Send value) = names_made made value
-sends_made made (Throw fault) = true
+sends_made made (Throw exception) = true
 
 -- The tasks that arguments, tapes and outcomes name were made. So no script has one that wasn't.
 pub record AreTasksMade {S : Type 0} (s : State S) : Type 0 where
@@ -218,10 +218,10 @@ pub record IsSoundOver {S : Type 0} (Blocks : Type 0) (running excused : Option 
       → IsUnbegun s.loop.parts task
   pub main_over : s.main_done ≡ true → lives s.loop.parts 0 ≡ false
   pub main_told : IsMainTold s.loop.parts
-  pub standing : (task : ℕ) → lives s.loop.parts task ≡ true → is_running excused task ≡ false → StandsRightly s task
+  pub resume_point : (task : ℕ) → lives s.loop.parts task ≡ true → is_running excused task ≡ false → StandsRightly s task
   -- a group whose exit has begun and hasn't ended is the one at whose exit its parent stands
   pub exits : (id : ℕ) → IsLeft s id → is_running excused (group_of s.loop id).parent ≡ false
-      → (generator_of (group_of s.loop id).parent s).standing ≡ Leaving id
+      → (generator_of (group_of s.loop id).parent s).resume_point ≡ Leaving id
   pub blocks : Blocks
   pub streams : AreStreamsFutures s
   pub kept_once : AreKeptOnce s

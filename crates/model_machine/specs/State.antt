@@ -17,23 +17,23 @@ use Rattle.model_stream.specs.Requests.{StreamReader}
 use Rattle.model_stream.specs.Streams.{Streams, no_streams}
 
 -- What decides, as a task's step begins, what the input means.
-pub data Standing : Type 0 where
+pub data ResumePoint : Type 0 where
   -- nothing: the input answers what the coroutine asked
-  Asked : Standing
+  Asked : ResumePoint
   -- a sleep, which keeps the tag of its timer's handle
-  Sleeping : (tag : ℕ) → Standing
+  Sleeping : (tag : ℕ) → ResumePoint
   -- the exit of a group, which waits for the tasks that are left
-  Leaving : (group : ℕ) → Standing
+  Leaving : (group : ℕ) → ResumePoint
   -- a request that was added to the loop's own and waits, under its key
-  Serving : (key : ℕ) → Standing
+  Serving : (key : ℕ) → ResumePoint
   -- a connect, whose connection is being made
-  Connecting : (conn : ℕ) → Standing
+  Connecting : (conn : ℕ) → ResumePoint
   -- the bare `yield` of a drain
-  Yielding : (whom : Handed) → Standing
+  Yielding : (whom : Handed) → ResumePoint
   -- a read that waits for data, on this future
-  Reading : (from : StreamReader) (op : ReadOp) (on : ℕ) → Standing
+  Reading : (from : StreamReader) (op : ReadOp) (on : ℕ) → ResumePoint
   -- a read with a negative count, with what it took so far
-  ReadingAll : (from : StreamReader) (taken : List ℕ) (on : ℕ) → Standing
+  ReadingAll : (from : StreamReader) (taken : List ℕ) (on : ℕ) → ResumePoint
 
 -- What a task runs: which coroutine, told by its place in the program, its arguments, all that it was resumed with, and the
 -- request at which it stands.
@@ -41,7 +41,7 @@ pub record Generator : Type 0 where
   pub coroutine : ℕ
   pub arguments : List Value
   pub tape : Tape
-  pub standing : Standing
+  pub resume_point : ResumePoint
 
 -- `S` is the type of the state of what serves further requests. The generators are numbered as the tasks are, and the
 -- futures that `future()` made in order of making; here stand their numbers among all futures.
@@ -59,7 +59,7 @@ pub record State (S : Type 0) : Type 0 where
 
 abbrev pub generator : ℕ → List Value → Generator
 generator coroutine arguments =
-    record { coroutine = coroutine; arguments = arguments; tape = []; standing = Asked }
+    record { coroutine = coroutine; arguments = arguments; tape = []; resume_point = Asked }
 
 -- A run of a program begins, over what the outside will answer. So many listeners, connections and children can be numbered,
 -- of each kind.
@@ -108,8 +108,8 @@ resumed fresh task input s =
     let it = generator_of task s in
     with_generator task (record it { tape = it.tape ++ record { input = input; fresh = fresh } ∷ [] }) s
 
-abbrev pub stands : {S : Type 0} → Standing → ℕ → State S → State S
-stands standing task s = with_generator task (record (generator_of task s) { standing = standing }) s
+abbrev pub stands : {S : Type 0} → ResumePoint → ℕ → State S → State S
+stands resume_point task s = with_generator task (record (generator_of task s) { resume_point = resume_point }) s
 
 -- a task's coroutine is added as the task is made
 abbrev pub with_coroutine : {S : Type 0} → ℕ → List Value → State S → State S

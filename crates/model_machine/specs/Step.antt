@@ -10,13 +10,13 @@ use Rattle.model_loop.specs.Handles.{revoke}
 use Rattle.model_loop.specs.Parts.{Parts}
 use Rattle.model_loop.specs.Tasks.{begin_step, finish}
 use Rattle.model_machine.specs.Extra.{Extra}
-use Rattle.model_machine.specs.Replies.{RequestReply, Answers, Raises, Rests, Halts, reply, decides}
-use Rattle.model_machine.specs.State.{Standing, Asked, Sleeping, Leaving, Serving, Connecting, Yielding, Reading, ReadingAll, State, generator_of, resumed}
+use Rattle.model_machine.specs.Replies.{RequestReply, Answers, Raises, Suspends, Halts, reply, decides}
+use Rattle.model_machine.specs.State.{ResumePoint, Asked, Sleeping, Leaving, Serving, Connecting, Yielding, Reading, ReadingAll, State, generator_of, resumed}
 use Rattle.model_machine.specs.State.{stands, unbooked_in}
 use Rattle.model_machine.specs.Went.{Went, Goes, Stops}
 
 -- the handle of a sleep is given up as its task is resumed, for whatever reason
-abbrev pub given_up : Standing → Parts → Parts
+abbrev pub given_up : ResumePoint → Parts → Parts
 given_up Asked p = p
 given_up (Sleeping tag) p = revoke tag p
 given_up (Leaving group) p = p
@@ -34,8 +34,8 @@ most_answers limit tape = 3 + 2 * (limit * (length tape + 1))
 -- the answer goes to the coroutine's tape, and it says on
 abbrev pub taken_as : {S : Type 0} → RequestReply S → (fresh : Bool) → (task : ℕ) → (State S → Went S) → Went S
 taken_as (Answers value now) fresh task go_on = go_on (resumed fresh task (Send value) now)
-taken_as (Raises fault now) fresh task go_on = go_on (resumed fresh task (Throw fault) now)
-taken_as (Rests now) fresh task go_on = Goes now
+taken_as (Raises exception now) fresh task go_on = go_on (resumed fresh task (Throw exception) now)
+taken_as (Suspends now) fresh task go_on = Goes now
 taken_as (Halts end last) fresh task go_on = Stops end last
 
 -- `limit` is how many statements a step may begin.
@@ -49,7 +49,7 @@ module _ {S : Type 0} (limit : ℕ) (added : Extra S) where
   abbrev pub served : Saying → (task : ℕ) → (State S → Went S) → State S → Went S
   served (Asks request) task go_on s = taken_as (reply added task request s) false task go_on
   served (Returns value) task go_on s = Goes (unbooked_in (finish task (Ok value)) s)
-  served (Raised fault) task go_on s = Goes (unbooked_in (finish task (Err fault)) s)
+  served (Raised exception) task go_on s = Goes (unbooked_in (finish task (Err exception)) s)
   served Runaway task go_on s = Stops (end.Runaway task) s
 
   -- a task says on until its step ends, answered at most so often
@@ -64,7 +64,7 @@ module _ {S : Type 0} (limit : ℕ) (added : Extra S) where
   -- input means, and what the coroutine says then is served.
   unfoldable pub step : (task : ℕ) → Input → State S → Went S
   step task input s =
-      let standing = (generator_of task s).standing in
-      let begun = begin_step task input (given_up standing s.loop.parts) in
-      taken_as (decides added standing task begun.input (stands Asked task (unbooked_in (λ p. begun.parts) s)))
+      let resume_point = (generator_of task s).resume_point in
+      let begun = begin_step task input (given_up resume_point s.loop.parts) in
+      taken_as (decides added resume_point task begun.input (stands Asked task (unbooked_in (λ p. begun.parts) s)))
       true task (serve_all task)

@@ -9,7 +9,7 @@ use Rattle.model_wire.specs.declared.event.End.TheVariants as end
 use Rattle.model_wire.specs.declared.event.Event.TheVariants as event
 use Rattle.model_wire.specs.Call.{Call, Answer}
 use Rattle.model_wire.specs.declared.watch.Watch.{Watch}
-use Rattle.model_loop.specs.Circles.{circle_fault}
+use Rattle.model_loop.specs.Cycles.{cycle_exception}
 use Rattle.model_loop.specs.Ending.{cancel_everything}
 use Rattle.model_loop.specs.Futures.{future_outcome, next_future, register, settle}
 use Rattle.model_loop.specs.Groups.{child_done}
@@ -129,8 +129,8 @@ module _ {S : Type 0} (limit : ℕ) (added : Extra S) where
   -- what a handle does
   unfoldable pub effect : Action → State S → Went S
   effect (action.Step task) s = step limit added task (Send Nothing) s
-  -- a task that would wait in a circle is thrown an error in its place
-  effect (action.StepInCircle task circle) s = step limit added task (Throw (circle_fault circle)) s
+  -- a task that would wait in a cycle is thrown an error in its place
+  effect (action.StepInCycle task cycle) s = step limit added task (Throw (cycle_exception cycle)) s
   effect (action.Wakeup task) s = step limit added task (woken_with s.loop.parts task) s
   effect (action.SleepDone task future) s = Goes (unbooked_in (settle future (Returned Nothing)) s)
   effect (action.GroupDone group task) s = Goes (in_loop (child_done group task) s)

@@ -15,8 +15,8 @@ use Rattle.model_says.specs.Tape.{Tape}
 abbrev pub open_with : List Value → Request → Input → List Value
 open_with blocks (TimeoutEnter delay) (Send value) = value ∷ blocks
 open_with blocks GroupEnter (Send value) = value ∷ blocks
-open_with blocks (TimeoutExit timeout fault) answer = drop 1 blocks
-open_with blocks (GroupExit group fault) answer = drop 1 blocks
+open_with blocks (TimeoutExit timeout exception) answer = drop 1 blocks
+open_with blocks (GroupExit group exception) answer = drop 1 blocks
 open_with blocks _ _ = blocks
 
 abbrev pub open_after : List Exchange → List Value

@@ -15,7 +15,7 @@ use Rattle.model_says.specs.Tape.{Resumed, Tape}
 pub data Saying : Type 0 where
   Asks : (request : Request) → Saying
   Returns : (value : Value) → Saying
-  Raises : (fault : Exc) → Saying
+  Raises : (exception : Exc) → Saying
   -- one statement more would begin in a step than a step may have
   Runaway : Saying
 
@@ -37,7 +37,7 @@ pub data Ending : Type 0 where
   -- what stands behind them is next
   Passes : (now : Progress) → Ending
   Returned : (value : Value) (now : Progress) → Ending
-  Raised : (fault : Exc) (now : Progress) → Ending
+  Raised : (exception : Exc) (now : Progress) → Ending
   -- nothing more is run: a request that finds no answer, or a runaway
   Stopped : (saying : Saying) (now : Progress) → Ending
 
@@ -45,13 +45,13 @@ pub data Ending : Type 0 where
 abbrev pub saying_of : Ending → Saying
 saying_of (Passes now) = Returns Nothing
 saying_of (Returned value now) = Returns value
-saying_of (Raised fault now) = Raises fault
+saying_of (Raised exception now) = Raises exception
 saying_of (Stopped saying now) = saying
 
 abbrev pub progress_of : Ending → Progress
 progress_of (Passes now) = now
 progress_of (Returned value now) = now
-progress_of (Raised fault now) = now
+progress_of (Raised exception now) = now
 progress_of (Stopped saying now) = now
 
 -- ---- one thing after another. What comes next is a function of how far things have come.
@@ -62,7 +62,7 @@ Next = Progress → Ending
 abbrev pub routed : (pass : Next) (return : Value → Next) (raise : Exc → Next) → Ending → Ending
 routed pass return raise (Passes now) = pass now
 routed pass return raise (Returned value now) = return value now
-routed pass return raise (Raised fault now) = raise fault now
+routed pass return raise (Raised exception now) = raise exception now
 routed pass return raise (Stopped saying now) = Stopped saying now
 
 abbrev pub then_next : Next → Ending → Ending
@@ -71,7 +71,7 @@ then_next next = routed next Returned Raised
 -- the exception of an expression is raised at its place
 abbrev pub given : {A : Type 0} → (A → Next) → Result A Exc → Next
 given next (Ok value) now = next value now
-given next (Err fault) now = Raised fault now
+given next (Err exception) now = Raised exception now
 
 abbrev pub valued : Expr → (Value → Next) → Next
 valued expr next now = given next (value_of expr now.env) now
@@ -106,7 +106,7 @@ begun next now = begun_with now.left next now
 -- ---- a request takes the next input: what is sent is its value, what is thrown is raised at its place
 abbrev pub resumed_by : Input → (Value → Next) → Next
 resumed_by (Send value) next = next value
-resumed_by (Throw fault) next = Raised fault
+resumed_by (Throw exception) next = Raised exception
 
 -- The first input of a step gives the step as many statements as it may have.
 abbrev pub taken : (limit : ℕ) → Request → Resumed → Tape → Progress → Progress

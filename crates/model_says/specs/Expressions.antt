@@ -5,7 +5,7 @@ use Rattle.model_value.specs.Value.{Value, Nothing, Truth, Int, Text, Bytes, Ite
 use Rattle.model_tree.specs.Syntax.{Constant, NoneConstant, TruthConstant, IntConstant, TextConstant, BytesConstant, Expr, Or, And, Not, Compare, Calculate}
 use Rattle.model_tree.specs.Syntax.{Negate, Index, Literal, Variable, ListOf, Apply, MakeError, Exprs, no_exprs, expr_then}
 use Rattle.model_says.specs.Variables.{Env, held}
-use Rattle.model_says.specs.Operations.{ValueOrFault, bad_operand, bounded, truth, negation, calculated, negative, compared, indexed, applied, error_made}
+use Rattle.model_says.specs.Operations.{ValueOrException, bad_operand, bounded, truth, negation, calculated, negative, compared, indexed, applied, error_made}
 
 abbrev pub constant_value : Constant → Value
 constant_value NoneConstant = Nothing
@@ -15,42 +15,42 @@ constant_value (TextConstant bytes) = Text bytes
 constant_value (BytesConstant bytes) = Bytes bytes
 
 -- an operation on a value that may be missing
-abbrev pub of_one : (Value → ValueOrFault) → ValueOrFault → ValueOrFault
+abbrev pub of_one : (Value → ValueOrException) → ValueOrException → ValueOrException
 of_one operation (Ok value) = operation value
-of_one operation (Err fault) = Err fault
+of_one operation (Err exception) = Err exception
 
 -- an operation on two values, of which the left one comes first
-abbrev pub of_two : (Value → Value → ValueOrFault) → ValueOrFault → ValueOrFault → ValueOrFault
+abbrev pub of_two : (Value → Value → ValueOrException) → ValueOrException → ValueOrException → ValueOrException
 of_two operation (Ok left) right = of_one (operation left) right
-of_two operation (Err fault) right = Err fault
+of_two operation (Err exception) right = Err exception
 
 -- The left side is tested first. What the right side gives counts only where the left one does not decide.
-abbrev pub either : ValueOrFault → ValueOrFault → ValueOrFault
+abbrev pub either : ValueOrException → ValueOrException → ValueOrException
 either (Ok (Truth true)) right = Ok (Truth true)
 either (Ok (Truth false)) right = of_one truth right
 either (Ok _) right = Err bad_operand
-either (Err fault) right = Err fault
+either (Err exception) right = Err exception
 
-abbrev pub both : ValueOrFault → ValueOrFault → ValueOrFault
+abbrev pub both : ValueOrException → ValueOrException → ValueOrException
 both (Ok (Truth true)) right = of_one truth right
 both (Ok (Truth false)) right = Ok (Truth false)
 both (Ok _) right = Err bad_operand
-both (Err fault) right = Err fault
+both (Err exception) right = Err exception
 
 abbrev pub behind : Value → Result (List Value) Exc → Result (List Value) Exc
 behind value (Ok others) = Ok (value ∷ others)
-behind value (Err fault) = Err fault
+behind value (Err exception) = Err exception
 
-abbrev pub in_order : ValueOrFault → Result (List Value) Exc → Result (List Value) Exc
+abbrev pub in_order : ValueOrException → Result (List Value) Exc → Result (List Value) Exc
 in_order (Ok value) others = behind value others
-in_order (Err fault) others = Err fault
+in_order (Err exception) others = Err exception
 
-abbrev pub list_made : Result (List Value) Exc → ValueOrFault
+abbrev pub list_made : Result (List Value) Exc → ValueOrException
 list_made (Ok items) = bounded (Items (values items))
-list_made (Err fault) = Err fault
+list_made (Err exception) = Err exception
 
 abbrev mutual
-  pub value_of : Expr → Env → ValueOrFault
+  pub value_of : Expr → Env → ValueOrException
   value_of (Or left right) env = either (value_of left env) (value_of right env)
   value_of (And left right) env = both (value_of left env) (value_of right env)
   value_of (Not operand) env = of_one negation (value_of operand env)

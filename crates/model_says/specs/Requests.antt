@@ -17,7 +17,7 @@ bad_argument = exception_of TypeError (codes "bad argument")
 abbrev pub requested : RequestName → List Value → Result Request Exc
 requested named.MakeFuture [] = Ok request.MakeFuture
 requested named.Set (future ∷ value ∷ []) = Ok (request.Set future value)
-requested named.Fail (future ∷ fault ∷ []) = Ok (request.Fail future fault)
+requested named.Fail (future ∷ exception ∷ []) = Ok (request.Fail future exception)
 requested named.IsDone (x ∷ []) = Ok (request.IsDone x)
 requested named.IsCancelled (x ∷ []) = Ok (request.IsCancelled x)
 requested named.ResultOf (x ∷ []) = Ok (request.ResultOf x)

@@ -23,7 +23,7 @@ too_many_frames = exception_of RecursionError (codes "too many frames")
 
 -- `raise` of a value that is no exception raises TypeError
 abbrev pub raised : Value → Next
-raised (Exception fault) = Raised fault
+raised (Exception exception) = Raised exception
 raised _ = Raised bad_operand
 
 -- `except` clauses take an exception, and nothing else
@@ -33,7 +33,7 @@ handled handlers = routed Passes Returned handlers
 -- `finally` runs on every way out. Where it passes, the way out is the one that was taken.
 abbrev pub finished : Next → Ending → Ending
 finished finally =
-    routed finally (λ value now. then_next (Returned value) (finally now)) (λ fault now. then_next (Raised fault) (finally now))
+    routed finally (λ value now. then_next (Returned value) (finally now)) (λ exception now. then_next (Raised exception) (finally now))
 
 -- Whoever called a coroutine goes on with its own variables, and with the value that the body returned.
 abbrev pub back_in : Env → Progress → Progress
@@ -41,15 +41,15 @@ back_in env now = record now { env = env }
 
 abbrev pub came_back : Env → (Value → Next) → Ending → Ending
 came_back env next =
-    routed (λ now. next Nothing (back_in env now)) (λ value now. next value (back_in env now)) (λ fault now. Raised fault (back_in env now))
+    routed (λ now. next Nothing (back_in env now)) (λ value now. next value (back_in env now)) (λ exception now. Raised exception (back_in env now))
 
 -- a call of the coroutine with this place, for these arguments
 abbrev pub Calls : Type 0
 Calls = ℕ → List Value → Next
 
 abbrev pub exit_of : Manager → Value → Option Exc → Request
-exit_of GroupBlock group fault = request.GroupExit group fault
-exit_of (TimeoutBlock delay) timeout fault = request.TimeoutExit timeout fault
+exit_of GroupBlock group exception = request.GroupExit group exception
+exit_of (TimeoutBlock delay) timeout exception = request.TimeoutExit timeout exception
 
 -- The limit is how many statements a step may begin.
 module _ (limit : ℕ) where
@@ -63,7 +63,7 @@ module _ (limit : ℕ) where
   exited manager entered =
       routed (ask limit (exit_of manager entered None) (λ answer. Passes))
       (λ value. ask limit (exit_of manager entered None) (λ answer. Returned value))
-      (λ fault. ask limit (exit_of manager entered (Some fault)) (λ answer. Raised fault))
+      (λ exception. ask limit (exit_of manager entered (Some exception)) (λ answer. Raised exception))
 
   -- ---- `while`
   -- how many statements may yet begin, in this step and in those that inputs can begin
@@ -101,7 +101,7 @@ module _ (limit : ℕ) (program : Program) where
     run call Yield = begun (ask limit request.Pause (λ answer. Passes))
     run call (YieldFrom into target) = begun (delegated call target (λ answer now. Passes (assign_to into answer now)))
     run call (Print items) = begun (all_valued items (λ values. ask limit (request.Print values) (λ answer. Passes)))
-    run call (Raise fault) = begun (valued fault raised)
+    run call (Raise exception) = begun (valued exception raised)
     run call (Return None) = begun (Returned Nothing)
     run call (Return (Some value)) = begun (valued value Returned)
     run call Pass = begun Passes
@@ -123,10 +123,10 @@ module _ (limit : ℕ) (program : Program) where
 
     -- the first clause whose kind is the exception's, or an ancestor of it, handles it; its variable holds the exception
     pub run_handlers : Calls → Handlers → Exc → Next
-    run_handlers call no_handlers fault = Raised fault
-    run_handlers call (handler_then kind name body others) fault =
-        if matches kind (kind_of fault) then (λ now. run_all call body (assign_to name (Exception fault) now))
-        else run_handlers call others fault
+    run_handlers call no_handlers exception = Raised exception
+    run_handlers call (handler_then kind name body others) exception =
+        if matches kind (kind_of exception) then (λ now. run_all call body (assign_to name (Exception exception) now))
+        else run_handlers call others exception
 
   -- ---- calls, while so many frames may yet be opened
   abbrev pub call_within : (frames : ℕ) → Calls

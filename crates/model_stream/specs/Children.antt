@@ -39,7 +39,7 @@ inlet id =
       sends = λ bytes. call.Feed id bytes;
       closes = call.End id;
       loses = λ broken. LostChild id broken;
-      fault = exception_of BrokenPipeError lost_text;
+      exception = exception_of BrokenPipeError lost_text;
     }
 
 abbrev pub its_stdin : Part Child Sender

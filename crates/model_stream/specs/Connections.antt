@@ -44,7 +44,7 @@ outlet id =
       sends = λ bytes. call.Send id bytes;
       closes = call.Close id;
       loses = λ broken. Lost id broken;
-      fault = exception_of ConnectionResetError lost_text;
+      exception = exception_of ConnectionResetError lost_text;
     }
 
 abbrev pub its_sender : Part Connection Sender
@@ -152,7 +152,7 @@ abbrev pub drain_of : (yielded : Bool) (next : ℕ) → Connection → Doing (Co
 drain_of yielded next c =
     elim c.receiver.reader.failed [
       | None ↦ asked_on its_sender (drain_sender yielded next) c
-      | Some fault ↦ if yielded then asked_on its_sender (drain_sender yielded next) c else Ends (c, drain_as.Raises fault)
+      | Some exception ↦ if yielded then asked_on its_sender (drain_sender yielded next) c else Ends (c, drain_as.Raises exception)
     ]
 
 abbrev pub limits_of : (high low : Option ℤ) → Connection → Doing (Connection × Limited)

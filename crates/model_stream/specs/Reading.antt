@@ -43,7 +43,7 @@ abbrev pub feed_eof : Reading → Reading
 feed_eof r = record r { eof = true }
 
 abbrev pub fail : Exc → Reading → Reading
-fail fault r = record r { failed = Some fault }
+fail exception r = record r { failed = Some exception }
 
 -- a wait for data resumes reading
 abbrev pub resume : Reading → Reading
@@ -61,14 +61,14 @@ abbrev pub gives : ℕ → List ℕ → Take
 gives count held = record { answer = Bytes (take count held); rest = drop count held; resumes = true }
 
 abbrev pub raises : Exc → List ℕ → Take
-raises fault rest = record { answer = Raises fault; rest = rest; resumes = false }
+raises exception rest = record { answer = Raises exception; rest = rest; resumes = false }
 
 abbrev pub needs : List ℕ → Take
 needs held = record { answer = Needs; rest = held; resumes = false }
 
 -- a reader that failed raises its exception
 abbrev pub unless_failed : Reading → Take → Take
-unless_failed r other = elim r.failed [ None ↦ other | Some fault ↦ raises fault r.held ]
+unless_failed r other = elim r.failed [ None ↦ other | Some exception ↦ raises exception r.held ]
 
 abbrev pub incomplete_text : (count : ℕ) (wanted : List ℕ) → List ℕ
 incomplete_text count wanted =

@@ -45,7 +45,7 @@ receive_end r = wakes (feed_eof r.reader) r.waiter
 -- the connection is lost: with an exception, or by its end
 abbrev pub receive_loss : Option Exc → Receiver → Doing Receiver
 receive_loss None r = receive_end r
-receive_loss (Some fault) r = wakes (fail fault r.reader) r.waiter
+receive_loss (Some exception) r = wakes (fail exception r.reader) r.waiter
 
 -- ---- reads
 abbrev pub second_waiter : Exc
@@ -62,7 +62,7 @@ wait_for_data next r =
 
 abbrev pub read_as : Taken → Take → (next : ℕ) → Receiver → Doing (Receiver × StreamGot)
 read_as (taken.Bytes bytes) t next r = Ends (record r { reader = after_take t r.reader }, got_as.Bytes bytes)
-read_as (taken.Raises fault) t next r = Ends (record r { reader = after_take t r.reader }, got_as.Raises fault)
+read_as (taken.Raises exception) t next r = Ends (record r { reader = after_take t r.reader }, got_as.Raises exception)
 read_as taken.Needs t next r = wait_for_data next r
 
 -- An operation, at its start and again at each waking.
@@ -82,7 +82,7 @@ all_taken r = record r { reader = after_take (gives (length r.reader.held) r.rea
 abbrev pub read_all : (next : ℕ) → Receiver → Doing (Receiver × AllGot)
 read_all next r =
     elim r.reader.failed [
-      | Some fault ↦ Ends (r, record { taken = []; got = got_as.Raises fault })
+      | Some exception ↦ Ends (r, record { taken = []; got = got_as.Raises exception })
       | None ↦ if r.reader.eof
           then Ends (all_taken r, record { taken = r.reader.held; got = got_as.Bytes [] })
           else and_then (wait_for_data next (all_taken r)) (λ done. Ends (done.0, record { taken = r.reader.held; got = done.1 }))

@@ -61,7 +61,7 @@ pub record Outlet : Type 0 where
   pub sends : List ℕ → Call
   pub closes : Call
   pub loses : (broken : Bool) → Action
-  pub fault : Exc
+  pub exception : Exc
 
 abbrev pub with_writer : Writer → Sender → Sender
 with_writer writer s = record s { writer = writer }
@@ -90,11 +90,11 @@ close_sender outlet s =
     else (if has_unsent s then Ends (record s { phase = phase.Closing }) else schedule_loss outlet false s)
 
 abbrev pub loss_of : Outlet → (broken : Bool) → Option Exc
-loss_of outlet broken = if broken then Some outlet.fault else None
+loss_of outlet broken = if broken then Some outlet.exception else None
 
 abbrev pub outcome_of : Option Exc → Outcome
 outcome_of None = Returned Nothing
-outcome_of (Some fault) = Failed fault
+outcome_of (Some exception) = Failed exception
 
 abbrev pub waiting_for_loss : Sender → List ℕ
 waiting_for_loss s = s.closed_future ∷ (if s.writer.paused then s.drains else [])

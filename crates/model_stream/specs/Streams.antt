@@ -176,7 +176,7 @@ act next returned (action.LostChild id broken) s = on_one its_children id (lose_
 act next returned (action.Made id) s = Ends s
 -- the others are the loop's
 act next returned (action.Step task) s = Ends s
-act next returned (action.StepInCircle task circle) s = Ends s
+act next returned (action.StepInCycle task cycle) s = Ends s
 act next returned (action.Wakeup task) s = Ends s
 act next returned (action.SleepDone task future) s = Ends s
 act next returned (action.GroupDone group task) s = Ends s

@@ -3,10 +3,10 @@
 -- Source: `events.py`, Handle; the callbacks of `tasks.py`, `timeouts.py` and `taskgroups.py`.
 use Rattle.std.specs.Prelude.{ℕ, List}
 use Rattle.model_value.specs.declared.action.Action as action
-use Rattle.model_value.specs.declared.action.Circle as circle
+use Rattle.model_value.specs.declared.action.CycleKind as cycle
 
-abbrev pub Circle : Type 0
-Circle = circle.Circle
+abbrev pub CycleKind : Type 0
+CycleKind = cycle.CycleKind
 
 abbrev pub Action : Type 0
 Action = action.Action (List ℕ)

@@ -20,7 +20,7 @@ abbrev mutual
   depth_of (Server id) = 0
   depth_of (Child id) = 0
   depth_of (Errs id) = 0
-  depth_of (Exception fault) = exc_depth fault
+  depth_of (Exception exception) = exc_depth exception
 
   pub items_depth : Values → ℕ
   items_depth no_values = 0

@@ -38,7 +38,7 @@ abbrev mutual
   quoted (Server id) = id_text 76 id
   quoted (Child id) = id_text 80 id
   quoted (Errs id) = id_text 69 id
-  quoted (Exception fault) = shown_exc fault
+  quoted (Exception exception) = shown_exc exception
 
   -- the items with `, ` between them
   pub quoted_items : Values → List ℕ

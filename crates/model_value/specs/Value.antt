@@ -21,7 +21,7 @@ mutual
     Child : (id : ℕ) → Value
     -- the standard error of a child
     Errs : (id : ℕ) → Value
-    Exception : (fault : Exc) → Value
+    Exception : (exception : Exc) → Value
 
   -- the items of a list value, in order
   pub data Values : Type 0 where

@@ -20,7 +20,7 @@ abbrev mutual
   weight_of (Server id) = 1
   weight_of (Child id) = 1
   weight_of (Errs id) = 1
-  weight_of (Exception fault) = exc_weight fault
+  weight_of (Exception exception) = exc_weight exception
 
   pub items_weight : Values → ℕ
   items_weight no_values = 0

@@ -1,6 +1,6 @@
 /// Why an await would never end: the task awaits itself, or something that waits for it.
 #[derive(Clone, Copy, PartialEq, Eq)]
-pub enum Circle {
+pub enum CycleKind {
     Itself,
     ItsWaiter,
 }
@@ -13,8 +13,8 @@ pub enum Circle {
 pub enum Action<B> {
     /// A task's step that nothing was awaited for: its first, and the one after a bare `yield`.
     Step(u32),
-    /// A task's step after it awaited in a circle: RuntimeError is thrown into it.
-    StepInCircle { task: u32, circle: Circle },
+    /// A task's step after it awaited in a cycle: RuntimeError is thrown into it.
+    StepInCycle { task: u32, cycle: CycleKind },
     /// A task's step after the future that it waits for is done.
     Wakeup(u32),
     /// The time that a task asked to sleep is over: its future is resolved unless it is done.

@@ -9,7 +9,7 @@ mod outcome;
 mod place;
 mod request;
 
-pub use action::{Action, ChildItem, Circle};
+pub use action::{Action, ChildItem, CycleKind};
 pub use input::Input;
 pub use kind::Kind;
 pub use outcome::Outcome;

@@ -37,7 +37,7 @@ news_word (news.Exit code) = codes "exit"
 
 abbrev pub action_text : Action → List ℕ
 action_text (action.Step task) = codes "step " ++ task_text task
-action_text (action.StepInCircle task circle) = codes "step " ++ task_text task
+action_text (action.StepInCycle task cycle) = codes "step " ++ task_text task
 action_text (action.Wakeup task) = codes "wakeup " ++ task_text task
 action_text (action.SleepDone task future) = codes "sleepdone " ++ task_text task
 action_text (action.GroupDone group task) = codes "groupdone " ++ group_text group ++ codes " " ++ task_text task

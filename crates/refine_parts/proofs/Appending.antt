@@ -8,26 +8,26 @@ use Rattle.model_loop.specs.Parts as plain
 use Rattle.model_loop.specs.Handles.{soon, soon_all, by_deadline}
 use Rattle.model_loop.specs.Numbered.{IsNumbered}
 use Rattle.law_changes.proofs.Numbering.{soon_numbers}
-use Rattle.algorithm_parts.specs.Forgotten.{forget_from}
+use Rattle.algorithm_parts.specs.Released.{release_from}
 use Rattle.algorithm_parts.specs.Quiet.{stage}
 use Rattle.aio_ready.specs.Queue as queue
 use Rattle.aio_ready.specs.Queue.{Queue, next_name, given_after}
 use Rattle.aio_cancel.specs.Awaitables.{waiting}
 use Rattle.aio_task.specs.View.{View}
-use Rattle.aio_task.specs.Keeps.{Known, ByHandle, name_of, handle_as, IsTimer, Ties, KeepsHandles, Keeps, Extends, Kept, Knows}
+use Rattle.aio_task.specs.Keeps.{Known, ByHandle, name_of, handle_as, IsTimer, NameMap, KeepsHandles, Keeps, Extends, Kept, Knows}
 use Rattle.refine_parts.proofs.Lists.{all-append, all_left, all_right, all_both}
 use Rattle.refine_parts.proofs.Naming.{tags_pending, tags_timers, all-by_deadline, handles_same, timers_same, known_as, known_new, known_same, names_more}
 use Rattle.refine_parts.proofs.Naming.{next_given, given_rises, next_fresh}
 
--- ---- ties
-pub extends_same : (t : Ties) (p : Parts) → Extends p t p t
+-- ---- name maps
+pub extends_same : (t : NameMap) (p : Parts) → Extends p t p t
 extends_same t p = record { known = λ tag h. refl; tags = omega arith; gone = refl; bar = refl }
 
 -- where no tag is given
-pub extends_still : (t : Ties) (p q : Parts) → q.next_tag ≡ p.next_tag → Extends p t q t
+pub extends_still : (t : NameMap) (p q : Parts) → q.next_tag ≡ p.next_tag → Extends p t q t
 extends_still t p q e = record { known = λ tag h. refl; tags = omega arith; gone = refl; bar = refl }
 
-pub extends_on : (t u w : Ties) (p q r : Parts) → Extends p t q u → Extends q u r w → Extends p t r w
+pub extends_on : (t u w : NameMap) (p q r : Parts) → Extends p t q u → Extends q u r w → Extends p t r w
 extends_on t u w p q r a b = record {
   known = λ tag h. let less = a.tags in b.known tag (omega arith) ∙ a.known tag h;
   tags = let x = a.tags in let y = b.tags in omega arith;
@@ -35,17 +35,17 @@ extends_on t u w p q r a b = record {
   bar = b.bar ∙ a.bar;
 }
 
-pub kept_same : {t : Ties} {v : View} {p : Parts} → Keeps t v p → Kept t p v p
-kept_same {t} {v} {p} k = record { ties = t; keeps = k; extends = extends_same t p }
+pub kept_same : {t : NameMap} {v : View} {p : Parts} → Keeps t v p → Kept t p v p
+kept_same {t} {v} {p} k = record { name_map = t; keeps = k; extends = extends_same t p }
 
-pub knows_on : (t u : Ties) (p q : Parts) (tag : ℕ) (it : Known) → Extends p t q u → Knows t p tag it → Knows u q tag it
+pub knows_on : (t u : NameMap) (p q : Parts) (tag : ℕ) (it : Known) → Extends p t q u → Knows t p tag it → Knows u q tag it
 knows_on t u p q tag it e k = record {
   given = let a = e.tags in let b = k.given in omega arith;
   known = e.known tag k.given ∙ k.known;
 }
 
 -- ---- all that waits
-pub waiting_kept : (t : Ties) (v : View) (p : Parts) → Keeps t v p → waiting v.queue ≡ map (handle_as t.known) p.pending
+pub waiting_kept : (t : NameMap) (v : View) (p : Parts) → Keeps t v p → waiting v.queue ≡ map (handle_as t.known) p.pending
 waiting_kept t v p k =
     let h = k.handles in
     let a = h.below in
@@ -55,8 +55,8 @@ waiting_kept t v p k =
     cc
 
 -- ---- futures and tasks change
-pub moved : (t : Ties) (v w : View) (p : Parts) (futures : List Future) (tasks : List Task) → Keeps t v p
-    → w.time ≡ v.time → w.schedule ≡ v.schedule → w.queue ≡ v.queue → w.tasks ≡ tasks → w.futures ≡ forget_from t.gone 0 futures
+pub moved : (t : NameMap) (v w : View) (p : Parts) (futures : List Future) (tasks : List Task) → Keeps t v p
+    → w.time ≡ v.time → w.schedule ≡ v.schedule → w.queue ≡ v.queue → w.tasks ≡ tasks → w.futures ≡ release_from t.gone 0 futures
     → ((id : ℕ) → t.gone id ≡ true → id < length futures) → ((id : ℕ) → t.gone id ≡ true → stage (slice_get futures id) ≡ None)
     → IsNumbered (record p { futures = futures; tasks = tasks })
     → Keeps t w (record p { futures = futures; tasks = tasks })
@@ -85,7 +85,7 @@ moved t v w p futures tasks k time schedule queue_is tasks_are futures_are made 
 }
 
 -- ---- `soon`
-module _ (t : Ties) (v : View) (p : Parts) (k : Keeps t v p) (action : Action) where
+module _ (t : NameMap) (v : View) (p : Parts) (k : Keeps t v p) (action : Action) where
   abbrev new : Known
   new = ByHandle (record { name = next_name v.queue })
 
@@ -145,25 +145,25 @@ module _ (t : Ties) (v : View) (p : Parts) (k : Keeps t v p) (action : Action) w
   }
 
   pub kept_soon : (kept : Kept t p (record v { queue = queue.soon action v.queue }) (soon action p))
-      × Knows kept.ties (soon action p) p.next_tag (ByHandle (record { name = next_name v.queue }))
+      × Knows kept.name_map (soon action p) p.next_tag (ByHandle (record { name = next_name v.queue }))
   kept_soon = (
     record {
-      ties = record t { known = u };
+      name_map = record t { known = u };
       keeps = keeps_soon;
       extends = record { known = same; tags = omega arith; gone = refl; bar = refl };
     },
     record { given = omega arith; known = known_new p.next_tag new t.known },
   )
 
-pub kept_soon_all : (t : Ties) (v : View) (p : Parts) (actions : List Action) → Keeps t v p
+pub kept_soon_all : (t : NameMap) (v : View) (p : Parts) (actions : List Action) → Keeps t v p
     → Kept t p (record v { queue = queue.soon_all actions v.queue }) (soon_all actions p)
 kept_soon_all t v p [] k = kept_same k
 kept_soon_all t v p (action ∷ actions) k =
     let first = (kept_soon t v p k action).0 in
     let others =
-    kept_soon_all first.ties (record v { queue = queue.soon action v.queue }) (soon action p) actions first.keeps in
+    kept_soon_all first.name_map (record v { queue = queue.soon action v.queue }) (soon action p) actions first.keeps in
     record {
-      ties = others.ties;
+      name_map = others.name_map;
       keeps = others.keeps;
-      extends = extends_on t first.ties others.ties p (soon action p) (soon_all actions (soon action p)) first.extends others.extends;
+      extends = extends_on t first.name_map others.name_map p (soon action p) (soon_all actions (soon action p)) first.extends others.extends;
     }

@@ -6,14 +6,14 @@ use Rattle.model_loop.specs.Parts as plain
 use Rattle.model_loop.specs.Parts.{Parts}
 use Rattle.model_loop.specs.Handles.{soon, soon_all}
 use Rattle.model_loop.specs.Numbered.{IsNumbered}
-use Rattle.algorithm_parts.specs.Forgotten.{forget_from, forgotten}
+use Rattle.algorithm_parts.specs.Released.{release_from, with_released}
 use Rattle.algorithm_parts.specs.Placed.{placed_from, placed}
 use Rattle.aio_ready.specs.declared.handle.Handle.{Handle}
 use Rattle.aio_ready.specs.Queue as queue
 use Rattle.aio_ready.specs.Queue.{Queue, actions_of, next_name}
 use Rattle.aio_cancel.specs.Awaitables.{handles_from, waiting}
 use Rattle.aio_task.specs.View.{View, parts}
-use Rattle.aio_task.specs.Keeps.{Known, handle_as, Ties, Keeps, Kept, Becomes}
+use Rattle.aio_task.specs.Keeps.{Known, handle_as, NameMap, Keeps, Kept, Becomes}
 use Rattle.refine_parts.proofs.Appending.{waiting_kept, kept_soon_all, moved}
 use Rattle.refine_parts.proofs.Only.{OnlyAppends, OnlyChanges, appends}
 
@@ -28,7 +28,7 @@ length_placed : (known : ℕ → Known) (handles : List plain.Handle) → length
 length_placed known [] = refl
 length_placed known (h ∷ handles) = ap suc (length_placed known handles)
 
-pub parts_kept : (t : Ties) (v : View) (p : Parts) → Keeps t v p → parts v ≡ placed (forgotten t.gone p)
+pub parts_kept : (t : NameMap) (v : View) (p : Parts) → Keeps t v p → parts v ≡ placed (with_released t.gone p)
 parts_kept t v p k =
     let w = waiting_kept t v p k in
     let f = k.futures in
@@ -71,7 +71,7 @@ kept-actions known [] = refl
 kept-actions known (h ∷ handles) = ap (λ row. h.action ∷ row) (kept-actions known handles)
 
 -- ---- a call
-module _ (t : Ties) (v w : View) (p q : Parts) (k : Keeps t v p) (only : OnlyAppends p q) (became : Becomes v w (placed (forgotten t.gone q))) where
+module _ (t : NameMap) (v w : View) (p q : Parts) (k : Keeps t v p) (only : OnlyAppends p q) (became : Becomes v w (placed (with_released t.gone q))) where
   abbrev act : plain.Handle → Action
   act handle = handle.action
 
@@ -94,19 +94,19 @@ module _ (t : Ties) (v w : View) (p q : Parts) (k : Keeps t v p) (only : OnlyApp
   more : Kept t p (record v { queue = queue.soon_all only.actions v.queue }) (soon_all only.actions p)
   more = kept_soon_all t v p only.actions k
 
-  was_gone : (id : ℕ) → more.ties.gone id ≡ true → t.gone id ≡ true
+  was_gone : (id : ℕ) → more.name_map.gone id ≡ true → t.gone id ≡ true
   was_gone id g = sym (ap (λ f. f id) more.extends.gone) ∙ g
 
   pub kept_becomes : IsNumbered q → Kept t p w q
   kept_becomes numbered = record {
-    ties = more.ties;
+    name_map = more.name_map;
     keeps =
-        subst (λ x. Keeps more.ties w x) (sym only.is)
-        (moved more.ties (record v { queue = queue.soon_all only.actions v.queue }) w (soon_all only.actions p)
+        subst (λ x. Keeps more.name_map w x) (sym only.is)
+        (moved more.name_map (record v { queue = queue.soon_all only.actions v.queue }) w (soon_all only.actions p)
         only.futures only.tasks more.keeps became.time became.schedule queue_is
         (ap (λ (x : Parts). x.tasks) became.parts ∙ ap (λ (x : Parts). x.tasks) only.is)
-        (ap (λ (x : Parts). x.futures) became.parts ∙ ap (λ (x : Parts). forget_from t.gone 0 x.futures) only.is
-        ∙ ap (λ f. forget_from f 0 only.futures) (sym more.extends.gone))
+        (ap (λ (x : Parts). x.futures) became.parts ∙ ap (λ (x : Parts). release_from t.gone 0 x.futures) only.is
+        ∙ ap (λ f. release_from f 0 only.futures) (sym more.extends.gone))
         (λ id g. let a = k.made id (was_gone id g) in let b = only.more in omega arith)
         (λ id g. only.done id (k.made id (was_gone id g)) (k.done id (was_gone id g)))
         (subst IsNumbered only.is numbered));
@@ -118,13 +118,13 @@ module _ (t : Ties) (v w : View) (p q : Parts) (k : Keeps t v p) (only : OnlyApp
     };
   }
 
--- where nothing is appended the ties stay as they are
-pub keeps_becomes : (t : Ties) (v w : View) (p q : Parts) → Keeps t v p → (only : OnlyChanges p q)
-    → Becomes v w (placed (forgotten t.gone q)) → IsNumbered q → Keeps t w q
+-- where nothing is appended the name map stay as they are
+pub keeps_becomes : (t : NameMap) (v w : View) (p q : Parts) → Keeps t v p → (only : OnlyChanges p q)
+    → Becomes v w (placed (with_released t.gone q)) → IsNumbered q → Keeps t w q
 keeps_becomes t v w p q k only became numbered =
     subst (λ x. Keeps t w x) (sym only.is)
     (moved t v w p only.futures only.tasks k became.time became.schedule (queue_is t v w p q k (appends only) became)
     (ap (λ (x : Parts). x.tasks) became.parts ∙ ap (λ (x : Parts). x.tasks) only.is)
-    (ap (λ (x : Parts). x.futures) became.parts ∙ ap (λ (x : Parts). forget_from t.gone 0 x.futures) only.is)
+    (ap (λ (x : Parts). x.futures) became.parts ∙ ap (λ (x : Parts). release_from t.gone 0 x.futures) only.is)
     (λ id g. let a = k.made id g in let b = only.more in omega arith) (λ id g. only.done id (k.made id g) (k.done id g))
     (subst IsNumbered only.is numbered))

@@ -18,66 +18,66 @@ use Rattle.law_changes.proofs.CancelNumbers.{cancel_numbers}
 use Rattle.law_changes.proofs.Falling.{new_plain_numbers, new_many_numbers, spawn_numbers}
 use Rattle.law_changes.proofs.Numbering.{settle_numbers, register_numbers, mark_asked_numbers, change_task_numbers}
 use Rattle.law_changes.proofs.StepNumbers.{begin_step_numbers, pause_numbers, suspend_numbers, finish_numbers}
-use Rattle.algorithm_parts.specs.Forgotten.{forgotten}
+use Rattle.algorithm_parts.specs.Released.{with_released}
 use Rattle.algorithm_parts.specs.Placed.{placed}
 use Rattle.algorithm_parts.proofs.PlacedLemmas.{soon-placed, settle-placed, register-placed, ask-placed, spawn-placed, change-placed, cancel-placed}
-use Rattle.algorithm_parts.proofs.ForgottenLemmas.{cancel-forget, settle-forget, ask-forget, change-forget}
-use Rattle.algorithm_parts.proofs.ForgottenSteps.{register-forget, make-forget, spawn-forget, suspend-forget, finish-forget}
+use Rattle.algorithm_parts.proofs.ReleasedLemmas.{cancel-release, settle-release, ask-release, change-release}
+use Rattle.algorithm_parts.proofs.ReleasedSteps.{register-release, make-release, spawn-release, suspend-release, finish-release}
 use Rattle.aio_ready.specs.Queue as queue
 use Rattle.aio_future.specs.Settled.{settled, called, registered, registered_at, registered_until, soon_if_done, soon_at, soon_until, asked, asked_at}
 use Rattle.aio_cancel.specs.Awaitables.{Appended}
 use Rattle.aio_cancel.proofs.PartsLemmas.{soon-parts, settle-parts}
 use Rattle.aio_task.specs.View.{View, body, parts}
-use Rattle.aio_task.specs.Keeps.{Ties, Keeps, Kept, Becomes}
+use Rattle.aio_task.specs.Keeps.{NameMap, Keeps, Kept, Becomes}
 use Rattle.refine_parts.proofs.Only.{OnlyAppends, OnlyChanges, only_soon, only_settle, only_register, changes_ask, changes_make, changes_task, only_spawn}
 use Rattle.refine_parts.proofs.Only.{only_cancel, changes_begin, only_finish, only_suspend}
 use Rattle.refine_parts.proofs.PlacedSteps.{begin-placed, finish-placed, suspend-placed}
 use Rattle.refine_parts.proofs.Becoming.{parts_kept, kept_becomes, keeps_becomes}
 
-pub new_stays : (t : Ties) (v : View) (p : Parts) → Keeps t v p → t.gone (next_future p) ≡ false
+pub new_stays : (t : NameMap) (v : View) (p : Parts) → Keeps t v p → t.gone (next_future p) ≡ false
 new_stays t v p k = false_from_ne_true (t.gone (next_future p)) (λ g. let h = k.made (next_future p) g in omega arith)
 
 -- an operation that commutes with placing and with forgetting
-becomes_by : (t : Ties) (v w : View) (p : Parts) → Keeps t v p → (call : Parts → Parts) → ((x : Parts) → call (placed x) ≡ placed (call x))
-    → call (forgotten t.gone p) ≡ forgotten t.gone (call p) → Becomes v w (call (parts v)) → Becomes v w (placed (forgotten t.gone (call p)))
-becomes_by t v w p k call place forget became = record {
-  parts = became.parts ∙ ap call (parts_kept t v p k) ∙ place (forgotten t.gone p) ∙ ap placed forget;
+becomes_by : (t : NameMap) (v w : View) (p : Parts) → Keeps t v p → (call : Parts → Parts) → ((x : Parts) → call (placed x) ≡ placed (call x))
+    → call (with_released t.gone p) ≡ with_released t.gone (call p) → Becomes v w (call (parts v)) → Becomes v w (placed (with_released t.gone (call p)))
+becomes_by t v w p k call place release became = record {
+  parts = became.parts ∙ ap call (parts_kept t v p k) ∙ place (with_released t.gone p) ∙ ap placed release;
   queue = became.queue;
   time = became.time;
   schedule = became.schedule;
 }
 
 -- such a one that appends alone
-kept_by : (t : Ties) (v w : View) (p : Parts) → Keeps t v p → (call : Parts → Parts) → OnlyAppends p (call p) → IsNumbered (call p)
-    → ((x : Parts) → call (placed x) ≡ placed (call x)) → call (forgotten t.gone p) ≡ forgotten t.gone (call p)
+kept_by : (t : NameMap) (v w : View) (p : Parts) → Keeps t v p → (call : Parts → Parts) → OnlyAppends p (call p) → IsNumbered (call p)
+    → ((x : Parts) → call (placed x) ≡ placed (call x)) → call (with_released t.gone p) ≡ with_released t.gone (call p)
     → Becomes v w (call (parts v)) → Kept t p w (call p)
-kept_by t v w p k call only numbered place forget became =
-    kept_becomes t v w p (call p) k only (becomes_by t v w p k call place forget became) numbered
+kept_by t v w p k call only numbered place release became =
+    kept_becomes t v w p (call p) k only (becomes_by t v w p k call place release became) numbered
 
 -- and one that appends nothing
-keeps_by : (t : Ties) (v w : View) (p : Parts) → Keeps t v p → (call : Parts → Parts) → OnlyChanges p (call p) → IsNumbered (call p)
-    → ((x : Parts) → call (placed x) ≡ placed (call x)) → call (forgotten t.gone p) ≡ forgotten t.gone (call p)
+keeps_by : (t : NameMap) (v w : View) (p : Parts) → Keeps t v p → (call : Parts → Parts) → OnlyChanges p (call p) → IsNumbered (call p)
+    → ((x : Parts) → call (placed x) ≡ placed (call x)) → call (with_released t.gone p) ≡ with_released t.gone (call p)
     → Becomes v w (call (parts v)) → Keeps t w (call p)
-keeps_by t v w p k call only numbered place forget became =
-    keeps_becomes t v w p (call p) k only (becomes_by t v w p k call place forget became) numbered
+keeps_by t v w p k call only numbered place release became =
+    keeps_becomes t v w p (call p) k only (becomes_by t v w p k call place release became) numbered
 
-module _ (t : Ties) (v w : View) (p : Parts) (k : Keeps t v p) where
+module _ (t : NameMap) (v w : View) (p : Parts) (k : Keeps t v p) where
   pub keeps_uncancel : (task : ℕ) → Becomes v w (uncancel task (parts v)) → Keeps t w (uncancel task p)
   keeps_uncancel task =
       keeps_by t v w p k (uncancel task) (changes_task task _ p) (change_task_numbers task _ p k.numbered)
-      (change-placed task _) (change-forget t.gone task _ p)
+      (change-placed task _) (change-release t.gone task _ p)
 
   pub kept_spawn : Becomes v w (spawn (parts v)) → Kept t p w (spawn p)
   kept_spawn =
-      kept_by t v w p k spawn (only_spawn p) (spawn_numbers p k.numbered) spawn-placed (spawn-forget t.gone p (new_stays t v p k))
+      kept_by t v w p k spawn (only_spawn p) (spawn_numbers p k.numbered) spawn-placed (spawn-release t.gone p (new_stays t v p k))
 
   pub keeps_begin : (task : ℕ) (input : Input) → Becomes v w (begin_step task input (parts v)).parts
       → Keeps t w (begin_step task input p).parts
   keeps_begin task input =
       keeps_by t v w p k (λ x. (begin_step task input x).parts) (changes_begin task input p) (begin_step_numbers task input p k.numbered)
       (begin-placed task input)
-      (ap (change_task task (λ (it : Task). record it { must_cancel = false })) (change-forget t.gone task _ p)
-      ∙ change-forget t.gone task _ (set_waiter task None p))
+      (ap (change_task task (λ (it : Task). record it { must_cancel = false })) (change-release t.gone task _ p)
+      ∙ change-release t.gone task _ (set_waiter task None p))
 
   pub kept_pause : (task : ℕ) → Becomes v w (pause task (parts v)) → Kept t p w (pause task p)
   kept_pause task =
@@ -86,17 +86,17 @@ module _ (t : Ties) (v w : View) (p : Parts) (k : Keeps t v p) where
   pub kept_suspend : (task on : ℕ) → Becomes v w (suspend task on (parts v)).parts → Kept t p w (suspend task on p).parts
   kept_suspend task on =
       kept_by t v w p k (λ x. (suspend task on x).parts) (only_suspend task on p) (suspend_numbers task on p k.numbered)
-      (suspend-placed task on) (ap (λ b. b.parts) (suspend-forget t.gone task on p k.done))
+      (suspend-placed task on) (ap (λ b. b.parts) (suspend-release t.gone task on p k.done))
 
   pub kept_finish : (task : ℕ) (end : Result Value Exc) → Becomes v w (finish task end (parts v)) → Kept t p w (finish task end p)
   kept_finish task end =
       kept_by t v w p k (finish task end) (only_finish task end p) (finish_numbers task end p k.numbered)
-      (finish-placed task end) (finish-forget t.gone task end p k.done)
+      (finish-placed task end) (finish-release t.gone task end p k.done)
 
   pub kept_request : (by : Origin) (id : ℕ) → Becomes v w (cancel id (parts v)).parts → Kept t p w (request by id p).booked.parts
   kept_request by id =
       kept_by t v w p k (λ x. (cancel id x).parts) (only_cancel id p) (cancel_numbers id p k.numbered)
-      (λ x. ap (λ r. r.parts) (cancel-placed id x)) (ap (λ r. r.parts) (cancel-forget t.gone id p k.done))
+      (λ x. ap (λ r. r.parts) (cancel-placed id x)) (ap (λ r. r.parts) (cancel-release t.gone id p k.done))
 
 -- ---- calls whose view is told
 register-parts : (id : ℕ) (action : Action) (v : View)
@@ -136,30 +136,30 @@ ask-parts id v = at (slice_get v.futures id)
     at None = refl
     at (Some future) = refl
 
-module _ (t : Ties) (v : View) (p : Parts) (k : Keeps t v p) where
+module _ (t : NameMap) (v : View) (p : Parts) (k : Keeps t v p) where
   pub kept_settle : (id : ℕ) (outcome : Outcome)
       → Kept t p (record v { futures = settled id outcome v.futures; queue = queue.soon_all (called id v.futures) v.queue }) (settle id outcome p)
   kept_settle id outcome =
       kept_by t v _ p k (settle id outcome) (only_settle id outcome p) (settle_numbers id outcome p k.numbered)
-      (settle-placed id outcome) (settle-forget t.gone id outcome p k.done)
+      (settle-placed id outcome) (settle-release t.gone id outcome p k.done)
       (record { parts = sym (settle-parts id outcome (body v)); queue = (called id v.futures, refl); time = refl; schedule = refl })
 
   pub kept_register : (id : ℕ) (action : Action)
       → Kept t p (record v { futures = registered id action v.futures; queue = soon_if_done id action v.futures v.queue }) (register id action p)
   kept_register id action =
       kept_by t v _ p k (register id action) (only_register id action p) (register_numbers id action p k.numbered)
-      (register-placed id action) (register-forget t.gone id action p k.done)
+      (register-placed id action) (register-release t.gone id action p k.done)
       (record { parts = sym (register-parts id action v); queue = register-appended id action v; time = refl; schedule = refl })
 
   pub keeps_ask : (id : ℕ) → Keeps t (record v { futures = asked id v.futures }) (mark_asked id p)
   keeps_ask id =
-      keeps_by t v _ p k (mark_asked id) (changes_ask id p) (mark_asked_numbers id p k.numbered) (ask-placed id) (ask-forget t.gone id p)
+      keeps_by t v _ p k (mark_asked id) (changes_ask id p) (mark_asked_numbers id p k.numbered) (ask-placed id) (ask-release t.gone id p)
       (record { parts = sym (ask-parts id v); queue = ([], refl); time = refl; schedule = refl })
 
   keeps_make : (kind : FutureKind) → IsNumbered (make_future kind p)
       → Keeps t (record v { futures = v.futures ++ record { kind = kind; outcome = None; callbacks = [] } ∷ [] }) (make_future kind p)
   keeps_make kind numbered =
-      keeps_by t v _ p k (make_future kind) (changes_make kind p) numbered (λ x. refl) (make-forget t.gone kind p (new_stays t v p k))
+      keeps_by t v _ p k (make_future kind) (changes_make kind p) numbered (λ x. refl) (make-release t.gone kind p (new_stays t v p k))
       (record { parts = refl; queue = ([], refl); time = refl; schedule = refl })
 
   pub keeps_plain : Keeps t (record v { futures = v.futures ++ record { kind = Plain; outcome = None; callbacks = [] } ∷ [] }) (new_plain p)

@@ -6,24 +6,25 @@ use Rattle.std.proofs.Math.ListN.{length-set}
 use Rattle.std.specs.Option.{option_map_or}
 use Rattle.std.proofs.lemmas.Bool.{cases_eq}
 use Rattle.model_value.specs.Action.{Action}
-use Rattle.model_value.specs.declared.action.Action.TheVariants.{Step, StepInCircle, Wakeup}
+use Rattle.model_value.specs.declared.action.Action.TheVariants.{Step, StepInCycle, Wakeup}
 use Rattle.model_value.specs.declared.outcome.Outcome.TheVariants.{Cancelled}
 use Rattle.model_value.specs.Input.{Input}
 use Rattle.model_value.specs.Value.{Outcome, Value, Exc}
 use Rattle.model_loop.specs.Parts.{FutureKind, OfTask, Future, Task, Parts}
 use Rattle.model_loop.specs.Handles.{soon, soon_all}
 use Rattle.model_loop.specs.Futures.{with_future, settle, settled, settled_as, register, registered, registered_on, mark_asked, make_future, next_future}
-use Rattle.model_loop.specs.Tasks.{change_task, spawn, next_task, set_waiter, unmark, begin_step, finish, uncancel}
+use Rattle.model_loop.specs.Tasks.{change_task, spawn, next_task, set_waiter, clear_must_cancel, begin_step, finish, uncancel}
 use Rattle.model_loop.specs.Cancel.{cancel}
 use Rattle.model_loop.specs.Suspend.{suspend}
 use Rattle.law_cancel.proofs.Lookups.{get-set_same, get-set_other, get-push_other}
 use Rattle.law_cancel.proofs.Effects.{done_as, asked_as}
-use Rattle.law_changes.specs.Blocks.{OfRequest, cancels, keeps_asked, counts, marks, OfWait, circles, registers_step, begins_wait, in_wait, unmarks}
+use Rattle.law_changes.specs.Blocks.{OfRequest, cancels, keeps_asked, counts, sets_must_cancel, OfWait, cycles, registers_step, begins_wait, in_wait}
+use Rattle.law_changes.specs.Blocks.{clears_must_cancel}
 use Rattle.law_changes.specs.Changes.{PartsChange, made_of_parts}
 use Rattle.law_changes.proofs.Folds.{fold}
 use Rattle.law_changes.proofs.PartsRows.{cancel_in, suspend_in}
 use Rattle.algorithm_parts.specs.Quiet.{stage_of, stage}
-use Rattle.aio_task.specs.Keeps.{Ties, Extends}
+use Rattle.aio_task.specs.Keeps.{NameMap, Extends}
 use Rattle.refine_parts.proofs.Appending.{extends_still}
 
 -- a future that was made and is done stays so
@@ -231,7 +232,7 @@ only_request : (change : PartsChange) (p : Parts) → OfRequest change p → Onl
 only_request _ p (cancels future) = only_settle future Cancelled p
 only_request _ p (keeps_asked future) = appends (changes_ask future p)
 only_request _ p (counts task) = appends (changes_task task _ p)
-only_request _ p (marks task) = appends (changes_task task _ p)
+only_request _ p (sets_must_cancel task) = appends (changes_task task _ p)
 
 pub only_cancel : (id : ℕ) (p : Parts) → OnlyAppends p (cancel id p).parts
 only_cancel id p = fold OnlyAppends only_same only_on only_request (cancel_in id p)
@@ -242,31 +243,31 @@ changes_begin task input p =
     changes_on p (set_waiter task None p) _ (changes_task task _ p) (changes_task task _ (set_waiter task None p))
 
 pub only_finish : (task : ℕ) (end : Result Value Exc) (p : Parts) → OnlyAppends p (finish task end p)
-only_finish task (Ok value) p = only_on p (unmark task p) _ (appends (changes_task task _ p)) (only_settle _ _ (unmark task p))
+only_finish task (Ok value) p = only_on p (clear_must_cancel task p) _ (appends (changes_task task _ p)) (only_settle _ _ (clear_must_cancel task p))
 only_finish task (Err fault) p = only_settle _ _ p
 
 only_wait : (task on : ℕ) (change : PartsChange) (p : Parts) → OfWait task on change p → OnlyAppends p (made_of_parts change p)
-only_wait task on _ p (circles why) = only_soon (StepInCircle task why) p
+only_wait task on _ p (cycles why) = only_soon (StepInCycle task why) p
 only_wait task on _ p registers_step = only_register on (Wakeup task) p
 only_wait task on _ p begins_wait = appends (changes_task task _ p)
 only_wait task on change p (in_wait it) = only_request change p it
-only_wait task on _ p unmarks = appends (changes_task task _ p)
+only_wait task on _ p clears_must_cancel = appends (changes_task task _ p)
 
 pub only_suspend : (task on : ℕ) (p : Parts) → OnlyAppends p (suspend task on p).parts
 only_suspend task on p = fold OnlyAppends only_same only_on (only_wait task on) (suspend_in task on p)
 
 -- ---- where no tag is given
-changes_ties : (t : Ties) (p q : Parts) → OnlyChanges p q → Extends p t q t
-changes_ties t p q c = extends_still t p q (ap (λ (x : Parts). x.next_tag) c.is)
+changes_name_map : (t : NameMap) (p q : Parts) → OnlyChanges p q → Extends p t q t
+changes_name_map t p q c = extends_still t p q (ap (λ (x : Parts). x.next_tag) c.is)
 
-pub ask_ties : (t : Ties) (p : Parts) (id : ℕ) → Extends p t (mark_asked id p) t
-ask_ties t p id = changes_ties t p (mark_asked id p) (changes_ask id p)
+pub ask_name_map : (t : NameMap) (p : Parts) (id : ℕ) → Extends p t (mark_asked id p) t
+ask_name_map t p id = changes_name_map t p (mark_asked id p) (changes_ask id p)
 
-pub make_ties : (t : Ties) (kind : FutureKind) (p : Parts) → Extends p t (make_future kind p) t
-make_ties t kind p = changes_ties t p (make_future kind p) (changes_make kind p)
+pub make_name_map : (t : NameMap) (kind : FutureKind) (p : Parts) → Extends p t (make_future kind p) t
+make_name_map t kind p = changes_name_map t p (make_future kind p) (changes_make kind p)
 
-pub begin_ties : (t : Ties) (p : Parts) (task : ℕ) (input : Input) → Extends p t (begin_step task input p).parts t
-begin_ties t p task input = changes_ties t p (begin_step task input p).parts (changes_begin task input p)
+pub begin_name_map : (t : NameMap) (p : Parts) (task : ℕ) (input : Input) → Extends p t (begin_step task input p).parts t
+begin_name_map t p task input = changes_name_map t p (begin_step task input p).parts (changes_begin task input p)
 
-pub uncancel_ties : (t : Ties) (p : Parts) (task : ℕ) → Extends p t (uncancel task p) t
-uncancel_ties t p task = changes_ties t p (uncancel task p) (changes_task task _ p)
+pub uncancel_name_map : (t : NameMap) (p : Parts) (task : ℕ) → Extends p t (uncancel task p) t
+uncancel_name_map t p task = changes_name_map t p (uncancel task p) (changes_task task _ p)

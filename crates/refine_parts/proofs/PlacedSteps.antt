@@ -3,30 +3,30 @@ use Rattle.std.proofs.Common.{◌≡◌, ℕ, zero, suc, Bool, true, false, ◌|
 use Rattle.std.proofs.Common.{if◌then◌else◌}
 use Rattle.std.specs.Prelude.{◌==◌}
 use Rattle.std.specs.List.{list_any}
-use Rattle.model_value.specs.Action.{Circle}
-use Rattle.model_value.specs.declared.action.Action.TheVariants.{Wakeup, StepInCircle}
+use Rattle.model_value.specs.Action.{CycleKind}
+use Rattle.model_value.specs.declared.action.Action.TheVariants.{Wakeup, StepInCycle}
 use Rattle.model_value.specs.declared.outcome.Outcome.TheVariants.{Cancelled, Value as Returned, Failed}
 use Rattle.model_value.specs.Input.{Input}
 use Rattle.model_value.specs.Value.{Outcome, Value, Exc}
 use Rattle.model_loop.specs.Parts.{FutureKind, Plain, OfTask, Many, Future, Parts}
 use Rattle.model_loop.specs.Futures.{settle, register}
-use Rattle.model_loop.specs.Tasks.{future_of, set_waiter, unmark, is_marked, is_cancelled, begin_step, finish}
+use Rattle.model_loop.specs.Tasks.{future_of, set_waiter, clear_must_cancel, must_cancel_of, is_cancelled, begin_step, finish}
 use Rattle.model_loop.specs.Cancel.{cancel}
-use Rattle.model_loop.specs.Circles.{passes, passes_at, passes_until, leads_within, leads, circle}
+use Rattle.model_loop.specs.Cycles.{passes, passes_at, passes_until, leads_within, leads, cycle}
 use Rattle.model_loop.specs.Suspend.{wait_on, cancel_wait, suspend_unless, suspend}
 use Rattle.algorithm_parts.specs.Placed.{placed}
 use Rattle.algorithm_parts.proofs.PlacedLemmas.{soon-placed, settle-placed, register-placed, change-placed, cancel-placed}
 
 pub begin-placed : (task : ℕ) (input : Input) (p : Parts) → (begin_step task input (placed p)).parts ≡ placed (begin_step task input p).parts
-begin-placed task input p = ap (unmark task) (change-placed task _ p) ∙ change-placed task _ (set_waiter task None p)
+begin-placed task input p = ap (clear_must_cancel task) (change-placed task _ p) ∙ change-placed task _ (set_waiter task None p)
 
 pub finish-placed : (task : ℕ) (end : Result Value Exc) (p : Parts) → finish task end (placed p) ≡ placed (finish task end p)
 finish-placed task (Ok value) p =
-    let outcome : Outcome = if is_marked p task then Cancelled else Returned value in
-    ap (settle (future_of p task) outcome) (change-placed task _ p) ∙ settle-placed (future_of p task) outcome (unmark task p)
+    let outcome : Outcome = if must_cancel_of p task then Cancelled else Returned value in
+    ap (settle (future_of p task) outcome) (change-placed task _ p) ∙ settle-placed (future_of p task) outcome (clear_must_cancel task p)
 finish-placed task (Err fault) p = settle-placed (future_of p task) (if is_cancelled fault then Cancelled else Failed fault) p
 
--- ---- the search for a circle
+-- ---- the search for a cycle
 any_same : (f g : ℕ → Bool) → ((x : ℕ) → f x ≡ g x) → (xs : List ℕ) → list_any f xs ≡ list_any g xs
 any_same f g same [] = refl
 any_same f g same (x ∷ xs) = rw (same x, any_same f g same xs) refl
@@ -51,8 +51,8 @@ leads_within-placed p (suc count) from to =
     ∙ any_same (λ next. (next == to) || leads_within count (placed p) next to) (λ next. (next == to) || leads_within count p next to)
     (λ next. ap (λ b. (next == to) || b) (leads_within-placed p count next to)) (passes p from)
 
-pub circle-placed : (p : Parts) (task on : ℕ) → circle (placed p) task on ≡ circle p task on
-circle-placed p task on =
+pub cycle-placed : (p : Parts) (task on : ℕ) → cycle (placed p) task on ≡ cycle p task on
+cycle-placed p task on =
     let l : leads (placed p) on (future_of p task) ≡ leads p on (future_of p task) =
     leads_within-placed p (length p.futures) on (future_of p task) in
     rw l refl
@@ -64,9 +64,9 @@ wait-placed task on p =
 
 pub suspend-placed : (task on : ℕ) (p : Parts) → (suspend task on (placed p)).parts ≡ placed (suspend task on p).parts
 suspend-placed task on p =
-    ap (λ c. (suspend_unless c task on (placed p)).parts) (circle-placed p task on) ∙ go (circle p task on)
+    ap (λ c. (suspend_unless c task on (placed p)).parts) (cycle-placed p task on) ∙ go (cycle p task on)
   where
-    answered : (b : Bool) (r : Parts) → (if b then unmark task (placed r) else placed r) ≡ placed (if b then unmark task r else r)
+    answered : (b : Bool) (r : Parts) → (if b then clear_must_cancel task (placed r) else placed r) ≡ placed (if b then clear_must_cancel task r else r)
     answered true r = change-placed task _ r
     answered false r = refl
 
@@ -76,6 +76,6 @@ suspend-placed task on p =
         let r = cancel on (wait_on task on p) in
         rw (cancel-placed on (wait_on task on p), answered r.answer r.parts) refl
 
-    go : (c : Option Circle) → (suspend_unless c task on (placed p)).parts ≡ placed (suspend_unless c task on p).parts
-    go (Some c) = soon-placed (StepInCircle task c) p
-    go None = ap (λ q. (cancel_wait (is_marked p task) task on q).parts) (wait-placed task on p) ∙ waited (is_marked p task)
+    go : (c : Option CycleKind) → (suspend_unless c task on (placed p)).parts ≡ placed (suspend_unless c task on p).parts
+    go (Some c) = soon-placed (StepInCycle task c) p
+    go None = ap (λ q. (cancel_wait (must_cancel_of p task) task on q).parts) (wait-placed task on p) ∙ waited (must_cancel_of p task)

@@ -18,7 +18,7 @@ use Rattle.aio_ready.specs.Queue as queue
 use Rattle.aio_ready.specs.Queue.{Queue, cancelled}
 use Rattle.aio_cancel.specs.Awaitables.{waiting}
 use Rattle.aio_task.specs.View.{View}
-use Rattle.aio_task.specs.Keeps.{Known, ByHandle, name_of, handle_as, timer_as, IsTimer, Ties, KeepsHandles, Keeps, Knows}
+use Rattle.aio_task.specs.Keeps.{Known, ByHandle, name_of, handle_as, timer_as, IsTimer, NameMap, KeepsHandles, Keeps, Knows}
 use Rattle.refine_parts.specs.Runs.{skipped}
 use Rattle.refine_parts.proofs.Appending.{waiting_kept}
 use Rattle.refine_parts.proofs.Lists.{all_left, all_right, all_below}
@@ -34,7 +34,7 @@ cancelled_stamps P tag (h ∷ handles) a = (go (h.tag == tag), cancelled_stamps 
     go true = a.0
     go false = a.0
 
-module _ (t : Ties) (v : View) (p : Parts) (k : Keeps t v p) (tag : ℕ) (given : tag < p.next_tag)
+module _ (t : NameMap) (v : View) (p : Parts) (k : Keeps t v p) (tag : ℕ) (given : tag < p.next_tag)
     (named : is_same (name_of (t.known tag)) (name_of (t.known tag)) ≡ true) where
   -- a handle has this name exactly where it has this tag
   name_tells : (other : ℕ) → other < p.next_tag → is_same (name_of (t.known tag)) (name_of (t.known other)) ≡ (other == tag)
@@ -89,7 +89,7 @@ timers_other known tag id e (timer ∷ timers) a =
     let more = timers_other known tag id e timers a.1 in
     rw (n, more) refl
 
-pub keeps_cancelled : (t : Ties) (v : View) (p : Parts) (tag : ℕ) (id : HandleId) → Keeps t v p → Knows t p tag (ByHandle id)
+pub keeps_cancelled : (t : NameMap) (v : View) (p : Parts) (tag : ℕ) (id : HandleId) → Keeps t v p → Knows t p tag (ByHandle id)
     → is_same id.name id.name ≡ true → Keeps t (record v { queue = cancelled id.name v.queue }) (revoke tag p)
 keeps_cancelled t v p tag id k knows named =
     let same = timers_other t.known tag id knows.known p.timers k.deadlines in
@@ -110,14 +110,14 @@ keeps_cancelled t v p tag id k knows named =
     }
 
 -- ---- what waits
-pub none_waits : (t : Ties) (v : View) (p : Parts) → Keeps t v p → queue.is_empty (waiting v.queue) ≡ true → p.pending ≡ []
+pub none_waits : (t : NameMap) (v : View) (p : Parts) → Keeps t v p → queue.is_empty (waiting v.queue) ≡ true → p.pending ≡ []
 none_waits t v p k e = go p.pending (ap queue.is_empty (sym (waiting_kept t v p k)) ∙ e)
   where
     go : (handles : List plain.Handle) → queue.is_empty (map (handle_as t.known) handles) ≡ true → handles ≡ []
     go [] e = refl
     go (h ∷ handles) e = absurd (cc)
 
-pub some_waits : (t : Ties) (v : View) (p : Parts) → Keeps t v p → queue.is_empty (waiting v.queue) ≡ false
+pub some_waits : (t : NameMap) (v : View) (p : Parts) → Keeps t v p → queue.is_empty (waiting v.queue) ≡ false
     → (first : plain.Handle) × (others : List plain.Handle) × (p.pending ≡ first ∷ others)
 some_waits t v p k e = go p.pending (ap queue.is_empty (sym (waiting_kept t v p k)) ∙ e)
   where
@@ -127,7 +127,7 @@ some_waits t v p k e = go p.pending (ap queue.is_empty (sym (waiting_kept t v p 
     go (h ∷ handles) e = (h, handles, refl)
 
 -- ---- the bar
-pub keeps_barred : (t : Ties) (v : View) (p : Parts) → Keeps t v p
+pub keeps_barred : (t : NameMap) (v : View) (p : Parts) → Keeps t v p
     → Keeps (record t { bar = p.next_stamp }) (record v { queue = queue.barred v.queue }) p
 keeps_barred t v p k = record {
   time = k.time;
@@ -166,7 +166,7 @@ counted bar known (h ∷ early) late a b =
     let one : ◌≡◌ {A = ℕ} (cond (nat_lt h.stamp bar) 1 0) 1 = rw (lt-ltb h.stamp bar a.0) refl in
     omega (arith, more, c, one)
 
-pub count_early : (t : Ties) (v : View) (p : Parts) → Keeps t v p
+pub count_early : (t : NameMap) (v : View) (p : Parts) → Keeps t v p
     → length v.queue.below ≡ count_by (λ (h : plain.Handle). nat_lt h.stamp t.bar) p.pending
 count_early t v p k =
     let h = k.handles in
@@ -174,7 +174,7 @@ count_early t v p k =
     ∙ ap (count_by (λ (h : plain.Handle). nat_lt h.stamp t.bar)) (sym h.pending)
 
 -- ---- the next handle
-module _ (t : Ties) (v : View) (p : Parts) (k : Keeps t v p) (first : plain.Handle) (others : List plain.Handle) (are : p.pending ≡ first ∷ others) where
+module _ (t : NameMap) (v : View) (p : Parts) (k : Keeps t v p) (first : plain.Handle) (others : List plain.Handle) (are : p.pending ≡ first ∷ others) where
   -- the first handle stands before the bar
   pub record IsEarly : Type 0 where
     pub early : List plain.Handle

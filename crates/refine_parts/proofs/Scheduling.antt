@@ -20,7 +20,7 @@ use Rattle.aio_ready.specs.Queue.{Queue, cancelled, appended, is_empty}
 use Rattle.aio_timer.specs.declared.live.TimerId.{TimerId}
 use Rattle.aio_timer.specs.Schedule.{timer, placed_after, is_of, lives, without, first_when, due_at, later_than, fallen}
 use Rattle.aio_task.specs.View.{View}
-use Rattle.aio_task.specs.Keeps.{Known, ByHandle, ByTimer, name_of, number_of, handle_as, timer_as, IsTimer, Ties, KeepsHandles, Keeps, Extends, Kept, Knows}
+use Rattle.aio_task.specs.Keeps.{Known, ByHandle, ByTimer, name_of, number_of, handle_as, timer_as, IsTimer, NameMap, KeepsHandles, Keeps, Extends, Kept, Knows}
 use Rattle.model_machine.specs.Turn.{least, wait_for, wait_with, wait_of, nothing_comes}
 use Rattle.refine_parts.specs.Waiting.{wait_by, stalls_by}
 use Rattle.aio_cancel.specs.Awaitables.{waiting}
@@ -32,7 +32,7 @@ use Rattle.refine_parts.proofs.Deadlining.{last-by_deadline, filter-by_deadline,
 use Rattle.refine_parts.proofs.Running.{handles_cancelled}
 
 -- ---- a timer is made
-module _ (t : Ties) (v : View) (p : Parts) (k : Keeps t v p) (when : ℕ) (action : Action) where
+module _ (t : NameMap) (v : View) (p : Parts) (k : Keeps t v p) (when : ℕ) (action : Action) where
   abbrev id : TimerId
   id = record { number = v.schedule.next; when = when }
 
@@ -97,10 +97,10 @@ module _ (t : Ties) (v : View) (p : Parts) (k : Keeps t v p) (when : ℕ) (actio
     numbered = later_numbers when action p k.numbered;
   }
 
-  pub kept_later : (kept : Kept t p made (later when action p)) × Knows kept.ties (later when action p) p.next_tag (ByTimer id)
+  pub kept_later : (kept : Kept t p made (later when action p)) × Knows kept.name_map (later when action p) p.next_tag (ByTimer id)
   kept_later = (
     record {
-      ties = record t { known = u };
+      name_map = record t { known = u };
       keeps = keeps_later;
       extends = record { known = same; tags = omega arith; gone = refl; bar = refl };
     },
@@ -135,7 +135,7 @@ filter_none : (tag : ℕ) (timers : List Timer) → occurrences tag (map timer_t
 filter_none tag = others_stay timer_tag tag (filter (λ (x : Timer). not (x.tag == tag))) refl (λ x xs n. rw (ne_eqb x.tag tag n) refl)
 
 -- a timer of these has this id exactly where it has this tag
-module _ (t : Ties) (v : View) (p : Parts) (k : Keeps t v p) (tag : ℕ) (id : TimerId) (knows : Knows t p tag (ByTimer id)) where
+module _ (t : NameMap) (v : View) (p : Parts) (k : Keeps t v p) (tag : ℕ) (id : TimerId) (knows : Knows t p tag (ByTimer id)) where
   known_tells : (it : Known) (x : Timer) → t.known x.tag ≡ it → IsTimer it x → x.tag < p.next_tag → is_of id (timer_as t.known x) ≡ (x.tag == tag)
   known_tells (ByHandle other) x e a below = absurd a
   known_tells (ByTimer other) x e a below = go (cases_eq x.tag tag)
@@ -321,7 +321,7 @@ late p = filter (λ (x : Timer). nat_lt p.time x.when) p.timers
 abbrev rest : Parts → Parts
 rest p = record p { timers = late p }
 
-module _ (t : Ties) (v : View) (p : Parts) (k : Keeps t v p) where
+module _ (t : NameMap) (v : View) (p : Parts) (k : Keeps t v p) where
   due_live : due_at p.time v.schedule.live ≡ map (timer_as t.known) (by_deadline (early p))
   due_live =
       ap (due_at p.time) k.timers
@@ -378,10 +378,10 @@ module _ (t : Ties) (v : View) (p : Parts) (k : Keeps t v p) where
         numbered = subst IsNumbered due_is (due_numbers p k.numbered);
       })
 
-pub due_ties : (t : Ties) (p : Parts) → Extends p t (due p) t
-due_ties t p = extends_still t p (due p) (fall_due-next (by_deadline (early p)) (rest p))
+pub due_name_map : (t : NameMap) (p : Parts) → Extends p t (due p) t
+due_name_map t p = extends_still t p (due p) (fall_due-next (by_deadline (early p)) (rest p))
 
-pub keeps_fallen : (t : Ties) (v : View) (p : Parts) (now : ℕ) → Keeps t v p → now ≡ v.time
+pub keeps_fallen : (t : NameMap) (v : View) (p : Parts) (now : ℕ) → Keeps t v p → now ≡ v.time
     → Keeps t
     (record v {
       schedule = record v.schedule { live = later_than now v.schedule.live };
@@ -403,7 +403,7 @@ first_as : (known : ℕ → Known) (timers : List Timer) → first_when (map (ti
 first_as known [] = refl
 first_as known (x ∷ timers) = refl
 
-module _ (t : Ties) (v : View) (p : Parts) (k : Keeps t v p) where
+module _ (t : NameMap) (v : View) (p : Parts) (k : Keeps t v p) where
   first_kept : first_when v.schedule.live ≡ first_when (by_deadline p.timers)
   first_kept = ap first_when k.timers ∙ first_as t.known (by_deadline p.timers)
 

@@ -9,7 +9,7 @@ use Rattle.model_loop.specs.Parts.{Parts}
 use Rattle.aio_ready.specs.declared.handle.Handle.{Handle}
 use Rattle.aio_ready.specs.Queue.{Queue, from_live, first_action, next_action, taken}
 use Rattle.aio_task.specs.View.{View}
-use Rattle.aio_task.specs.Keeps.{handle_as, Ties, Keeps}
+use Rattle.aio_task.specs.Keeps.{handle_as, NameMap, Keeps}
 use Rattle.refine_parts.specs.Runs.{skipped, IsPastBar, Runs, Skips}
 use Rattle.refine_parts.proofs.Appending.{moved}
 use Rattle.refine_parts.proofs.Running.{IsEarly, first_early, keeps_taken}
@@ -30,7 +30,7 @@ finds_live q first others e live = rw e (go first.dead live)
     go true d = absurd (cc)
     go false d = refl
 
-module _ (t : Ties) (v : View) (p : Parts) (k : Keeps t v p) where
+module _ (t : NameMap) (v : View) (p : Parts) (k : Keeps t v p) where
   module _ (first : plain.Handle) (others : List plain.Handle) (are : p.pending ≡ first ∷ others) (early : first.stamp < t.bar) where
     abbrev e : IsEarly t v p k first others are
     e = first_early t v p k first others are early
@@ -81,7 +81,7 @@ module _ (t : Ties) (v : View) (p : Parts) (k : Keeps t v p) where
       )
 
 -- ---- a whole call
-runs_on : (t : Ties) (w : View) (p : Parts) (others : List plain.Handle) (next : Option Action) (left : List plain.Handle)
+runs_on : (t : NameMap) (w : View) (p : Parts) (others : List plain.Handle) (next : Option Action) (left : List plain.Handle)
     → Runs t w (record p { pending = others }) next left → Runs t w p next left
 runs_on t w p others None left r = r
 runs_on t w p others (Some action) [] r = r
@@ -90,11 +90,11 @@ runs_on t w p others (Some action) (handle ∷ handles) r = r
 abbrev left_by : View → Option ℕ → View
 left_by v called = record v { queue = taken v.queue; called = called }
 
-abbrev SkipsFrom : Ties → Option ℕ → List plain.Handle → Type 0
+abbrev SkipsFrom : NameMap → Option ℕ → List plain.Handle → Type 0
 SkipsFrom t called pending =
     (v : View) (p : Parts) → Keeps t v p → p.pending ≡ pending → Skips t (left_by v called) p (next_action v.queue)
 
-skips_none : (t : Ties) (called : Option ℕ) (v : View) (p : Parts) → Keeps t v p → IsPastBar t.bar p.pending
+skips_none : (t : NameMap) (called : Option ℕ) (v : View) (p : Parts) → Keeps t v p → IsPastBar t.bar p.pending
     → Skips t (left_by v called) p (next_action v.queue)
 skips_none t called v p k past =
     let none = none_next t v p k past in
@@ -107,14 +107,14 @@ skips_none t called v p k past =
       runs = (past, moved t v (left_by v called) p p.futures p.tasks k refl refl none.1 k.tasks k.futures k.made k.done k.numbered);
     })
 
-skips_live : (t : Ties) (called : Option ℕ) (v : View) (p : Parts) (k : Keeps t v p) (first : plain.Handle) (others : List plain.Handle)
+skips_live : (t : NameMap) (called : Option ℕ) (v : View) (p : Parts) (k : Keeps t v p) (first : plain.Handle) (others : List plain.Handle)
     → p.pending ≡ first ∷ others → first.stamp < t.bar → first.dead ≡ false → Skips t (left_by v called) p (next_action v.queue)
 skips_live t called v p k first others are early live =
     let runs = keeps_live t v p k first others are early called live in
     subst (λ next. Skips t (left_by v called) p next) (sym runs.1)
     (record { dead = []; left = first ∷ others; pending = are; are_dead = tt; runs = (early, live, refl, runs.0) })
 
-skips_one : (t : Ties) (called : Option ℕ) (v : View) (p : Parts) (k : Keeps t v p) (first : plain.Handle) (others : List plain.Handle)
+skips_one : (t : NameMap) (called : Option ℕ) (v : View) (p : Parts) (k : Keeps t v p) (first : plain.Handle) (others : List plain.Handle)
     → p.pending ≡ first ∷ others → first.stamp < t.bar → first.dead ≡ true → SkipsFrom t called others
     → Skips t (left_by v called) p (next_action v.queue)
 skips_one t called v p k first others are early dead more =
@@ -131,7 +131,7 @@ skips_one t called v p k first others are early dead more =
       runs = runs_on t (left_by v called) p others (next_action v.queue) same.left same.runs;
     }
 
-skips_from : (t : Ties) (called : Option ℕ) (pending : List plain.Handle) → SkipsFrom t called pending
+skips_from : (t : NameMap) (called : Option ℕ) (pending : List plain.Handle) → SkipsFrom t called pending
 skips_from t called [] v p k are = skips_none t called v p k (rw are tt)
 skips_from t called (first ∷ others) v p k are = go (cases_lt first.stamp t.bar) first.dead refl (skips_from t called others)
   where
@@ -141,5 +141,5 @@ skips_from t called (first ∷ others) v p k are = go (cases_lt first.stamp t.ba
     go (inl early) false d more = skips_live t called v p k first others are early d
     go (inr past) dead d more = skips_none t called v p k (rw are past)
 
-pub keeps_next : (t : Ties) (v : View) (p : Parts) (called : Option ℕ) → Keeps t v p → Skips t (left_by v called) p (next_action v.queue)
+pub keeps_next : (t : NameMap) (v : View) (p : Parts) (called : Option ℕ) → Keeps t v p → Skips t (left_by v called) p (next_action v.queue)
 keeps_next t v p called k = skips_from t called p.pending v p k refl

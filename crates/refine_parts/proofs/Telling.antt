@@ -10,23 +10,23 @@ use Rattle.model_loop.specs.Parts.{Future, Task, Parts}
 use Rattle.model_loop.specs.Futures.{next_future, is_pending, is_pending_at, outcome_at, future_outcome}
 use Rattle.model_loop.specs.Cancel.{cancel}
 use Rattle.model_loop.specs.Owning.{owner_at, owner_of}
-use Rattle.model_loop.specs.Circles.{circle}
+use Rattle.model_loop.specs.Cycles.{cycle}
 use Rattle.model_loop.specs.Spent.{is_spent}
 use Rattle.model_loop.specs.Tasks.{future_of, lives}
 use Rattle.law_cancel.proofs.Answering.{with_answer_spent}
-use Rattle.algorithm_parts.specs.Forgotten.{released, forget_from, forgotten}
+use Rattle.algorithm_parts.specs.Released.{released, release_from, with_released}
 use Rattle.algorithm_parts.specs.Quiet.{stage_of, stage}
-use Rattle.algorithm_parts.proofs.ForgottenLemmas.{forgotten_at, cancel-forget}
-use Rattle.algorithm_parts.proofs.ForgottenSteps.{circle-forget}
+use Rattle.algorithm_parts.proofs.ReleasedLemmas.{with_released_at, cancel-release}
+use Rattle.algorithm_parts.proofs.ReleasedSteps.{cycle-release}
 use Rattle.algorithm_parts.proofs.PlacedLemmas.{cancel-placed}
 use Rattle.aio_task.specs.View.{View, parts}
-use Rattle.aio_task.specs.Keeps.{Ties, Keeps, let_go}
+use Rattle.aio_task.specs.Keeps.{NameMap, Keeps, release}
 use Rattle.refine_parts.proofs.Becoming.{parts_kept}
-use Rattle.refine_parts.proofs.PlacedSteps.{circle-placed}
+use Rattle.refine_parts.proofs.PlacedSteps.{cycle-placed}
 
-length_forget : (gone : ℕ → Bool) (number : ℕ) (futures : List Future) → length (forget_from gone number futures) ≡ length futures
-length_forget gone number [] = refl
-length_forget gone number (f ∷ futures) = ap suc (length_forget gone (suc number) futures)
+length_release : (gone : ℕ → Bool) (number : ℕ) (futures : List Future) → length (release_from gone number futures) ≡ length futures
+length_release gone number [] = refl
+length_release gone number (f ∷ futures) = ap suc (length_release gone (suc number) futures)
 
 not_pending : (o : Option Future) → stage o ≡ None → is_pending_at o ≡ false
 not_pending None s = refl
@@ -50,36 +50,36 @@ not_same false false e = refl
 not_same true false e = absurd (cc)
 not_same false true e = absurd (cc)
 
--- ---- one future more is let go
-forget_same : (gone other : ℕ → Bool) (number : ℕ) → ((id : ℕ) → number ≤ id → gone id ≡ other id) → (futures : List Future)
-    → forget_from gone number futures ≡ forget_from other number futures
-forget_same gone other number same [] = refl
-forget_same gone other number same (f ∷ futures) =
+-- ---- one future more is released
+release_same : (gone other : ℕ → Bool) (number : ℕ) → ((id : ℕ) → number ≤ id → gone id ≡ other id) → (futures : List Future)
+    → release_from gone number futures ≡ release_from other number futures
+release_same gone other number same [] = refl
+release_same gone other number same (f ∷ futures) =
     let e = same number (omega arith) in
-    let more = forget_same gone other (suc number) (λ id h. same id (omega arith)) futures in
+    let more = release_same gone other (suc number) (λ id h. same id (omega arith)) futures in
     rw (e, more) refl
 
-forget_one : (gone : ℕ → Bool) (number place id : ℕ) → id ≡ number + place → (futures : List Future) → place < length futures
-    → slice_set (forget_from gone number futures) place released ≡ forget_from (λ other. gone other || (other == id)) number futures
-forget_one gone number place id e [] h = absurd (omega arith)
-forget_one gone number zero id e (f ∷ futures) h =
+release_one : (gone : ℕ → Bool) (number place id : ℕ) → id ≡ number + place → (futures : List Future) → place < length futures
+    → slice_set (release_from gone number futures) place released ≡ release_from (λ other. gone other || (other == id)) number futures
+release_one gone number place id e [] h = absurd (omega arith)
+release_one gone number zero id e (f ∷ futures) h =
     let here : (gone number || (number == id)) ≡ true = or_right (gone number) (number == id) (eq-eqb number id (omega arith)) in
-    let more = forget_same gone (λ other. gone other || (other == id)) (suc number)
+    let more = release_same gone (λ other. gone other || (other == id)) (suc number)
     (λ other after. let n : (other == id) ≡ false = ne_eqb other id (omega arith) in rw n (sym (or-false (gone other)))) futures in
     rw (here, more) refl
-forget_one gone number (suc place) id e (f ∷ futures) h =
+release_one gone number (suc place) id e (f ∷ futures) h =
     let n : (number == id) ≡ false = ne_eqb number id (omega arith) in
     let here : (gone number || (number == id)) ≡ gone number = rw n (or-false (gone number)) in
-    let more = forget_one gone (suc number) place id (omega arith) futures (omega arith) in
+    let more = release_one gone (suc number) place id (omega arith) futures (omega arith) in
     rw (here, more) refl
 
-module _ (t : Ties) (v : View) (p : Parts) (k : Keeps t v p) where
+module _ (t : NameMap) (v : View) (p : Parts) (k : Keeps t v p) where
   pub next_kept : length v.futures ≡ next_future p
-  next_kept = ap length k.futures ∙ length_forget t.gone 0 p.futures
+  next_kept = ap length k.futures ∙ length_release t.gone 0 p.futures
 
   -- ---- futures
   at_kept : (id : ℕ) → slice_get v.futures id ≡ option_map (λ (f : Future). cond (t.gone id) released f) (slice_get p.futures id)
-  at_kept id = ap (λ fs. slice_get fs id) k.futures ∙ forgotten_at t.gone p id
+  at_kept id = ap (λ fs. slice_get fs id) k.futures ∙ with_released_at t.gone p id
 
   pub there_kept : (id : ℕ) → t.gone id ≡ false → slice_get v.futures id ≡ slice_get p.futures id
   there_kept id g = at_kept id ∙ rw g (same (slice_get p.futures id))
@@ -120,24 +120,24 @@ module _ (t : Ties) (v : View) (p : Parts) (k : Keeps t v p) where
   pub lives_kept : (task : ℕ) → lives (parts v) task ≡ lives p task
   lives_kept task = ap (λ id. is_pending_at (slice_get v.futures id)) (future_of_kept task) ∙ pending_kept (future_of p task)
 
-  pub circle_kept : (task on : ℕ) → circle (parts v) task on ≡ circle p task on
-  circle_kept task on =
-      ap (λ x. circle x task on) (parts_kept t v p k) ∙ circle-placed (forgotten t.gone p) task on ∙ circle-forget t.gone p k.done task on
+  pub cycle_kept : (task on : ℕ) → cycle (parts v) task on ≡ cycle p task on
+  cycle_kept task on =
+      ap (λ x. cycle x task on) (parts_kept t v p k) ∙ cycle-placed (with_released t.gone p) task on ∙ cycle-release t.gone p k.done task on
 
   -- ---- requests
   pub answer_kept : (id : ℕ) → (cancel id (parts v)).answer ≡ (cancel id p).answer
   answer_kept id =
-      ap (λ x. (cancel id x).answer) (parts_kept t v p k) ∙ ap (λ r. r.answer) (cancel-placed id (forgotten t.gone p))
-      ∙ ap (λ r. r.answer) (cancel-forget t.gone id p k.done)
+      ap (λ x. (cancel id x).answer) (parts_kept t v p k) ∙ ap (λ r. r.answer) (cancel-placed id (with_released t.gone p))
+      ∙ ap (λ r. r.answer) (cancel-release t.gone id p k.done)
 
   pub spent_kept : (id : ℕ) → is_spent (parts v) id ≡ is_spent p id
   spent_kept id =
       not_same (is_spent (parts v) id) (is_spent p id)
       (sym (with_answer_spent id [] (parts v)) ∙ answer_kept id ∙ with_answer_spent id [] p)
 
-  -- ---- a future is let go
+  -- ---- a future is released
   pub keeps_release : (id : ℕ) → id < next_future p → is_pending p id ≡ false
-      → Keeps (let_go id t) (record v { futures = (if nat_lt id (length v.futures) then slice_set v.futures id released else v.futures) }) p
+      → Keeps (release id t) (record v { futures = (if nat_lt id (length v.futures) then slice_set v.futures id released else v.futures) }) p
   keeps_release id made done = record {
     time = k.time;
     handles = k.handles;
@@ -152,11 +152,11 @@ module _ (t : Ties) (v : View) (p : Parts) (k : Keeps t v p) where
   }
     where
       released_kept : (if nat_lt id (length v.futures) then slice_set v.futures id released else v.futures)
-          ≡ forget_from (λ other. t.gone other || (other == id)) 0 p.futures
+          ≡ release_from (λ other. t.gone other || (other == id)) 0 p.futures
       released_kept =
           let l : length v.futures ≡ next_future p = next_kept in
           rw (lt-ltb id (length v.futures) (omega (arith, l, made)))
-          (ap (λ fs. slice_set fs id released) k.futures ∙ forget_one t.gone 0 id id (omega arith) p.futures made)
+          (ap (λ fs. slice_set fs id released) k.futures ∙ release_one t.gone 0 id id (omega arith) p.futures made)
 
       go_made : (other : ℕ) → (t.gone other ≡ true) ⊎ ((other == id) ≡ true) → other < next_future p
       go_made other (inl g) = k.made other g

@@ -4,22 +4,22 @@ use Rattle.std.proofs.Common.{sym, ◌∙◌, inl, inr, if◌then◌else◌}
 use Rattle.std.specs.Option.{option_map_or}
 use Rattle.std.proofs.lemmas.Bool.{cases_eq}
 use Rattle.std.proofs.lemmas.Option.{none-some, same_Some}
-use Rattle.model_value.specs.Action.{Action, Circle}
+use Rattle.model_value.specs.Action.{Action, CycleKind}
 use Rattle.model_value.specs.declared.action.Action.TheVariants.{Wakeup}
 use Rattle.model_value.specs.declared.outcome.Outcome.TheVariants.{Cancelled}
 use Rattle.model_value.specs.Input.{Input}
 use Rattle.model_value.specs.Value.{Outcome, Value, Exc}
 use Rattle.model_loop.specs.Parts.{Task, Parts}
 use Rattle.model_loop.specs.Futures.{settle, register, next_future}
-use Rattle.model_loop.specs.Tasks.{waiter_of, change_task, spawn, set_waiter, unmark, is_marked, begin_step, finish, uncancel, future_of, lives}
+use Rattle.model_loop.specs.Tasks.{waiter_of, change_task, spawn, set_waiter, clear_must_cancel, must_cancel_of, begin_step, finish, uncancel, future_of, lives}
 use Rattle.model_loop.specs.Cancel.{cancel}
-use Rattle.model_loop.specs.Circles.{circle}
+use Rattle.model_loop.specs.Cycles.{cycle}
 use Rattle.model_loop.specs.Ledger.{Origin, request_where, request_each}
 use Rattle.model_loop.specs.Suspend.{wait_on, cancel_wait, suspend_unless, suspend}
 use Rattle.law_cancel.proofs.Counting.{change_task-kept}
 use Rattle.law_cancel.proofs.Effects.{settle-tasks, mark_asked-tasks, register-tasks}
 use Rattle.law_cancel.proofs.Lookups.{get-set_same, get-set_other, get-push_last, get-push_other}
-use Rattle.law_cancel.proofs.Trace.{Goes, begins, settles, asks, raises, marks, with_row}
+use Rattle.law_cancel.proofs.Trace.{Goes, begins, settles, asks, raises, sets_must_cancel, with_row}
 use Rattle.refine_parts.specs.Waits.{WaitedBefore}
 
 abbrev waits_at : Option Task → Option ℕ
@@ -69,7 +69,7 @@ before_goes {p = p} (settles {q = q} g id future e o k) = before_on p q _ (befor
 before_goes {p = p} (asks {q = q} g id future members asked e o k) =
     before_on p q _ (before_goes g) (before_same q _ (mark_asked-tasks id q))
 before_goes {p = p} (raises {q = q} g id task n e) = before_on p q _ (before_goes g) (before_change id _ q (λ it. refl))
-before_goes {p = p} (marks {q = q} g id) = before_on p q _ (before_goes g) (before_change id _ q (λ it. refl))
+before_goes {p = p} (sets_must_cancel {q = q} g id) = before_on p q _ (before_goes g) (before_change id _ q (λ it. refl))
 
 pub before_cancel : (id : ℕ) (p : Parts) → WaitedBefore p (cancel id p).parts
 before_cancel id p = before_goes (with_row id [] p)
@@ -116,7 +116,7 @@ before_begin task input p =
     go other on (inr x) = absurd (none-some on x.1)
 
 pub before_finish : (task : ℕ) (end : Result Value Exc) (p : Parts) → WaitedBefore p (finish task end p)
-before_finish task (Ok value) p = before_on p (unmark task p) _ (before_change task _ p (λ it. refl)) (before_settle _ _ (unmark task p))
+before_finish task (Ok value) p = before_on p (clear_must_cancel task p) _ (before_change task _ p (λ it. refl)) (before_settle _ _ (clear_must_cancel task p))
 before_finish task (Err fault) p = before_settle _ _ p
 
 -- a wait of a task for a future
@@ -132,18 +132,18 @@ waits_wait task on p = λ other it w. go other it (set_at task (Some on) (regist
     go other it (inl w) = inl ((before_register on (Wakeup task) p).before other it w)
     go other it (inr x) = inr (x.0, sym (same_Some on it x.1))
 
-before_cancel_wait : (marked : Bool) (task on : ℕ) (p : Parts) → WaitedBefore p (cancel_wait marked task on p).parts
+before_cancel_wait : (must_cancel : Bool) (task on : ℕ) (p : Parts) → WaitedBefore p (cancel_wait must_cancel task on p).parts
 before_cancel_wait false task on p = before_itself p
 before_cancel_wait true task on p = at (cancel on p).answer
   where
-    at : (b : Bool) → WaitedBefore p (if b then unmark task (cancel on p).parts else (cancel on p).parts)
+    at : (b : Bool) → WaitedBefore p (if b then clear_must_cancel task (cancel on p).parts else (cancel on p).parts)
     at true = before_on p (cancel on p).parts _ (before_cancel on p) (before_change task _ (cancel on p).parts (λ it. refl))
     at false = before_cancel on p
 
 pub waits_suspend : (task on : ℕ) (p : Parts) → WaitsOn task on p (suspend task on p).parts
-waits_suspend task on p = at (circle p task on)
+waits_suspend task on p = at (cycle p task on)
   where
-    at : (o : Option Circle) → WaitsOn task on p (suspend_unless o task on p).parts
+    at : (o : Option CycleKind) → WaitsOn task on p (suspend_unless o task on p).parts
     at (Some why) = λ other it w. inl w
     at None = λ other it w.
-        waits_wait task on p other it ((before_cancel_wait (is_marked p task) task on (wait_on task on p)).before other it w)
+        waits_wait task on p other it ((before_cancel_wait (must_cancel_of p task) task on (wait_on task on p)).before other it w)

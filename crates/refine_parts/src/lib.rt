@@ -4,8 +4,8 @@
 
 pub mod futures;
 pub mod handles;
+pub mod name_maps;
 pub mod requests;
 pub mod tasks;
-pub mod ties;
 pub mod timers;
 pub mod waits;

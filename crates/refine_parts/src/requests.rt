@@ -5,16 +5,16 @@ ghost use Rattle.model_loop.specs.Cancel.{cancel};
 ghost use Rattle.model_loop.specs.Ledger.{Origin, request, request_each};
 ghost use Rattle.model_loop.specs.Spent.{is_spent};
 ghost use Rattle.aio_task.specs.View.{View, parts};
-ghost use Rattle.aio_task.specs.Keeps.{Ties, Keeps, Kept, Becomes};
+ghost use Rattle.aio_task.specs.Keeps.{NameMap, Keeps, Kept, Becomes};
 ghost use Rattle.refine_parts.specs.Requests.{each_more};
 
 /// A request to cancel a future, whoever makes it; and what it answers.
 pub fn a_request_is_kept()
-    ensures after { (t : Ties) (v w : View) (p : Parts) (by : Origin) (id : ℕ) → Keeps t v p
+    ensures after { (t : NameMap) (v w : View) (p : Parts) (by : Origin) (id : ℕ) → Keeps t v p
         → Becomes v w (cancel id (parts v)).parts → Kept t p w (request by id p).booked.parts }
-    ensures answer { (t : Ties) (v : View) (p : Parts) (by : Origin) (id : ℕ) → Keeps t v p
+    ensures answer { (t : NameMap) (v : View) (p : Parts) (by : Origin) (id : ℕ) → Keeps t v p
         → (cancel id (parts v)).answer ≡ (request by id p).answer }
-    ensures spent { (t : Ties) (v : View) (p : Parts) (id : ℕ) → Keeps t v p
+    ensures spent { (t : NameMap) (v : View) (p : Parts) (id : ℕ) → Keeps t v p
         → is_spent (parts v) id ≡ is_spent p id }
 {}
 

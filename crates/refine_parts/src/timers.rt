@@ -11,18 +11,18 @@ ghost use Rattle.aio_timer.specs.declared.live.TimerId.{TimerId};
 ghost use Rattle.aio_timer.specs.Schedule.{timer, placed_after, without, lives, later_than, due_at, fallen, first_when};
 ghost use Rattle.aio_cancel.specs.Awaitables.{waiting};
 ghost use Rattle.aio_task.specs.View.{View};
-ghost use Rattle.aio_task.specs.Keeps.{Ties, Keeps, Kept, Knows, ByTimer};
+ghost use Rattle.aio_task.specs.Keeps.{NameMap, Keeps, Kept, Knows, ByTimer};
 ghost use Rattle.refine_parts.specs.Waiting.{wait_by, stalls_by};
 
 /// The time is set.
 pub fn the_time_is_kept()
-    ensures { (t : Ties) (v : View) (p : Parts) (now : ℕ) → Keeps t v p
+    ensures { (t : NameMap) (v : View) (p : Parts) (now : ℕ) → Keeps t v p
         → Keeps t (record v { time = now }) (record p { time = now }) }
 {}
 
 /// A timer is made: the machine's tag is known by the id that the call answers.
 pub fn a_new_timer_is_kept()
-    ensures { (t : Ties) (v : View) (p : Parts) (when : ℕ) (action : Action) → Keeps t v p →
+    ensures { (t : NameMap) (v : View) (p : Parts) (when : ℕ) (action : Action) → Keeps t v p →
         let id : TimerId = record { number = v.schedule.next; when = when } in
         (kept : Kept t p
         (record v {
@@ -32,12 +32,12 @@ pub fn a_new_timer_is_kept()
           };
         })
         (later when action p))
-        × Knows kept.ties (later when action p) p.next_tag (ByTimer id) }
+        × Knows kept.name_map (later when action p) p.next_tag (ByTimer id) }
 {}
 
 /// A timer that is cancelled by its id, whether it waits, has fallen due or ran.
 pub fn a_cancelled_timer_is_kept()
-    ensures { (t : Ties) (v : View) (p : Parts) (tag : ℕ) (id : TimerId) → Keeps t v p
+    ensures { (t : NameMap) (v : View) (p : Parts) (tag : ℕ) (id : TimerId) → Keeps t v p
         → Knows t p tag (ByTimer id)
         → Keeps t
         (record v {
@@ -50,7 +50,7 @@ pub fn a_cancelled_timer_is_kept()
 
 /// Timers fall due: by deadline, and equal ones in order of scheduling.
 pub fn due_timers_are_kept()
-    ensures { (t : Ties) (v : View) (p : Parts) (now : ℕ) → Keeps t v p → now ≡ v.time
+    ensures { (t : NameMap) (v : View) (p : Parts) (now : ℕ) → Keeps t v p → now ≡ v.time
         → Keeps t
         (record v {
           schedule = record v.schedule { live = later_than now v.schedule.live };
@@ -61,15 +61,15 @@ pub fn due_timers_are_kept()
 
 /// The earliest deadline. By it a turn knows how long it waits, and whether anything can come.
 pub fn the_earliest_deadline_is_kept()
-    ensures none { (t : Ties) (v : View) (p : Parts) → Keeps t v p
+    ensures none { (t : NameMap) (v : View) (p : Parts) → Keeps t v p
         → first_when v.schedule.live ≡ None → p.timers ≡ [] }
-    ensures some { (t : Ties) (v : View) (p : Parts) (when : ℕ) → Keeps t v p
+    ensures some { (t : NameMap) (v : View) (p : Parts) (when : ℕ) → Keeps t v p
         → first_when v.schedule.live ≡ Some when
         → (first : Timer) × (others : List Timer) × (p.timers ≡ first ∷ others)
         × (when ≡ least first.when others) }
-    ensures wait { (t : Ties) (v : View) (p : Parts) → Keeps t v p
+    ensures wait { (t : NameMap) (v : View) (p : Parts) → Keeps t v p
         → wait_of p ≡ wait_by (is_empty (waiting v.queue)) (first_when v.schedule.live) v.time }
-    ensures stall { (t : Ties) (v : View) (p : Parts) (watched : List Watch) → Keeps t v p
+    ensures stall { (t : NameMap) (v : View) (p : Parts) (watched : List Watch) → Keeps t v p
         → nothing_comes p.pending p.timers watched
         ≡ stalls_by (is_empty (waiting v.queue)) (first_when v.schedule.live) watched }
 {}

@@ -11,7 +11,7 @@ ghost use Rattle.model_loop.specs.Suspend.{suspend};
 ghost use Rattle.model_loop.specs.Tasks.{spawn, begin_step, finish, uncancel, waiter_of};
 ghost use Rattle.refine_parts.specs.Waits.{WaitedBefore};
 
-/// No task waits for anything new, so who may let go of a future may do so later.
+/// No task waits for anything new, so who may release a future may do so later.
 pub fn nothing_new_is_waited_for()
     ensures settle { (id : ℕ) (outcome : Outcome) (p : Parts)
         → WaitedBefore p (settle id outcome p) }

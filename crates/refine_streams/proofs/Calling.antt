@@ -17,8 +17,8 @@ use Rattle.aio_exchange.specs.Ways.{Leads, Move, changed_on, had_on}
 use Rattle.aio_task.specs.View.{View}
 use Rattle.aio_change.specs.Seen.{seen_changed}
 use Rattle.aio_extra.specs.Added.{Added}
-use Rattle.aio_body.specs.Asking.{Comes, GoesOn, Piece, RestFits, StopsWith, before}
-use Rattle.aio_body.specs.Stands.{Setting}
+use Rattle.aio_body.specs.Asking.{Comes, EventsGrow, Piece, RestFits, StopsWith, before}
+use Rattle.aio_body.specs.Stands.{Context}
 use Rattle.aio_body.proofs.Asking.{HasCome}
 use Rattle.refine_streams.proofs.Doing.{does_ends}
 use Rattle.refine_streams.proofs.Telling.{all_once, met_not_starved, met_once}
@@ -31,7 +31,7 @@ use Rattle.refine_streams.proofs.Stopping.{stops_with}
 
 module _ {X W A M R : Type 0} {a : Added X} (o : Outside W) (p : Piece a (State a.Kept) M R) (call : Call a.Kept A M) (Stood : Streams → Type 0)
     (number : ℕ) (from to : Reach View W) (first : Streams) (stood : Stood first)
-    (begins : (c : Setting a) (s : State a.Kept) → p.from c s → Begins p call Stood number from.port.events c s) where
+    (begins : (c : Context a) (s : State a.Kept) → p.from c s → Begins p call Stood number from.port.events c s) where
   abbrev Went : Streams → Result A Stop → Type 0
   Went s result = Follows o seen_changed (call.tree number s) from to result
 
@@ -50,7 +50,7 @@ module _ {X W A M R : Type 0} {a : Added X} (o : Outside W) (p : Piece a (State 
       at Starved left leads exchanged parts ends = absurd ends
 
   module _ (So : Streams → A → Type 0) (went : (s : Streams) → Stood s → (it : A) × (Went s (Ok it) × So s it)) where
-    passed : (had : List Exchange) → Exchanged o had All from.port to.port → (c : Setting a) (s : State a.Kept) → p.from (before had c) s
+    passed : (had : List Exchange) → Exchanged o had All from.port to.port → (c : Context a) (s : State a.Kept) → p.from (before had c) s
         → Passed p call So number from to c s
     passed had x c s may = record {
       way = f.way;
@@ -104,12 +104,12 @@ module _ {X W A M R : Type 0} {a : Added X} (o : Outside W) (p : Piece a (State 
       (alike : (s t : Streams) → Stood s → Stood t → AreAlike (call.tree number s) (call.tree number t)) (why : Stop)
       (went : (s : Streams) → Stood s → Went s (Err why)) where
     -- where memory was refused, the machine asks what was asked by then
-    begun : (way : List Move) (rest : Doing A) → Leads (call.tree number first) way rest → AllFit (had_on way) → (c : Setting a) (s : State a.Kept)
+    begun : (way : List Move) (rest : Doing A) → Leads (call.tree number first) way rest → AllFit (had_on way) → (c : Context a) (s : State a.Kept)
         → p.from (before (had_on way) c) s → p.begins (c.past ++ (noted_by (had_on way) from.port.events).events) (p.does s)
     begun way rest leads fit c s may =
         subst (p.begins (c.past ++ (noted_by (had_on way) from.port.events).events)) (sym b.does)
         (leaves.begins (c.past ++ (noted_by (had_on way) from.port.events).events) (does p.ends (call.tree number s.streams) call.next s)
-        (subst (λ (events : List Event). GoesOn events (leaves.left (does p.ends (call.tree number s.streams) call.next s)).events) told
+        (subst (λ (events : List Event). EventsGrow events (leaves.left (does p.ends (call.tree number s.streams) call.next s)).events) told
         (way_adds p.ends leaves.left leaves.halts call.next adds (call.tree number s.streams) on.0 way s c.answers on.1 fit b.rest)))
       where
         b : Begins p call Stood number from.port.events (before (had_on way) c) s
@@ -122,7 +122,7 @@ module _ {X W A M R : Type 0} {a : Added X} (o : Outside W) (p : Piece a (State 
         told = (noted_had (had_on way) c.past from.port.events s.events b.noted).told
 
     stopped : (had : List Exchange) (asked : AnyCall) (said : Reply) → Exchanged o had (Met asked said) from.port to.port
-        → StopsAs (Met asked said) to.port.events.answers why → (c : Setting a) (s : State a.Kept) → p.from (before had c) s
+        → StopsAs (Met asked said) to.port.events.answers why → (c : Context a) (s : State a.Kept) → p.from (before had c) s
         → RestFits (Met asked said) c.answers → StopsWith p.ends why c.past to.port.events.events (p.does s)
     stopped had asked said x stops c s may fits =
         subst (StopsWith p.ends why c.past to.port.events.events) (sym b.does) (at f.last f.left f.leads f.exchanged f.ends)

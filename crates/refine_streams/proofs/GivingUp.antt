@@ -8,19 +8,19 @@ use Rattle.model_machine.specs.State.{State}
 use Rattle.law_cases.proofs.Asking.{gives_up, gives_up_own}
 use Rattle.aio_transports.specs.Standing.{Becomes}
 use Rattle.aio_extra.specs.Added.{Added}
-use Rattle.aio_body.specs.declared.body.Body.{Body}
+use Rattle.aio_body.specs.declared.run_state.RunState.{RunState}
 use Rattle.aio_body.specs.Asked.{IsInStep}
-use Rattle.aio_body.specs.Stands.{Setting, Stands}
+use Rattle.aio_body.specs.Stands.{Context, Stands}
 use Rattle.refine_streams.specs.Went.{MayCall}
 use Rattle.refine_streams.proofs.Leaving.{fewer_kept}
 use Rattle.refine_streams.proofs.Standing.{streams_change}
 
-pub gives_up_so : {X : Type 0} {a : Added X} (out : Option ℕ) (c : Setting a) (old new : Body X) (s : State a.Kept) (on : ℕ) (from : StreamReader)
+pub gives_up_so : {X : Type 0} {a : Added X} (out : Option ℕ) (c : Context a) (old new : RunState X) (s : State a.Kept) (on : ℕ) (from : StreamReader)
     → MayCall out c old s → Becomes (give_up_read on from) old.transports new.transports → new ≡ record old { transports = new.transports }
     → MayCall out c new (waits_no_more on from s)
-gives_up_so {X} {a} out c old new s on from h becomes beside = record {
+gives_up_so {X} {a} out c old new s on from h becomes frame = record {
   stands =
-      subst (λ (b : Body X). Stands out c b (waits_no_more on from s)) (sym beside)
+      subst (λ (b : RunState X). Stands out c b (waits_no_more on from s)) (sym frame)
       (streams_change out c old new.transports s (give_up_read on from s.streams) h.stands (becomes s.streams h.stands.transports).0
       (λ sleeper id own.
       fewer_kept s.loop.parts (next_future s.loop.parts) s.streams (give_up_read on from s.streams)
@@ -30,10 +30,10 @@ gives_up_so {X} {a} out c old new s on from h becomes beside = record {
 }
 
 -- in a task's step, which goes on
-pub gives_up_in_step : {X : Type 0} {a : Added X} (task : ℕ) (c : Setting a) (old new : Body X) (s t : State a.Kept) → IsInStep task c old s
+pub gives_up_in_step : {X : Type 0} {a : Added X} (task : ℕ) (c : Context a) (old new : RunState X) (s t : State a.Kept) → IsInStep task c old s
     → new ≡ record old { transports = new.transports } → MayCall (Some task) c new t → IsInStep task c new t
-gives_up_in_step {X} task c old new s t h beside may = record {
+gives_up_in_step {X} task c old new s t h frame may = record {
   stands = may.stands;
-  called = ap (λ (b : Body X). b.parts.called) beside ∙ h.called;
-  running = ap (λ (b : Body X). b.parts.running) beside ∙ h.running;
+  called = ap (λ (b : RunState X). b.parts.called) frame ∙ h.called;
+  running = ap (λ (b : RunState X). b.parts.running) frame ∙ h.running;
 }

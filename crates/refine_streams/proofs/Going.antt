@@ -26,11 +26,11 @@ use Rattle.law_cases.specs.Trees.{IsMade, Keeping, KeepsStreams}
 use Rattle.aio_task.specs.View.{View}
 use Rattle.aio_change.specs.Seen.{seen_changed}
 use Rattle.aio_transports.specs.Kept.{Kept as Transports}
-use Rattle.aio_transports.specs.Standing.{StandsFor as AreTransports}
+use Rattle.aio_transports.specs.Standing.{TransportsStandFor as AreTransports}
 use Rattle.aio_extra.specs.Added.{Added, named_in}
-use Rattle.aio_body.specs.declared.body.Body.{Body}
+use Rattle.aio_body.specs.declared.run_state.RunState.{RunState}
 use Rattle.aio_body.specs.Asking.{Comes, Piece, before}
-use Rattle.aio_body.specs.Stands.{IsOwnSleep, Setting, Stands}
+use Rattle.aio_body.specs.Stands.{IsOwnSleep, Context, Stands}
 use Rattle.aio_body.proofs.Asking.{HasCome}
 use Rattle.refine_streams.specs.Along.{along}
 use Rattle.refine_streams.specs.Beside.{StaysBeside}
@@ -63,10 +63,10 @@ transports_alike {A} k tree forgets s t stands also =
         ∙ ap (λ most. record t { most = most }) (stands.streams.most ∙ sym also.streams.most)
 
 -- `ends` are the streams that a tree ends with, and `Made` what else is known there of what was made.
-module _ {X W A M R : Type 0} {a : Added X} (p : Piece a (State a.Kept) M R) (call : Call a.Kept A M) (out : Option ℕ) (old new : Body X) (wire after : W)
+module _ {X W A M R : Type 0} {a : Added X} (p : Piece a (State a.Kept) M R) (call : Call a.Kept A M) (out : Option ℕ) (old new : RunState X) (wire after : W)
     (ends : A → Streams) (Made : (first next : ℕ) → A → Type 0)
-    (may : (c : Setting a) (s : State a.Kept) → p.from c s → MayCall out c old s)
-    (means : (c : Setting a) (s : State a.Kept) → p.from c s → p.does s ≡ does p.ends (call.tree (next_future s.loop.parts) s.streams) call.next s)
+    (may : (c : Context a) (s : State a.Kept) → p.from c s → MayCall out c old s)
+    (means : (c : Context a) (s : State a.Kept) → p.from c s → p.does s ≡ does p.ends (call.tree (next_future s.loop.parts) s.streams) call.next s)
     (has : HasStreams old.transports) where
   abbrev number : ℕ
   number = length old.parts.futures
@@ -77,10 +77,10 @@ module _ {X W A M R : Type 0} {a : Added X} (p : Piece a (State a.Kept) M R) (ca
   abbrev to_ : Reach View W
   to_ = reach new.parts after new.events
 
-  begins : (c : Setting a) (s : State a.Kept) → p.from c s → Begins p call (AreTransports old.transports) number old.events c s
+  begins : (c : Context a) (s : State a.Kept) → p.from c s → Begins p call (AreTransports old.transports) number old.events c s
   begins c s from =
       let h = (may c s from).stands in
-      let made = next_kept h.ties old.parts s.loop.parts h.keeps in
+      let made = next_kept h.name_map old.parts s.loop.parts h.keeps in
       record {
         noted = record { told = h.events; count = h.count };
         rest = h.rest;
@@ -104,25 +104,25 @@ module _ {X W A M R : Type 0} {a : Added X} (p : Piece a (State a.Kept) M R) (ca
       → Keeping
       (λ next it. KeepsStreams (is_plain s.loop.parts) (next_future s.loop.parts) s.streams next (ends it) × Made (next_future s.loop.parts) next it)
       (is_plain s.loop.parts) (next_future s.loop.parts) (call.tree (next_future s.loop.parts) s.streams))
-      (beside : new ≡ record old { parts = new.parts; events = new.events; transports = new.transports })
+      (frame : new ≡ record old { parts = new.parts; events = new.events; transports = new.transports })
       (next : State a.Kept → M) (Known : (first next : ℕ) → Type 0)
       (goes_on : (it : A) (t : State a.Kept) → So it → call.next it t ≡ next (with_streams (ends it) t))
       (known : (first next : ℕ) (it : A) → So it → Made first next it → Known first next) where
     abbrev Held : Streams → A → Type 0
     Held s it = AreTransports new.transports (ends it) × So it
 
-    gone : (c : Setting a) (s : State a.Kept) (it : Passed p call Held number from_ to_ c s)
+    gone : (c : Context a) (s : State a.Kept) (it : Passed p call Held number from_ to_ c s)
         → HasGone out Known (p.does s) next c old new s
     gone c s it = record {
       now = with_streams (ends it.it) t;
       does = it.does ∙ goes_on it.it t it.so.1;
-      stands = stands_passed out c old new s it.way (ends it.it) h.stands h.owns ended it.so.0 it.parts it.events beside;
-      called = ap (λ (v : View). v.called) beyond.beside;
-      running = ap (λ (v : View). v.running) beyond.beside;
+      stands = stands_passed out c old new s it.way (ends it.it) h.stands h.owns ended it.so.0 it.parts it.events frame;
+      called = ap (λ (v : View). v.called) beyond.frame;
+      running = ap (λ (v : View). v.running) beyond.frame;
       made = known (next_future s.loop.parts) (next_future t.loop.parts) it.it it.so.1 came.1.1;
       pending = pends;
       waiting = λ task on v was it_.
-          stands_waiting out c old new s it.way (ends it.it) h.stands h.owns ended it.so.0 it.parts it.events beside task on v was.0 it_;
+          stands_waiting out c old new s it.way (ends it.it) h.stands h.owns ended it.so.0 it.parts it.events frame task on v was.0 it_;
       alone = alone;
     }
       where
@@ -137,7 +137,7 @@ module _ {X W A M R : Type 0} {a : Added X} (p : Piece a (State a.Kept) M R) (ca
 
         leads : Leads (call.tree (next_future s.loop.parts) s.streams) it.way (Ends it.it)
         leads =
-            subst (λ n. Leads (call.tree n s.streams) it.way (Ends it.it)) (next_kept h.stands.ties old.parts s.loop.parts h.stands.keeps) it.leads
+            subst (λ n. Leads (call.tree n s.streams) it.way (Ends it.it)) (next_kept h.stands.name_map old.parts s.loop.parts h.stands.keeps) it.leads
 
         came : IsTreeEnd s t
             × (KeepsStreams (is_plain s.loop.parts) (next_future s.loop.parts) s.streams (next_future t.loop.parts) (ends it.it)
@@ -151,7 +151,7 @@ module _ {X W A M R : Type 0} {a : Added X} (p : Piece a (State a.Kept) M R) (ca
         ended = end_keeps s t (ends it.it) came.0 came.1.0
 
         on : Stands out c new (with_streams (ends it.it) t)
-        on = stands_passed out c old new s it.way (ends it.it) h.stands h.owns ended it.so.0 it.parts it.events beside
+        on = stands_passed out c old new s it.way (ends it.it) h.stands h.owns ended it.so.0 it.parts it.events frame
 
         alone : (task on_ : ℕ) → IsMade (next_future s.loop.parts) (next_future t.loop.parts) on_ → times_asked on_ (ends it.it) ≡ 0 → AreMade s
             → IsOwnSleep (suspend task on_ t.loop.parts).parts (named_in a (waits task on_ (with_streams (ends it.it) t))) (Some task) on_
@@ -174,7 +174,7 @@ module _ {X W A M R : Type 0} {a : Added X} (p : Piece a (State a.Kept) M R) (ca
                 past ((plain_within s.loop.parts on_
                 (were.scripts found.0 on_ (ap (λ (xs : List ℕ). slice_get xs found.0) (sym came.0.futures) ∙ found.1))).1)
             unnamed (inr (inl mine)) =
-                past (a.made h.stands.ties s.loop.parts old.extra s.extra h.stands.extra on_ (subst (λ x. a.owns x on_) came.0.extra mine))
+                past (a.made h.stands.name_map s.loop.parts old.extra s.extra h.stands.extra on_ (subst (λ x. a.owns x on_) came.0.extra mine))
             unnamed (inr (inr asked)) = omega (arith, none, asked)
 
             at : (other : ℕ) → (waiter_of s.loop.parts other ≡ Some on_) ⊎ IsNew (Some (task, on_)) other on_ → Some task ≡ Some other
@@ -183,7 +183,7 @@ module _ {X W A M R : Type 0} {a : Added X} (p : Piece a (State a.Kept) M R) (ca
 
         pends : (on_ : ℕ) → IsMade (next_future s.loop.parts) (next_future t.loop.parts) on_
             → is_pending_at (slice_get new.parts.futures on_) ≡ true
-        pends on_ was = pending_kept on.ties new.parts t.loop.parts on.keeps on_ ∙ (came.0.made on_ was.0 was.1).1
+        pends on_ was = pending_kept on.name_map new.parts t.loop.parts on.keeps on_ ∙ (came.0.made on_ was.0 was.1).1
 
     -- the machine goes on with the result
     pub call_passes : (o : Outside W) → ((s : Streams) → AreTransports old.transports s
@@ -202,7 +202,7 @@ module _ {X W A M R : Type 0} {a : Added X} (p : Piece a (State a.Kept) M R) (ca
     -- the same of a call that asks nothing
     pub call_tells : ((s : Streams) → AreTransports old.transports s
         → (it : A) × (Tells seen_changed (call.tree number s) old.parts new.parts it × Held s it))
-        → new.events ≡ old.events → (c : Setting a) (s : State a.Kept) → p.from c s → HasGone out Known (p.does s) next c old new s
+        → new.events ≡ old.events → (c : Context a) (s : State a.Kept) → p.from c s → HasGone out Known (p.does s) next c old new s
     call_tells told events c s from = gone c s (record {
       way = t.way;
       it = one.0;

@@ -8,7 +8,7 @@ use Rattle.model_stream.specs.Streams.{Opened, OpenedServer, OpenedConn, OpenedC
 use Rattle.law_over.specs.Gone.{holds_at, is_closed, is_gone, is_over, is_over_child}
 use Rattle.aio_stream.specs.Code.{coded_opened}
 use Rattle.aio_transports.specs.Kept.{Kept}
-use Rattle.aio_transports.specs.Standing.{not_gone, StandsFor}
+use Rattle.aio_transports.specs.Standing.{not_gone, TransportsStandFor}
 use Rattle.refine_streams.specs.Streams.{HasStreams, streams_of}
 
 same_number : (a b : ℕ) → IsProp (a ≡ b)
@@ -21,7 +21,7 @@ module _ (k : Kept) where
   abbrev so : Streams
   so = streams_of k
 
-  module _ (s : Streams) (h : StandsFor k s) where
+  module _ (s : Streams) (h : TransportsStandFor k s) where
     gone_alike : (one : Opened) → is_gone one s ≡ is_gone one so
     gone_alike (OpenedServer id) = ap (λ xs. holds_at is_closed (slice_get xs id)) h.streams.servers
     gone_alike (OpenedConn id) = ap (λ xs. holds_at is_over (slice_get xs id)) h.streams.connections
@@ -38,7 +38,7 @@ module _ (k : Kept) where
         sym (left_alike k.remaining.those) ∙ h.remaining.left ∙ left_alike (take k.remaining.seen s.opened)
         ∙ ap (λ xs. not_gone so (take k.remaining.seen xs)) h.streams.opened
 
-  pub streams_stand : ∥ ((s : Streams) × StandsFor k s) ∥₁ → HasStreams k
+  pub streams_stand : ∥ ((s : Streams) × TransportsStandFor k s) ∥₁ → HasStreams k
   streams_stand some =
       record {
         streams = record { servers = refl; connections = refl; opened = refl; most = refl };

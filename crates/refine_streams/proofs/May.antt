@@ -5,18 +5,18 @@ use Rattle.model_value.specs.Request.{Request}
 use Rattle.model_wire.specs.Journal.{Entry}
 use Rattle.model_loop.specs.Owning.{OwnsFutures}
 use Rattle.model_machine.specs.Sound.{AreStreamsFutures}
-use Rattle.model_machine.specs.State as standing
+use Rattle.model_machine.specs.State as resume_point
 use Rattle.model_machine.specs.State.{State}
 use Rattle.aio_extra.specs.Added.{Added}
-use Rattle.aio_body.specs.declared.body.Body.{Body}
+use Rattle.aio_body.specs.declared.run_state.RunState.{RunState}
 use Rattle.aio_body.specs.Asked.{IsAskingFor, IsDeciding, IsGoing}
-use Rattle.aio_body.specs.Stands.{IsBetween, Setting}
+use Rattle.aio_body.specs.Stands.{IsBetween, Context}
 use Rattle.aio_body.specs.Taken.{IsTaken}
 use Rattle.aio_body.specs.Answers.{with_answers, with_rest}
 use Rattle.aio_body.proofs.Answering.{stands_again}
 use Rattle.refine_streams.specs.Went.{MayCall}
 
-module _ {X : Type 0} {a : Added X} (c : Setting a) (body : Body X) (s : State a.Kept) where
+module _ {X : Type 0} {a : Added X} (c : Context a) (body : RunState X) (s : State a.Kept) where
   pub may_going : (task : ℕ) → IsGoing task c body s → MayCall (Some task) c body s
   may_going task h = record {
     stands = h.in_step.stands;
@@ -27,7 +27,7 @@ module _ {X : Type 0} {a : Added X} (c : Setting a) (body : Body X) (s : State a
   pub may_asking : (task : ℕ) (request : Request) → IsAskingFor task request c body s → MayCall (Some task) c body s
   may_asking task request h = may_going task h.going
 
-  pub may_deciding : (task : ℕ) (stood : standing.Standing) → IsDeciding task stood c body s → MayCall (Some task) c body s
+  pub may_deciding : (task : ℕ) (stood : resume_point.ResumePoint) → IsDeciding task stood c body s → MayCall (Some task) c body s
   may_deciding task stood h = record {
     stands = h.in_step.stands;
     streams = h.asked.others.streams;

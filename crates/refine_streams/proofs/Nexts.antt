@@ -24,19 +24,19 @@ use Rattle.law_reach.specs.Reaches.{left_by}
 use Rattle.aio_body.proofs.Growing.{replies_begin}
 use Rattle.aio_extra.specs.Added.{Added}
 use Rattle.aio_body.specs.Asking.{ReplyBegins, WentBegins}
-use Rattle.aio_body.specs.Stands.{Setting}
+use Rattle.aio_body.specs.Stands.{Context}
 use Rattle.refine_streams.specs.Alike.{AddsEvents, LeavesState}
 
 -- ---- what a piece leaves
 -- a request's, as it is served or goes on
-abbrev pub reply_leaves : {X At R : Type 0} {a : Added X} (from : Setting a → At → Type 0) (does : At → plain.RequestReply a.Kept)
-    (says : Setting a → R → plain.RequestReply a.Kept → Type 0)
+abbrev pub reply_leaves : {X At R : Type 0} {a : Added X} (from : Context a → At → Type 0) (does : At → plain.RequestReply a.Kept)
+    (says : Context a → R → plain.RequestReply a.Kept → Type 0)
     → LeavesState {a = a} (record { from = from; does = does; ends = plain.Halts; says = says; begins = ReplyBegins })
 reply_leaves from does says = record { left = left_by; halts = λ how last. refl; begins = replies_begin }
 
 -- a callback's
-abbrev pub went_leaves : {X At R : Type 0} {a : Added X} (from : Setting a → At → Type 0) (does : At → Went a.Kept)
-    (says : Setting a → R → Went a.Kept → Type 0)
+abbrev pub went_leaves : {X At R : Type 0} {a : Added X} (from : Context a → At → Type 0) (does : At → Went a.Kept)
+    (says : Context a → R → Went a.Kept → Type 0)
     → LeavesState {a = a} (record { from = from; does = does; ends = Stops; says = says; begins = WentBegins })
 went_leaves from does says = record { left = state_of; halts = λ how last. refl; begins = λ events it goes. goes }
 

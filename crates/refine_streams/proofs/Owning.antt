@@ -9,7 +9,7 @@ use Rattle.model_stream.specs.Connections.{Connection}
 use Rattle.model_stream.specs.Kept.{AllAre, ChildKeeps, ConnectionKeeps, OneIs, SenderKeeps, StreamsKeep}
 use Rattle.model_stream.specs.Senders.{Sender}
 use Rattle.model_stream.specs.Streams.{Streams}
-use Rattle.aio_task.specs.Keeps.{Keeps, Ties}
+use Rattle.aio_task.specs.Keeps.{Keeps, NameMap}
 use Rattle.aio_task.specs.View.{View}
 use Rattle.aio_change.specs.Owned.{AreOwn, IsOwn, IsOwnIfAny}
 use Rattle.aio_sender.specs.Owned.{OwnsSender}
@@ -17,7 +17,7 @@ use Rattle.aio_connection.specs.Owned.{OwnsConnection}
 use Rattle.aio_child.specs.Owned.{OwnsChild}
 use Rattle.aio_transports.specs.Kept.{Kept as Transports}
 use Rattle.aio_transports.specs.Owned.{OwnsTransports}
-use Rattle.aio_transports.specs.Standing.{StandsFor as AreTransports}
+use Rattle.aio_transports.specs.Standing.{TransportsStandFor as AreTransports}
 use Rattle.refine_streams.proofs.Keeping.{plain_own}
 
 -- what is so of each that is found is so of all
@@ -25,7 +25,7 @@ each_found : {A : Type 0} (P : A → Type 0) (xs : List A) → ((id : ℕ) (x : 
 each_found P [] found = tt
 each_found P (x ∷ xs) found = (found zero x refl, each_found P xs (λ id y e. found (suc id) y e))
 
-module _ (t : Ties) (v : View) (p : Parts) (k : Keeps t v p) where
+module _ (t : NameMap) (v : View) (p : Parts) (k : Keeps t v p) where
   abbrev IsPlain : ℕ → Type 0
   IsPlain future = is_plain p future ≡ true
 

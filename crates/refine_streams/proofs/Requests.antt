@@ -21,9 +21,9 @@ use Rattle.aio_change.specs.Seen.{seen_changed}
 use Rattle.aio_transports.specs.Kept.{Kept as Transports}
 use Rattle.aio_transports.specs.Standing.{Answers, Comes as Changes, Told, ToldWith}
 use Rattle.aio_extra.specs.Added.{Added}
-use Rattle.aio_body.specs.declared.body.Body.{Body}
+use Rattle.aio_body.specs.declared.run_state.RunState.{RunState}
 use Rattle.aio_body.specs.Asking.{Comes, Piece}
-use Rattle.aio_body.specs.Stands.{Setting}
+use Rattle.aio_body.specs.Stands.{Context}
 use Rattle.aio_body.proofs.Asking.{HasCome}
 use Rattle.refine_streams.specs.Alike.{AddsEvents, ForgetsWritten, LeavesState}
 use Rattle.refine_streams.specs.Passed.{Call}
@@ -52,12 +52,12 @@ module _ {W : Type 0} (o : Outside W) (old new : Transports) (from to : View) (x
         (tells_follow seen_changed o (tree s) (record { parts = from; port = x }) (record { parts = to; port = y }) it.0 it.1.0 same, it.1.1),
       )
 
-module _ {X W M Q : Type 0} {a : Added X} (o : Outside W) (p : Piece a (State a.Kept) M Q) (out : Option ℕ) (old new : Body X) (wire after : W)
-    (may : (c : Setting a) (s : State a.Kept) → p.from c s → MayCall out c old s)
+module _ {X W M Q : Type 0} {a : Added X} (o : Outside W) (p : Piece a (State a.Kept) M Q) (out : Option ℕ) (old new : RunState X) (wire after : W)
+    (may : (c : Context a) (s : State a.Kept) → p.from c s → MayCall out c old s)
     (has : HasStreams old.transports) where
   -- ---- with an answer: `Also` is what is known of it and of the futures that were made
   module _ {R : Type 0} (tree : ℕ → Streams → Doing (Streams × R)) (next : R → State a.Kept → M)
-      (means : (c : Setting a) (s : State a.Kept) → p.from c s
+      (means : (c : Context a) (s : State a.Kept) → p.from c s
       → p.does s ≡ does p.ends (tree (next_future s.loop.parts) s.streams) (λ done now. next done.1 (with_streams done.0 now)) s) where
     abbrev Says : Result R Stop → Type 0
     Says result =
@@ -80,16 +80,16 @@ module _ {X W M Q : Type 0} {a : Added X} (o : Outside W) (p : Piece a (State a.
         → new ≡ record old { parts = new.parts; events = new.events; transports = new.transports }
         → (had : List Exchange) × HasCome o p.from had (ported wire old.events) (ported after new.events)
         (λ c s. HasGone out (λ first now. Waits (IsMade first now) said) (p.does s) (next said) c old new s)
-    do_goes Waits said says keeping beside =
+    do_goes Waits said says keeping frame =
         call_passes p call out old new wire after (λ done. done.0) (λ first now done. Waits (IsMade first now) done.1) may means has
-        (λ done. done.1 ≡ said) keeping beside (next said) (λ first now. Waits (IsMade first now) said)
+        (λ done. done.1 ≡ said) keeping frame (next said) (λ first now. Waits (IsMade first now) said)
         (λ done t so. ap (λ r. next r (with_streams done.0 t)) so)
         (λ first now done so waits. subst (Waits (IsMade first now)) so waits)
         o (λ s stood. let it = says s stood in ((it.0, said), (it.1.0, (it.1.1.0, refl))))
 
   -- ---- with none: `next` is what the machine does then
   module _ (tree : ℕ → Streams → Doing Streams) (next : State a.Kept → M)
-      (means : (c : Setting a) (s : State a.Kept) → p.from c s
+      (means : (c : Context a) (s : State a.Kept) → p.from c s
       → p.does s ≡ does p.ends (tree (next_future s.loop.parts) s.streams) (λ streams now. next (with_streams streams now)) s) where
     abbrev Leaves : {R : Type 0} → Result R Stop → Type 0
     Leaves result =
@@ -112,46 +112,46 @@ module _ {X W M Q : Type 0} {a : Added X} (o : Outside W) (p : Piece a (State a.
         → new ≡ record old { parts = new.parts; events = new.events; transports = new.transports }
         → (had : List Exchange) × HasCome o p.from had (ported wire old.events) (ported after new.events)
         (λ c s. HasGone out (λ first now. Unit {0}) (p.does s) next c old new s)
-    change_goes said says keeping beside =
+    change_goes said says keeping frame =
         call_passes p changing out old new wire after (λ streams. streams) (λ first now streams. Unit {0}) may means has
         (λ streams. Unit {0})
         (λ s kept.
         keeping_more (is_plain s.loop.parts) (KeepsStreams (is_plain s.loop.parts) (next_future s.loop.parts) s.streams)
         (λ now streams. KeepsStreams (is_plain s.loop.parts) (next_future s.loop.parts) s.streams now streams × Unit {0})
         (λ now streams keeps. (keeps, tt)) (next_future s.loop.parts) (tree (next_future s.loop.parts) s.streams) (keeping s kept))
-        beside next (λ first now. Unit {0}) (λ streams t so. refl) (λ first now streams so made. tt)
+        frame next (λ first now. Unit {0}) (λ streams t so. refl) (λ first now streams so made. tt)
         o (λ s stood. let it = says s stood in (it.0, (it.1.0, (it.1.1.0, tt))))
 
 -- ---- a call that asks nothing, where the clause is of none that may
-module _ {X M Q : Type 0} {a : Added X} (p : Piece a (State a.Kept) M Q) (out : Option ℕ) (old new : Body X)
-    (may : (c : Setting a) (s : State a.Kept) → p.from c s → MayCall out c old s)
+module _ {X M Q : Type 0} {a : Added X} (p : Piece a (State a.Kept) M Q) (out : Option ℕ) (old new : RunState X)
+    (may : (c : Context a) (s : State a.Kept) → p.from c s → MayCall out c old s)
     (has : HasStreams old.transports) (events : new.events ≡ old.events)
-    (beside : new ≡ record old { parts = new.parts; events = new.events; transports = new.transports }) where
+    (frame : new ≡ record old { parts = new.parts; events = new.events; transports = new.transports }) where
   pub do_tells : {R : Type 0} (tree : ℕ → Streams → Doing (Streams × R)) (next : R → State a.Kept → M)
-      → ((c : Setting a) (s : State a.Kept) → p.from c s
+      → ((c : Context a) (s : State a.Kept) → p.from c s
       → p.does s ≡ does p.ends (tree (next_future s.loop.parts) s.streams) (λ done now. next done.1 (with_streams done.0 now)) s)
       → (Waits : (ℕ → Type 0) → R → Type 0) (said : R)
       → ToldWith (tree (length old.parts.futures)) old.transports new.transports old.parts new.parts said
       → ((s : State a.Kept) → AreStreamsFutures s
       → Keeping (AnswersStreams Waits (is_plain s.loop.parts) (next_future s.loop.parts) s.streams) (is_plain s.loop.parts) (next_future s.loop.parts)
       (tree (next_future s.loop.parts) s.streams))
-      → (c : Setting a) (s : State a.Kept) → p.from c s
+      → (c : Context a) (s : State a.Kept) → p.from c s
       → HasGone out (λ first now. Waits (IsMade first now) said) (p.does s) (next said) c old new s
   do_tells {R} tree next means Waits said told keeping =
       call_tells {W = Unit {0}} p (record { tree = tree; next = λ done now. next done.1 (with_streams done.0 now) }) out old new tt tt (λ done. done.0)
-      (λ first now done. Waits (IsMade first now) done.1) may means has (λ done. done.1 ≡ said) keeping beside (next said)
+      (λ first now done. Waits (IsMade first now) done.1) may means has (λ done. done.1 ≡ said) keeping frame (next said)
       (λ first now. Waits (IsMade first now) said) (λ done t so. ap (λ r. next r (with_streams done.0 t)) so)
       (λ first now done so waits. subst (Waits (IsMade first now)) so waits)
       (λ s stood. let it = told s stood in ((it.0, said), (it.1.0, (it.1.1.0, refl)))) events
 
   pub change_tells : (tree : ℕ → Streams → Doing Streams) (next : State a.Kept → M)
-      → ((c : Setting a) (s : State a.Kept) → p.from c s
+      → ((c : Context a) (s : State a.Kept) → p.from c s
       → p.does s ≡ does p.ends (tree (next_future s.loop.parts) s.streams) (λ streams now. next (with_streams streams now)) s)
       → Told (tree (length old.parts.futures)) old.transports new.transports old.parts new.parts
       → ((s : State a.Kept) → AreStreamsFutures s
       → Keeping (KeepsStreams (is_plain s.loop.parts) (next_future s.loop.parts) s.streams) (is_plain s.loop.parts) (next_future s.loop.parts)
       (tree (next_future s.loop.parts) s.streams))
-      → (c : Setting a) (s : State a.Kept) → p.from c s → HasGone out (λ first now. Unit {0}) (p.does s) next c old new s
+      → (c : Context a) (s : State a.Kept) → p.from c s → HasGone out (λ first now. Unit {0}) (p.does s) next c old new s
   change_tells tree next means told keeping =
       call_tells {W = Unit {0}} p (record { tree = tree; next = λ streams now. next (with_streams streams now) }) out old new tt tt (λ streams. streams)
       (λ first now streams. Unit {0}) may means has (λ streams. Unit {0})
@@ -159,7 +159,7 @@ module _ {X M Q : Type 0} {a : Added X} (p : Piece a (State a.Kept) M Q) (out : 
       keeping_more (is_plain s.loop.parts) (KeepsStreams (is_plain s.loop.parts) (next_future s.loop.parts) s.streams)
       (λ now streams. KeepsStreams (is_plain s.loop.parts) (next_future s.loop.parts) s.streams now streams × Unit {0})
       (λ now streams keeps. (keeps, tt)) (next_future s.loop.parts) (tree (next_future s.loop.parts) s.streams) (keeping s kept))
-      beside next (λ first now. Unit {0}) (λ streams t so. refl) (λ first now streams so made. tt)
+      frame next (λ first now. Unit {0}) (λ streams t so. refl) (λ first now streams so made. tt)
       (λ s stood. let it = told s stood in (it.0, (it.1.0, (it.1.1.0, tt)))) events
 
 -- ---- a connect

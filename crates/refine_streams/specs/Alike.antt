@@ -7,7 +7,7 @@ use Rattle.model_stream.specs.Doing.{Doing, Ends, Changes, Asks}
 use Rattle.model_stream.specs.Streams.{Streams, Written}
 use Rattle.model_machine.specs.State.{State}
 use Rattle.aio_extra.specs.Added.{Added}
-use Rattle.aio_body.specs.Asking.{GoesOn, Piece}
+use Rattle.aio_body.specs.Asking.{EventsGrow, Piece}
 
 -- They make the same changes and ask the same, in the same order, whatever is answered. What they end with may differ.
 abbrev pub AreAlike : {A : Type 0} → Doing A → Doing A → Type 0
@@ -24,8 +24,8 @@ ForgetsWritten tree = (s : Streams) (written : List Written) → AreAlike (tree 
 pub record LeavesState {X At M R : Type 0} {a : Added X} (p : Piece a At M R) : Type 0 where
   pub left : M → State a.Kept
   pub halts : (end : End) (last : State a.Kept) → left (p.ends end last) ≡ last
-  pub begins : (events : List Event) (it : M) → GoesOn events (left it).events → p.begins events it
+  pub begins : (events : List Event) (it : M) → EventsGrow events (left it).events → p.begins events it
 
 -- what comes next only adds events
 abbrev pub AddsEvents : {S M : Type 0} → (M → State S) → (State S → M) → Type 0
-AddsEvents {S} left next = (t : State S) → GoesOn t.events (left (next t)).events
+AddsEvents {S} left next = (t : State S) → EventsGrow t.events (left (next t)).events

@@ -3,5 +3,5 @@ use Rattle.std.specs.Prelude.{◌≡◌}
 use Rattle.aio_task.specs.View.{View}
 
 pub record StaysBeside (old new : View) : Type 0 where
-  pub beside : new ≡ record old { queue = new.queue; futures = new.futures }
+  pub frame : new ≡ record old { queue = new.queue; futures = new.futures }
   pub below : new.queue.below ≡ old.queue.below

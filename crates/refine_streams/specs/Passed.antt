@@ -15,7 +15,7 @@ use Rattle.aio_task.specs.View.{View}
 use Rattle.aio_change.specs.Seen.{seen_changed}
 use Rattle.aio_extra.specs.Added.{Added}
 use Rattle.aio_body.specs.Asking.{Piece, before}
-use Rattle.aio_body.specs.Stands.{Setting}
+use Rattle.aio_body.specs.Stands.{Context}
 use Rattle.refine_streams.specs.Along.{along}
 
 -- code's list has the events of a run that weren't taken out yet, after those that were, and how many answers it had
@@ -32,7 +32,7 @@ pub record Call (S A M : Type 0) : Type 0 where
 -- The machine begins with this tree there. `Stood` says that code stands for streams, and `number` is the future that it makes
 -- next.
 pub record Begins {X A M R : Type 0} {a : Added X} (p : Piece a (State a.Kept) M R) (call : Call a.Kept A M) (Stood : Streams → Type 0)
-    (number : ℕ) (list : EventList) (c : Setting a) (s : State a.Kept) : Type 0 where
+    (number : ℕ) (list : EventList) (c : Context a) (s : State a.Kept) : Type 0 where
   pub noted : IsNoted c.past list s.events
   pub rest : s.answers ≡ c.answers
   pub streams : Stood s.streams
@@ -41,7 +41,7 @@ pub record Begins {X A M R : Type 0} {a : Added X} (p : Piece a (State a.Kept) M
 
 -- It went a way to the tree's end, with this result.
 pub record Passed {X W A M R : Type 0} {a : Added X} (p : Piece a (State a.Kept) M R) (call : Call a.Kept A M) (So : Streams → A → Type 0)
-    (number : ℕ) (from to : Reach View W) (c : Setting a) (s : State a.Kept) : Type 0 where
+    (number : ℕ) (from to : Reach View W) (c : Context a) (s : State a.Kept) : Type 0 where
   pub way : List Move
   pub it : A
   pub began : p.from (before (had_on way) c) s

@@ -2,7 +2,7 @@
 use Rattle.std.specs.Prelude.{[]}
 use Rattle.model_stream.specs.Streams.{Streams}
 use Rattle.aio_transports.specs.Kept.{Kept}
-use Rattle.aio_transports.specs.Standing.{StandsFor}
+use Rattle.aio_transports.specs.Standing.{TransportsStandFor}
 
 abbrev pub streams_of : Kept → Streams
 streams_of k = record {
@@ -16,4 +16,4 @@ streams_of k = record {
 
 -- they stand for it
 abbrev pub HasStreams : Kept → Type 0
-HasStreams k = StandsFor k (streams_of k)
+HasStreams k = TransportsStandFor k (streams_of k)

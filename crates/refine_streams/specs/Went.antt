@@ -12,21 +12,21 @@ use Rattle.law_cases.specs.Trees.{IsMade}
 use Rattle.aio_cancel.specs.Awaitables.{Appended}
 use Rattle.aio_task.specs.View.{View, parts}
 use Rattle.aio_extra.specs.Added.{Added, named_in}
-use Rattle.aio_body.specs.declared.body.Body.{Body}
-use Rattle.aio_body.specs.Stands.{IsOwnSleep, Setting, Stands}
+use Rattle.aio_body.specs.declared.run_state.RunState.{RunState}
+use Rattle.aio_body.specs.Stands.{IsOwnSleep, Context, Stands}
 
 -- Where a call of streams may be made: what is kept stands for a state in which each future that streams keep is a plain one, and
 -- each task has its own.
-pub record MayCall {X : Type 0} {a : Added X} (out : Option ℕ) (c : Setting a) (body : Body X) (s : State a.Kept) : Type 0 where
+pub record MayCall {X : Type 0} {a : Added X} (out : Option ℕ) (c : Context a) (body : RunState X) (s : State a.Kept) : Type 0 where
   pub stands : Stands out c body s
   pub streams : AreStreamsFutures s
   pub owns : OwnsFutures s.loop.parts
 
 -- the running task awaits this, and runs no more
-pub record Suspends (task on : ℕ) (old new : View) : Type 0 where
+pub record CallsSuspend (task on : ℕ) (old new : View) : Type 0 where
   pub after : parts new ≡ (suspend task on (parts old)).parts
   pub queue : Appended old.queue new.queue
-  pub beside : new ≡ record old { queue = new.queue; futures = new.futures; tasks = new.tasks; running = None }
+  pub frame : new ≡ record old { queue = new.queue; futures = new.futures; tasks = new.tasks; running = None }
 
 -- what scripts name and what tasks wait for was made
 pub record AreMade {S : Type 0} (s : State S) : Type 0 where
@@ -36,7 +36,7 @@ pub record AreMade {S : Type 0} (s : State S) : Type 0 where
 -- A call was made, the body is as the new one, and the machine goes on so. `Made` says what was made in it, by what `IsMade` of
 -- the call's futures is.
 pub record HasGone {X M : Type 0} {a : Added X} (out : Option ℕ) (Made : (first next : ℕ) → Type 0) (machine : M) (next : State a.Kept → M)
-    (c : Setting a) (old new : Body X) (s : State a.Kept) : Type 0 where
+    (c : Context a) (old new : RunState X) (s : State a.Kept) : Type 0 where
   pub now : State a.Kept
   pub does : machine ≡ next now
   pub stands : Stands out c new now
@@ -46,7 +46,7 @@ pub record HasGone {X M : Type 0} {a : Added X} (out : Option ℕ) (Made : (firs
   -- a future that was made is pending, and a task may wait for it
   pub pending : (on : ℕ) → IsMade (next_future s.loop.parts) (next_future now.loop.parts) on
       → is_pending_at (slice_get new.parts.futures on) ≡ true
-  pub waiting : (task on : ℕ) (v : View) → IsMade (next_future s.loop.parts) (next_future now.loop.parts) on → Suspends task on new.parts v
+  pub waiting : (task on : ℕ) (v : View) → IsMade (next_future s.loop.parts) (next_future now.loop.parts) on → CallsSuspend task on new.parts v
       → Stands out c (record new { parts = v }) (waits task on now)
   -- and is its own then, where no connection and no child asks for it
   pub alone : (task on : ℕ) → IsMade (next_future s.loop.parts) (next_future now.loop.parts) on → times_asked on now.streams ≡ 0 → AreMade s

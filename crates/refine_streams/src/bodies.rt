@@ -13,11 +13,11 @@ ghost use Rattle.law_cases.specs.TreeEnd.{IsStreamsEnd};
 ghost use Rattle.refine_streams.specs.Along.{along};
 ghost use Rattle.aio_change.specs.Seen.{seen_changed};
 ghost use Rattle.aio_task.specs.View.{View};
-ghost use Rattle.aio_transports.specs.Standing.{Becomes, StandsFor as AreTransports};
+ghost use Rattle.aio_transports.specs.Standing.{Becomes, TransportsStandFor as AreTransports};
 ghost use Rattle.aio_body.specs.Asking.{before};
-ghost use Rattle.aio_body.specs.Stands.{Setting, Stands};
-ghost use Rattle.aio_body.specs.declared.body.Body.{Body};
-ghost use Rattle.refine_streams.specs.Went.{MayCall, Suspends};
+ghost use Rattle.aio_body.specs.Stands.{Context, Stands};
+ghost use Rattle.aio_body.specs.declared.run_state.RunState.{RunState};
+ghost use Rattle.refine_streams.specs.Went.{MayCall, CallsSuspend};
 
 use aio_extra::Extra;
 
@@ -25,7 +25,7 @@ use aio_extra::Extra;
 /// the body stands for the state after it, and so it does where a task then waits for a future that
 /// was made on the way.
 pub fn bodies_stand_along_ways<X: Extra>()
-    ensures passed { (out : Option ℕ) (c : Setting X.added) (old new : Body X)
+    ensures passed { (out : Option ℕ) (c : Context X.added) (old new : RunState X)
         (s : State X.added.Kept) (way : List Move) (after : Streams)
         → Stands out (before (had_on way) c) old s → OwnsFutures s.loop.parts
         → IsStreamsEnd s (along way c.answers s) after → AreTransports new.transports after
@@ -37,7 +37,7 @@ pub fn bodies_stand_along_ways<X: Extra>()
           transports = new.transports;
         }
         → Stands out c new (with_streams after (along way c.answers s)) }
-    ensures waiting { (out : Option ℕ) (c : Setting X.added) (old new : Body X)
+    ensures waiting { (out : Option ℕ) (c : Context X.added) (old new : RunState X)
         (s : State X.added.Kept) (way : List Move) (after : Streams)
         → Stands out (before (had_on way) c) old s → OwnsFutures s.loop.parts
         → IsStreamsEnd s (along way c.answers s) after → AreTransports new.transports after
@@ -48,14 +48,15 @@ pub fn bodies_stand_along_ways<X: Extra>()
           events = new.events;
           transports = new.transports;
         }
-        → (task on : ℕ) (v : View) → next_future s.loop.parts ≤ on → Suspends task on new.parts v
+        → (task on : ℕ) (v : View) → next_future s.loop.parts ≤ on
+        → CallsSuspend task on new.parts v
         → Stands out c (record new { parts = v })
         (waits task on (with_streams after (along way c.answers s))) }
 {}
 
 /// A read that is resumed waits no more.
 pub fn a_read_is_given_up<X: Extra>()
-    ensures { (out : Option ℕ) (c : Setting X.added) (old new : Body X) (s : State X.added.Kept)
+    ensures { (out : Option ℕ) (c : Context X.added) (old new : RunState X) (s : State X.added.Kept)
         (on : ℕ) (from : StreamReader) → MayCall out c old s
         → Becomes (give_up_read on from) old.transports new.transports
         → new ≡ record old { transports = new.transports }

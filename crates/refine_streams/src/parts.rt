@@ -6,13 +6,13 @@ ghost use Rattle.model_machine.specs.Does.{changed};
 ghost use Rattle.aio_exchange.specs.Ways.{Move, changed_on};
 ghost use Rattle.aio_change.specs.Owned.{IsOwn};
 ghost use Rattle.aio_change.specs.Seen.{seen_changed};
-ghost use Rattle.aio_task.specs.Keeps.{Keeps, Kept, Ties};
+ghost use Rattle.aio_task.specs.Keeps.{Keeps, Kept, NameMap};
 ghost use Rattle.aio_task.specs.View.{View};
 ghost use Rattle.refine_streams.specs.Beside.{StaysBeside};
 
 /// Parts in code that stand for the machine's do so along every way.
 pub fn ways_are_kept()
-    ensures { (t : Ties) (v : View) (p : Parts) (way : List Move) → Keeps t v p
+    ensures { (t : NameMap) (v : View) (p : Parts) (way : List Move) → Keeps t v p
         → Kept t p (changed_on seen_changed way v) (changed_on changed way p) }
 {}
 
@@ -24,6 +24,6 @@ pub fn ways_stay_beside()
 
 /// A plain future of the machine's is no task's in code.
 pub fn plain_futures_are_own()
-    ensures { (t : Ties) (v : View) (p : Parts) (future : ℕ) → Keeps t v p
+    ensures { (t : NameMap) (v : View) (p : Parts) (future : ℕ) → Keeps t v p
         → is_plain p future ≡ true → IsOwn v future }
 {}

@@ -20,8 +20,8 @@ ghost use Rattle.law_cases.specs.Trees.{AnswersStreams, Keeping, WaitsNever};
 ghost use Rattle.aio_transports.specs.Standing.{Answers as AnswersTree};
 ghost use Rattle.aio_body.specs.Asked.{IsAskingFor};
 ghost use Rattle.aio_body.specs.Asking.{Comes, serving};
-ghost use Rattle.aio_body.specs.Stands.{Setting};
-ghost use Rattle.aio_body.specs.declared.body.Body.{Body};
+ghost use Rattle.aio_body.specs.Stands.{Context};
+ghost use Rattle.aio_body.specs.declared.run_state.RunState.{RunState};
 ghost use Rattle.aio_body.specs.declared.reply.RequestReply.TheVariants as said;
 ghost use Rattle.refine_streams.specs.Alike.{AddsEvents, ForgetsWritten};
 ghost use Rattle.refine_streams.specs.Streams.{HasStreams};
@@ -33,10 +33,10 @@ use aio_wire::Wire;
 /// stopped the machine ends the run, or asks first what was asked before memory was refused; where
 /// it went well the request comes to what the machine's does.
 pub fn requests_go_by_their_calls<X: Extra, W: Wire, R>()
-    ensures stops { (task : ℕ) (request : AnyRequest) (old new : Body X) (wire after : W)
+    ensures stops { (task : ℕ) (request : AnyRequest) (old new : RunState X) (wire after : W)
         (tree : ℕ → Streams → Doing (Streams × R))
         (next : R → State X.added.Kept → plain.RequestReply X.added.Kept) (why : AnyStop)
-        → ((c : Setting X.added) (s : State X.added.Kept) → IsAskingFor task request c old s
+        → ((c : Context X.added) (s : State X.added.Kept) → IsAskingFor task request c old s
         → reply X.added.meaning task request s
         ≡ streams_do (tree (next_future s.loop.parts) s.streams) next s)
         → HasStreams old.transports
@@ -47,11 +47,11 @@ pub fn requests_go_by_their_calls<X: Extra, W: Wire, R>()
         (reach new.parts after new.events) (Err why)
         → Comes W.outside (serving X.added task request old new)
         (ported wire old.events) (ported after new.events) (Err why) }
-    ensures answers { (task : ℕ) (request : AnyRequest) (old new : Body X) (wire after : W)
+    ensures answers { (task : ℕ) (request : AnyRequest) (old new : RunState X) (wire after : W)
         (tree : ℕ → Streams → Doing (Streams × R))
         (next : R → State X.added.Kept → plain.RequestReply X.added.Kept) (it : R)
         (value : AnyValue)
-        → ((c : Setting X.added) (s : State X.added.Kept) → IsAskingFor task request c old s
+        → ((c : Context X.added) (s : State X.added.Kept) → IsAskingFor task request c old s
         → reply X.added.meaning task request s
         ≡ streams_do (tree (next_future s.loop.parts) s.streams) next s)
         → HasStreams old.transports

@@ -12,7 +12,7 @@ use Rattle.model_loop.specs.Groups.{group_of}
 use Rattle.model_loop.specs.Ledger.{ByScript, LedgerEntry, Raised}
 use Rattle.model_loop.specs.Parts.{OfTask, Task}
 use Rattle.model_loop.specs.Sound.{IsSound}
-use Rattle.model_loop.specs.Tasks.{cancelling, change_task, is_marked}
+use Rattle.model_loop.specs.Tasks.{cancelling, change_task, must_cancel_of}
 use Rattle.model_loop.specs.Ways.{one_if}
 use Rattle.law_cancel.proofs.Counting.{change_task-kept}
 use Rattle.law_steps.proofs.Looks.{change_looks_same}
@@ -134,7 +134,7 @@ counts n = (
         (step.rest_of (Some 0) nobody (bare free_task []) (bare (change_task 0 (with_count n) free_task) (raised n)) one_runs
         (record { parts = change_carries 0 (with_count n) free_task (λ t. refl) (λ t. refl); timeouts = refl }))
         (looks_holds (Some 0) (Some 0) nobody nobody (group_of (bare free_task [])) free_task _
-        (change_looks_same 0 (with_count n) free_task (λ t. refl) (λ t. refl)) marked
+        (change_looks_same 0 (with_count n) free_task (λ t. refl) (λ t. refl)) must_cancel
         (step.holds_of (Some 0) nobody (bare free_task []) one_runs))
         (λ id. (one_runs.groups id).orderly) balance
         (record {
@@ -144,8 +144,8 @@ counts n = (
   ),
 )
   where
-    marked : (t : ℕ) → is_marked (change_task 0 (with_count n) free_task) t ≡ true → is_marked free_task t ≡ true
-    marked t m =
+    must_cancel : (t : ℕ) → must_cancel_of (change_task 0 (with_count n) free_task) t ≡ true → must_cancel_of free_task t ≡ true
+    must_cancel t m =
         sym (change_task-kept (λ (o : Option Task). option_map_or (λ (x : Task). x.must_cancel) o false) 0
         (with_count n) free_task (λ x. refl) t) ∙ m
 

@@ -5,10 +5,10 @@ use Rattle.model_value.specs.declared.action.Action.TheVariants.{Step}
 use Rattle.model_loop.specs.Sound.{IsSound}
 use Rattle.law_sound.proofs.Beginning.{first_sound, nobody, no_loop_sound as nothing}
 use Rattle.row_loop.specs.Ledgers.{main_done}
-use Rattle.row_loop.specs.Standing.{PartsStand, Stands, bare}
-use Rattle.row_loop.specs.Steps.{awaited, handled, handler_runs, nothing_made, one_task, paused, running, running_marked, running_over_none, sleeping}
+use Rattle.row_loop.specs.Standing.{PartsStand, LoopStands, bare}
+use Rattle.row_loop.specs.Steps.{awaited, handled, handler_runs, nothing_made, one_task, paused, running, running_must_cancel, running_over_none, sleeping}
 use Rattle.row_loop.specs.Steps.{three_timers, two_due}
-use Rattle.row_loop.specs.Steps.{woken_and_marked, woken_at_once}
+use Rattle.row_loop.specs.Steps.{woken_and_must_cancel, woken_at_once}
 use Rattle.row_loop.proofs.Building.{asks, at, begins, below, falls_due, finishes, hears, lowers, many, no_group, pauses, plain, sleeps, task, waits}
 
 pub nothing_made_stands : PartsStand None nothing_made
@@ -24,14 +24,14 @@ pub running_stands : PartsStand (Some 0) running
 running_stands = ([], (nobody, main_runs))
 
 -- it asked for its own cancel, once and twice, and took that back
-pub running_marked_once : PartsStand (Some 0) (running_marked 1)
-running_marked_once = (_, (nobody, asks main_runs 0 0))
+pub running_must_cancel_once : PartsStand (Some 0) (running_must_cancel 1)
+running_must_cancel_once = (_, (nobody, asks main_runs 0 0))
 
-pub running_marked_twice : PartsStand (Some 0) (running_marked 2)
-running_marked_twice = (_, (nobody, asks (asks main_runs 0 0) 0 0))
+pub running_must_cancel_twice : PartsStand (Some 0) (running_must_cancel 2)
+running_must_cancel_twice = (_, (nobody, asks (asks main_runs 0 0) 0 0))
 
-pub running_marked_never : PartsStand (Some 0) (running_marked 0)
-running_marked_never = (_, (nobody, lowers (asks main_runs 0 0) 0 0))
+pub running_must_cancel_never : PartsStand (Some 0) (running_must_cancel 0)
+running_must_cancel_never = (_, (nobody, lowers (asks main_runs 0 0) 0 0))
 
 main_sleeps : IsSound None nobody (bare sleeping [])
 main_sleeps = waits main_runs 1 refl
@@ -42,8 +42,8 @@ sleeping_stands = ([], (nobody, main_sleeps))
 pub woken_at_once_stands : PartsStand None (woken_at_once 1)
 woken_at_once_stands = (_, (nobody, asks main_sleeps 0 0))
 
-pub woken_and_marked_stands : PartsStand None (woken_and_marked 2)
-woken_and_marked_stands = (_, (nobody, asks (asks main_sleeps 0 0) 0 0))
+pub woken_and_must_cancel_stands : PartsStand None (woken_and_must_cancel 2)
+woken_and_must_cancel_stands = (_, (nobody, asks (asks main_sleeps 0 0) 0 0))
 
 pub paused_stands : PartsStand None (paused (Step 0))
 paused_stands = ([], (nobody, pauses main_runs))
@@ -78,7 +78,7 @@ three_timers_stands = ([], (nobody, timers_wait))
 pub two_due_stands : PartsStand None two_due
 two_due_stands = ([], (nobody, falls_due timers_wait))
 
-pub main_done_stands : Stands None main_done
+pub main_done_stands : LoopStands None main_done
 main_done_stands =
     let made = plain (task (task (task nothing))) in
     let zero_ = finishes (begins made 0 refl refl refl) (Ok Nothing) (no_group 0) in

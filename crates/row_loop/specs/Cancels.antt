@@ -1,10 +1,10 @@
 -- States before and after a cancel request.
 use Rattle.std.specs.Prelude.{ℕ, true, false, [], ◌∷◌}
 use Rattle.model_value.specs.Number.{most}
-use Rattle.model_value.specs.declared.action.Action.TheVariants.{StepInCircle, Wakeup}
-use Rattle.model_value.specs.declared.action.Circle.TheVariants.{ItsWaiter}
+use Rattle.model_value.specs.declared.action.Action.TheVariants.{StepInCycle, Wakeup}
+use Rattle.model_value.specs.declared.action.CycleKind.TheVariants.{ItsWaiter}
 use Rattle.model_loop.specs.Parts.{Plain, OfTask, Many, Parts}
-use Rattle.row_loop.specs.Made.{waiting, cancelled, resolved, waits, waits_marked, free, free_marked, handle, parts_of}
+use Rattle.row_loop.specs.Made.{waiting, cancelled, resolved, waits, waits_must_cancel, free, free_must_cancel, handle, parts_of}
 
 -- ---- task 0 awaits task 1, which awaits task 2, which waits for future 3
 abbrev pub chain : Parts
@@ -22,12 +22,12 @@ chain_cancelled =
     (waits 0 1 1 ∷ waits 1 2 1 ∷ waits 2 3 1 ∷ [])
     (handle 3 3 (Wakeup 2) ∷ []) 4
 
--- The future is done and task 2 wasn't stepped yet: a second request counts again and marks task 2 alone.
+-- The future is done and task 2 wasn't stepped yet: a second request counts again and sets must_cancel of task 2 alone.
 abbrev pub chain_cancelled_twice : Parts
 chain_cancelled_twice =
     parts_of
     (waiting (OfTask 0) [] ∷ waiting (OfTask 1) (Wakeup 0 ∷ []) ∷ waiting (OfTask 2) (Wakeup 1 ∷ []) ∷ cancelled Plain ∷ [])
-    (waits 0 1 2 ∷ waits 1 2 2 ∷ waits_marked 2 3 2 ∷ [])
+    (waits 0 1 2 ∷ waits 1 2 2 ∷ waits_must_cancel 2 3 2 ∷ [])
     (handle 3 3 (Wakeup 2) ∷ []) 4
 
 -- a request to the future that is waited for reaches no task
@@ -53,12 +53,12 @@ two_on_one =
     (waits 0 2 0 ∷ waits 1 2 0 ∷ [])
     [] 2
 
--- the cancel of task 0 ends the future, so task 1 can only be marked
+-- the cancel of task 0 ends the future, so task 1 can only have must_cancel set
 abbrev pub two_on_one_cancelled : Parts
 two_on_one_cancelled =
     parts_of
     (waiting (OfTask 0) [] ∷ waiting (OfTask 1) [] ∷ cancelled Plain ∷ waiting (Many (0 ∷ 1 ∷ []) true) [] ∷ [])
-    (waits 0 2 1 ∷ waits_marked 1 2 1 ∷ [])
+    (waits 0 2 1 ∷ waits_must_cancel 1 2 1 ∷ [])
     (handle 2 2 (Wakeup 0) ∷ handle 3 3 (Wakeup 1) ∷ []) 4
 
 -- ---- future 3 stands twice for task 0, directly and through future 2
@@ -86,7 +86,7 @@ two_ways =
     (waits 0 5 0 ∷ waits 1 3 0 ∷ waits 2 3 0 ∷ waits 3 4 0 ∷ [])
     [] 4
 
--- Task 1 came to task 3 first. Task 2 is told to go on, so it isn't marked.
+-- Task 1 came to task 3 first. Task 2 is told to go on, so it need not cancel.
 abbrev pub two_ways_cancelled : Parts
 two_ways_cancelled =
     parts_of
@@ -104,12 +104,12 @@ awaited_runs =
 abbrev pub refused : (first second : ℕ) → Parts
 refused first second =
     parts_of (waiting (OfTask 0) [] ∷ waiting (OfTask 1) (Wakeup 0 ∷ []) ∷ []) (waits 0 1 first ∷ free 1 second ∷ [])
-    (handle 2 2 (StepInCircle 1 ItsWaiter) ∷ []) 3
+    (handle 2 2 (StepInCycle 1 ItsWaiter) ∷ []) 3
 
-abbrev pub refused_marked : (first second : ℕ) → Parts
-refused_marked first second =
-    parts_of (waiting (OfTask 0) [] ∷ waiting (OfTask 1) (Wakeup 0 ∷ []) ∷ []) (waits 0 1 first ∷ free_marked 1 second ∷ [])
-    (handle 2 2 (StepInCircle 1 ItsWaiter) ∷ []) 3
+abbrev pub refused_must_cancel : (first second : ℕ) → Parts
+refused_must_cancel first second =
+    parts_of (waiting (OfTask 0) [] ∷ waiting (OfTask 1) (Wakeup 0 ∷ []) ∷ []) (waits 0 1 first ∷ free_must_cancel 1 second ∷ [])
+    (handle 2 2 (StepInCycle 1 ItsWaiter) ∷ []) 3
 
 -- ---- task 0 waits for future 2, which stands for task 1, which runs
 abbrev pub member_runs : Parts
@@ -125,28 +125,28 @@ member_refused =
     parts_of
     (waiting (OfTask 0) [] ∷ waiting (OfTask 1) [] ∷ waiting (Many (1 ∷ []) false) (Wakeup 0 ∷ []) ∷ [])
     (waits 0 2 0 ∷ free 1 0 ∷ [])
-    (handle 2 2 (StepInCircle 1 ItsWaiter) ∷ []) 3
+    (handle 2 2 (StepInCycle 1 ItsWaiter) ∷ []) 3
 
-abbrev pub member_refused_marked : Parts
-member_refused_marked =
+abbrev pub member_refused_must_cancel : Parts
+member_refused_must_cancel =
     parts_of
     (waiting (OfTask 0) [] ∷ waiting (OfTask 1) [] ∷ waiting (Many (1 ∷ []) true) (Wakeup 0 ∷ []) ∷ [])
-    (waits 0 2 1 ∷ free_marked 1 1 ∷ [])
-    (handle 2 2 (StepInCircle 1 ItsWaiter) ∷ []) 3
+    (waits 0 2 1 ∷ free_must_cancel 1 1 ∷ [])
+    (handle 2 2 (StepInCycle 1 ItsWaiter) ∷ []) 3
 
 -- ---- task 0 runs, so it waits for nothing
 abbrev pub free_task : Parts
 free_task = parts_of (waiting (OfTask 0) [] ∷ []) (free 0 0 ∷ []) [] 1
 
 abbrev pub free_task_cancelled : Parts
-free_task_cancelled = parts_of (waiting (OfTask 0) [] ∷ []) (free_marked 0 1 ∷ []) [] 1
+free_task_cancelled = parts_of (waiting (OfTask 0) [] ∷ []) (free_must_cancel 0 1 ∷ []) [] 1
 
 -- ---- a count that is as great as it can be
 abbrev pub full_count : Parts
 full_count = parts_of (waiting (OfTask 0) [] ∷ []) (free 0 most ∷ []) [] 1
 
 abbrev pub full_count_cancelled : Parts
-full_count_cancelled = parts_of (waiting (OfTask 0) [] ∷ []) (free_marked 0 most ∷ []) [] 1
+full_count_cancelled = parts_of (waiting (OfTask 0) [] ∷ []) (free_must_cancel 0 most ∷ []) [] 1
 
 -- ---- future 2 stands for futures that are all done
 abbrev pub all_done : Parts

@@ -8,7 +8,8 @@ use Rattle.model_loop.specs.Parts.{Plain, OfTask, Future, Task, Handle, Parts}
 use Rattle.model_loop.specs.Ledger.{LedgerEntry, Asked, Raised, Took, Began, ByScript, ByGroup, ByAbort}
 use Rattle.model_loop.specs.Loop.{Group, Loop}
 use Rattle.model_loop.specs.Tasks.{cancelled_error}
-use Rattle.row_loop.specs.Made.{waiting, ended, cancelled, resolved, waits, waits_marked, free, free_marked, handle, parts_of, value_error, type_error}
+use Rattle.row_loop.specs.Made.{waiting, ended, cancelled, resolved, waits, waits_must_cancel, free, free_must_cancel, handle, parts_of, value_error}
+use Rattle.row_loop.specs.Made.{type_error}
 
 abbrev pub loop_of : Parts → Group → List LedgerEntry → Loop
 loop_of parts group ledger = record { parts = parts; timeouts = []; groups = group ∷ []; ledger = ledger }
@@ -72,11 +73,11 @@ child_failed =
 abbrev pub parent_asked : List LedgerEntry
 parent_asked = Began 0 ∷ Asked (ByGroup 0) ∷ Raised 0 (ByGroup 0) ∷ []
 
--- the exit's future is resolved before the parent's cancel is asked for, so the parent is marked
+-- the exit's future is resolved before the parent's cancel is asked for, so the parent must cancel
 abbrev pub failure_counted : Loop
 failure_counted =
     loop_of
-    (parts_of (waiting (OfTask 0) [] ∷ ended (OfTask 1) (Failed a) ∷ resolved Plain ∷ []) (waits_marked 0 2 1 ∷ free 1 0 ∷ [])
+    (parts_of (waiting (OfTask 0) [] ∷ ended (OfTask 1) (Failed a) ∷ resolved Plain ∷ []) (waits_must_cancel 0 2 1 ∷ free 1 0 ∷ [])
     (handle 3 3 (Wakeup 0) ∷ []) 4)
     (record (in_block (1 ∷ [])) {
       exiting = true;
@@ -243,7 +244,7 @@ three_aborted =
     (parts_of
     (waiting (OfTask 0) [] ∷ waiting (OfTask 1) (GroupDone 0 1 ∷ []) ∷ ended (OfTask 2) Cancelled ∷ waiting (OfTask 3) (GroupDone 0 3 ∷ [])
     ∷ cancelled Plain ∷ cancelled Plain ∷ waiting Plain [] ∷ [])
-    (free 0 1 ∷ free_marked 1 1 ∷ free 2 0 ∷ waits 3 4 1 ∷ [])
+    (free 0 1 ∷ free_must_cancel 1 1 ∷ free 2 0 ∷ waits 3 4 1 ∷ [])
     (handle 5 5 (Step 1) ∷ handle 6 6 (GroupDone 0 2) ∷ handle 7 7 (Wakeup 3) ∷ []) 8)
     (record (in_block (1 ∷ 2 ∷ 3 ∷ [])) { exiting = true; aborting = true; kept = Some cancelled_error; exit_future = Some 6 })
     (parent_cancelled ++ Asked (ByAbort 0) ∷ Raised 1 (ByAbort 0) ∷ Asked (ByAbort 0) ∷ Raised 3 (ByAbort 0) ∷ [])

@@ -5,7 +5,7 @@ use Rattle.model_value.specs.declared.action.Action.TheVariants.{Wakeup}
 use Rattle.model_loop.specs.Parts.{Plain, OfTask, Parts}
 use Rattle.model_loop.specs.Ledger.{LedgerEntry, Asked, Raised, ByEnd, Requested}
 use Rattle.model_loop.specs.Loop.{Loop}
-use Rattle.row_loop.specs.Made.{waiting, cancelled, resolved, waits, waits_marked, free, handle, parts_of}
+use Rattle.row_loop.specs.Made.{waiting, cancelled, resolved, waits, waits_must_cancel, free, handle, parts_of}
 
 -- a request that was made
 abbrev pub requested : Bool → Parts → List LedgerEntry → Requested
@@ -23,14 +23,14 @@ main_done =
       ledger = [];
     }
 
--- Task 1 is asked first. Task 2's request goes on to task 1, whose future 3 is done by then: it is marked, and it is counted
+-- Task 1 is asked first. Task 2's request goes on to task 1, whose future 3 is done by then: it must cancel, and it is counted
 -- again.
 abbrev pub all_cancelled : Loop
 all_cancelled =
     record {
       parts = parts_of
           (resolved (OfTask 0) ∷ waiting (OfTask 1) (Wakeup 2 ∷ []) ∷ waiting (OfTask 2) [] ∷ cancelled Plain ∷ [])
-          (free 0 0 ∷ waits_marked 1 3 2 ∷ waits 2 1 1 ∷ [])
+          (free 0 0 ∷ waits_must_cancel 1 3 2 ∷ waits 2 1 1 ∷ [])
           (handle 3 3 (Wakeup 1) ∷ []) 4;
       timeouts = [];
       groups = [];

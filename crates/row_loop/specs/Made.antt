@@ -19,18 +19,18 @@ cancelled kind = ended kind Cancelled
 abbrev pub resolved : FutureKind → Future
 resolved kind = ended kind (Returned Nothing)
 
--- a task that waits for a future, with a count of cancels; one that is marked; one that waits for nothing
+-- a task that waits for a future, with a count of cancels; one that must cancel; one that waits for nothing
 abbrev pub waits : (future on cancels : ℕ) → Task
 waits future on cancels = record { future = future; waiter = Some on; cancels = cancels; must_cancel = false }
 
-abbrev pub waits_marked : (future on cancels : ℕ) → Task
-waits_marked future on cancels = record { future = future; waiter = Some on; cancels = cancels; must_cancel = true }
+abbrev pub waits_must_cancel : (future on cancels : ℕ) → Task
+waits_must_cancel future on cancels = record { future = future; waiter = Some on; cancels = cancels; must_cancel = true }
 
 abbrev pub free : (future cancels : ℕ) → Task
 free future cancels = record { future = future; waiter = None; cancels = cancels; must_cancel = false }
 
-abbrev pub free_marked : (future cancels : ℕ) → Task
-free_marked future cancels = record { future = future; waiter = None; cancels = cancels; must_cancel = true }
+abbrev pub free_must_cancel : (future cancels : ℕ) → Task
+free_must_cancel future cancels = record { future = future; waiter = None; cancels = cancels; must_cancel = true }
 
 abbrev pub handle : (stamp tag : ℕ) → Action → Handle
 handle stamp tag action = record { stamp = stamp; tag = tag; action = action; dead = false }

@@ -5,7 +5,7 @@ use Rattle.model_loop.specs.Parts.{Plain, OfTask, Handle, Timer, Parts}
 use Rattle.model_loop.specs.Ledger.{LedgerEntry, Asked, Raised, Took, ByScript, ByTimeout}
 use Rattle.model_loop.specs.Loop.{TimeoutState, Active, Expiring, Finished, Timeout, Loop}
 use Rattle.model_loop.specs.Timeouts.{Left}
-use Rattle.row_loop.specs.Made.{waiting, cancelled, waits, waits_marked, free, handle, dead, timer, parts_of}
+use Rattle.row_loop.specs.Made.{waiting, cancelled, waits, waits_must_cancel, free, handle, dead, timer, parts_of}
 
 abbrev pub timed : TimeoutState → Option ℕ → Timeout
 timed state tag = record { state = state; task = 0; stored = 0; tag = tag }
@@ -49,11 +49,11 @@ outer_fired =
 abbrev pub both_asked : List LedgerEntry
 both_asked = Asked (ByTimeout 0) ∷ Raised 0 (ByTimeout 0) ∷ Asked (ByTimeout 1) ∷ Raised 0 (ByTimeout 1) ∷ []
 
--- the inner one fired too: the future is done, so the task is marked
+-- the inner one fired too: the future is done, so the task must cancel
 abbrev pub both_fired : Loop
 both_fired =
     loop_of
-    (record (parts_of (waiting (OfTask 0) [] ∷ cancelled Plain ∷ []) (waits_marked 0 1 2 ∷ []) (handle 3 3 (Wakeup 0) ∷ []) 4) { time = 10 })
+    (record (parts_of (waiting (OfTask 0) [] ∷ cancelled Plain ∷ []) (waits_must_cancel 0 1 2 ∷ []) (handle 3 3 (Wakeup 0) ∷ []) 4) { time = 10 })
     (timed Expiring None ∷ timed Expiring None ∷ []) both_asked
 
 -- the task's step began, with a throw of CancelledError, and it counts so many cancels

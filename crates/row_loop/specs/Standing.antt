@@ -7,12 +7,12 @@ use Rattle.model_loop.specs.Parts.{Parts}
 use Rattle.model_loop.specs.Sound.{IsSound}
 
 -- while this task is running, or none
-abbrev pub Stands : Option ℕ → Loop → Type 0
-Stands running l = (told : ℕ → List ℕ) × IsSound running told l
+abbrev pub LoopStands : Option ℕ → Loop → Type 0
+LoopStands running l = (told : ℕ → List ℕ) × IsSound running told l
 
 -- a loop without timeouts and groups
 abbrev pub bare : Parts → List LedgerEntry → Loop
 bare p ledger = record { parts = p; timeouts = []; groups = []; ledger = ledger }
 
 abbrev pub PartsStand : Option ℕ → Parts → Type 0
-PartsStand running p = (ledger : List LedgerEntry) × Stands running (bare p ledger)
+PartsStand running p = (ledger : List LedgerEntry) × LoopStands running (bare p ledger)

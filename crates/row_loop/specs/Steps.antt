@@ -4,7 +4,7 @@ use Rattle.model_value.specs.Action.{Action}
 use Rattle.model_value.specs.declared.action.Action.TheVariants.{Step, Wakeup, MainDone, HandlerDone, SleepDone}
 use Rattle.model_value.specs.Value.{Outcome}
 use Rattle.model_loop.specs.Parts.{Plain, OfTask, Many, Future, Handle, Parts}
-use Rattle.row_loop.specs.Made.{waiting, ended, cancelled, resolved, waits, waits_marked, free, free_marked, handle, dead, timer, parts_of}
+use Rattle.row_loop.specs.Made.{waiting, ended, cancelled, resolved, waits, waits_must_cancel, free, free_must_cancel, handle, dead, timer, parts_of}
 
 -- ---- nothing was made yet; then a task, and then a second one
 abbrev pub nothing_made : Parts
@@ -22,32 +22,32 @@ two_tasks =
 abbrev pub running : Parts
 running = parts_of (waiting (OfTask 0) (MainDone ∷ []) ∷ waiting Plain [] ∷ []) (free 0 0 ∷ []) [] 1
 
-abbrev pub running_marked : ℕ → Parts
-running_marked count = parts_of (waiting (OfTask 0) (MainDone ∷ []) ∷ waiting Plain [] ∷ []) (free_marked 0 count ∷ []) [] 1
+abbrev pub running_must_cancel : ℕ → Parts
+running_must_cancel count = parts_of (waiting (OfTask 0) (MainDone ∷ []) ∷ waiting Plain [] ∷ []) (free_must_cancel 0 count ∷ []) [] 1
 
 -- it waits for future 1
 abbrev pub sleeping : Parts
 sleeping = parts_of (waiting (OfTask 0) (MainDone ∷ []) ∷ waiting Plain (Wakeup 0 ∷ []) ∷ []) (waits 0 1 0 ∷ []) [] 1
 
--- it was marked when it waited: future 1 is cancelled at once, and the mark has gone on to it
+-- must_cancel was set when it waited: future 1 is cancelled at once, and must_cancel has gone on to it
 abbrev pub woken_at_once : ℕ → Parts
 woken_at_once count =
     parts_of (waiting (OfTask 0) (MainDone ∷ []) ∷ cancelled Plain ∷ []) (waits 0 1 count ∷ []) (handle 1 1 (Wakeup 0) ∷ []) 2
 
--- it was marked when it waited for a future that stands for none: the mark stays
+-- must_cancel was set when it waited for a future that stands for none: must_cancel stays
 abbrev pub running_over_none : Parts
-running_over_none = parts_of (waiting (OfTask 0) [] ∷ waiting (Many [] false) [] ∷ []) (free_marked 0 1 ∷ []) [] 1
+running_over_none = parts_of (waiting (OfTask 0) [] ∷ waiting (Many [] false) [] ∷ []) (free_must_cancel 0 1 ∷ []) [] 1
 
 abbrev pub waits_for_none : Parts
-waits_for_none = parts_of (waiting (OfTask 0) [] ∷ waiting (Many [] false) (Wakeup 0 ∷ []) ∷ []) (waits_marked 0 1 1 ∷ []) [] 1
+waits_for_none = parts_of (waiting (OfTask 0) [] ∷ waiting (Many [] false) (Wakeup 0 ∷ []) ∷ []) (waits_must_cancel 0 1 1 ∷ []) [] 1
 
--- its step began by the handle that was taken out: it waits no more, and isn't marked
+-- its step began by the handle that was taken out: it waits no more, and need not cancel
 abbrev pub begun : ℕ → Parts
 begun count = parts_of (waiting (OfTask 0) (MainDone ∷ []) ∷ cancelled Plain ∷ []) (free 0 count ∷ []) [] 2
 
-abbrev pub woken_and_marked : ℕ → Parts
-woken_and_marked count =
-    parts_of (waiting (OfTask 0) (MainDone ∷ []) ∷ cancelled Plain ∷ []) (waits_marked 0 1 count ∷ []) (handle 1 1 (Wakeup 0) ∷ []) 2
+abbrev pub woken_and_must_cancel : ℕ → Parts
+woken_and_must_cancel count =
+    parts_of (waiting (OfTask 0) (MainDone ∷ []) ∷ cancelled Plain ∷ []) (waits_must_cancel 0 1 count ∷ []) (handle 1 1 (Wakeup 0) ∷ []) 2
 
 -- its next step is pending
 abbrev pub paused : Action → Parts
@@ -59,9 +59,9 @@ abbrev pub ended_as : Outcome → Parts
 ended_as outcome =
     parts_of (ended (OfTask 0) outcome ∷ waiting Plain [] ∷ []) (free 0 0 ∷ []) (handle 1 1 MainDone ∷ []) 2
 
-abbrev pub ended_marked_as : Outcome → Parts
-ended_marked_as outcome =
-    parts_of (ended (OfTask 0) outcome ∷ waiting Plain [] ∷ []) (free_marked 0 1 ∷ []) (handle 1 1 MainDone ∷ []) 2
+abbrev pub ended_must_cancel_as : Outcome → Parts
+ended_must_cancel_as outcome =
+    parts_of (ended (OfTask 0) outcome ∷ waiting Plain [] ∷ []) (free_must_cancel 0 1 ∷ []) (handle 1 1 MainDone ∷ []) 2
 
 abbrev pub ended_counted_as : Outcome → Parts
 ended_counted_as outcome =

@@ -4,12 +4,12 @@ ghost use Rattle.model_value.specs.declared.input.Input.TheVariants.{Throw};
 ghost use Rattle.model_loop.specs.Cancel.{cancel, cancel_with, answers};
 ghost use Rattle.model_loop.specs.Tasks.{begin_step, cancelled_error};
 ghost use Rattle.model_loop.specs.Spent.{is_spent};
-ghost use Rattle.model_loop.specs.Circles.{leads};
+ghost use Rattle.model_loop.specs.Cycles.{leads};
 ghost use Rattle.model_loop.specs.Ledger.{unbooked};
 ghost use Rattle.model_loop.specs.Suspend.{suspend};
 ghost use Rattle.law_steps.specs.Frames.{taken};
-ghost use Rattle.row_loop.specs.Steps.{sleeping, woken_at_once, woken_and_marked, begun};
-ghost use Rattle.row_loop.specs.Cancels.{chain, chain_cancelled, chain_cancelled_twice, chain_cut, one_of_two, one_of_two_cancelled, two_on_one, two_on_one_cancelled, twice_to_one, twice_to_one_cancelled, two_ways, two_ways_cancelled, awaited_runs, refused, refused_marked, member_runs, member_refused, member_refused_marked, free_task, free_task_cancelled, full_count, full_count_cancelled, all_done};
+ghost use Rattle.row_loop.specs.Steps.{sleeping, woken_at_once, woken_and_must_cancel, begun};
+ghost use Rattle.row_loop.specs.Cancels.{chain, chain_cancelled, chain_cancelled_twice, chain_cut, one_of_two, one_of_two_cancelled, two_on_one, two_on_one_cancelled, twice_to_one, twice_to_one_cancelled, two_ways, two_ways_cancelled, awaited_runs, refused, refused_must_cancel, member_runs, member_refused, member_refused_must_cancel, free_task, free_task_cancelled, full_count, full_count_cancelled, all_done};
 
 /// A request goes down a chain of three tasks, each of which counts it.
 pub fn down_a_chain()
@@ -40,16 +40,16 @@ pub fn no_member_left()
     ensures spent { is_spent all_done 4 ≡ true }
 {}
 
-/// Two requests come before the task's step: the first ends what it waits for, the second marks it,
-/// and one throw of CancelledError uses both up.
+/// Two requests come before the task's step: the first ends what it waits for, the second sets
+/// must_cancel of it, and one throw of CancelledError uses both up.
 pub fn two_before_one_step()
     ensures first { cancel 0 sleeping ≡ answers true (0 ∷ []) (woken_at_once 1) }
-    ensures second { cancel 0 (woken_at_once 1) ≡ answers true (0 ∷ []) (woken_and_marked 2) }
-    ensures step { begin_step 0 (Throw cancelled_error) (taken [] (woken_and_marked 2))
+    ensures second { cancel 0 (woken_at_once 1) ≡ answers true (0 ∷ []) (woken_and_must_cancel 2) }
+    ensures step { begin_step 0 (Throw cancelled_error) (taken [] (woken_and_must_cancel 2))
         ≡ record { parts = begun 2; input = Throw cancelled_error } }
 {}
 
-/// Two members wait for one future: the second finds it done, and is marked.
+/// Two members wait for one future: the second finds it done, and must cancel.
 pub fn two_tasks_on_one_future()
     ensures { cancel 3 two_on_one ≡ answers true (0 ∷ 1 ∷ []) two_on_one_cancelled }
 {}
@@ -60,7 +60,7 @@ pub fn a_task_reached_twice()
 {}
 
 /// A request that comes to a task by two ways goes on from it once: the second way is told that it
-/// can be cancelled, so nobody on it is marked.
+/// can be cancelled, so nobody on it must cancel.
 pub fn by_two_ways()
     ensures request { cancel 0 two_ways ≡ answers true (0 ∷ 1 ∷ 3 ∷ 2 ∷ []) two_ways_cancelled }
     ensures already_seen { cancel_with 0 (0 ∷ []) two_ways ≡ answers true (0 ∷ []) two_ways }
@@ -69,23 +69,23 @@ pub fn by_two_ways()
     ensures not_round { leads two_ways 3 3 ≡ false }
 {}
 
-/// No circle is closed: the wait that would is refused. So a request to either task ends where the
+/// No cycle is closed: the wait that would is refused. So a request to either task ends where the
 /// refused one will be stepped.
-pub fn round_no_circle()
+pub fn round_no_cycle()
     ensures leads_back { leads awaited_runs 0 1 ≡ true }
     ensures refused { suspend 1 0 awaited_runs ≡ unbooked (refused 0 0) }
-    ensures of_two { cancel 0 (refused 0 0) ≡ answers true (0 ∷ 1 ∷ []) (refused_marked 1 1) }
+    ensures of_two { cancel 0 (refused 0 0) ≡ answers true (0 ∷ 1 ∷ []) (refused_must_cancel 1 1) }
     ensures from_the_other_side { cancel 1 (refused 0 0)
-        ≡ answers true (1 ∷ []) (refused_marked 0 1) }
+        ≡ answers true (1 ∷ []) (refused_must_cancel 0 1) }
     ensures leads_round { leads member_runs 2 1 ≡ true }
     ensures not_back { leads member_runs 2 0 ≡ false }
     ensures refused_many { suspend 1 2 member_runs ≡ unbooked member_refused }
     ensures through_many { cancel 0 member_refused
-        ≡ answers true (0 ∷ 1 ∷ []) member_refused_marked }
+        ≡ answers true (0 ∷ 1 ∷ []) member_refused_must_cancel }
 {}
 
-/// A task that waits for nothing is marked, and a count at its greatest stays.
+/// A task that waits for nothing must cancel, and a count at its greatest stays.
 pub fn a_task_that_waits_for_nothing()
-    ensures marked { cancel 0 free_task ≡ answers true (0 ∷ []) free_task_cancelled }
+    ensures must_cancel { cancel 0 free_task ≡ answers true (0 ∷ []) free_task_cancelled }
     ensures at_the_greatest { cancel 0 full_count ≡ answers true (0 ∷ []) full_count_cancelled }
 {}

@@ -3,7 +3,7 @@ ghost use Rattle.std.specs.Prelude.{◌≡◌, [], ◌∷◌, true, false};
 ghost use Rattle.model_loop.specs.Ending.{cancel_everything};
 ghost use Rattle.model_loop.specs.Ledger.{ByScript, ByTimeout, ByGroup, Asked, Raised, Took, request, uncancel_by};
 ghost use Rattle.row_loop.specs.Cancels.{chain, chain_cancelled, all_done, full_count, full_count_cancelled};
-ghost use Rattle.row_loop.specs.Steps.{running_marked};
+ghost use Rattle.row_loop.specs.Steps.{running_must_cancel};
 ghost use Rattle.row_loop.specs.Ledgers.{main_done, all_cancelled, requested};
 
 /// A request is booked with each count that it raises, in the order in which it comes to the tasks.
@@ -20,10 +20,10 @@ pub fn books_requests()
 
 /// An `uncancel` is booked, with whether the count fell.
 pub fn books_what_is_taken_back()
-    ensures lowers { uncancel_by (ByScript 0) 0 (running_marked 2)
-        ≡ record { parts = running_marked 1; entries = Took 0 (ByScript 0) true ∷ [] } }
-    ensures at_none { uncancel_by (ByTimeout 3) 0 (running_marked 0)
-        ≡ record { parts = running_marked 0; entries = Took 0 (ByTimeout 3) false ∷ [] } }
+    ensures lowers { uncancel_by (ByScript 0) 0 (running_must_cancel 2)
+        ≡ record { parts = running_must_cancel 1; entries = Took 0 (ByScript 0) true ∷ [] } }
+    ensures at_none { uncancel_by (ByTimeout 3) 0 (running_must_cancel 0)
+        ≡ record { parts = running_must_cancel 0; entries = Took 0 (ByTimeout 3) false ∷ [] } }
 {}
 
 /// At the end of a run each task that lives is cancelled by a request of its own.

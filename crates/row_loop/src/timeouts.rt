@@ -5,7 +5,7 @@ ghost use Rattle.model_value.specs.declared.action.Action.TheVariants.{Wakeup};
 ghost use Rattle.model_value.specs.Value.{exception_of};
 ghost use Rattle.model_loop.specs.Loop.{Active, Expiring, Expired, Finished, in_parts};
 ghost use Rattle.model_loop.specs.Tasks.{cancelled_error};
-ghost use Rattle.model_loop.specs.Timeouts.{enter_timeout, reschedule, reschedule_fault, fire, exit_timeout, has_expired};
+ghost use Rattle.model_loop.specs.Timeouts.{enter_timeout, reschedule, reschedule_exception, fire, exit_timeout, has_expired};
 ghost use Rattle.law_steps.specs.Frames.{taken};
 ghost use Rattle.row_loop.specs.Made.{handle, value_error};
 ghost use Rattle.row_loop.specs.Nested.{before, entered, both_due, outer_fired, both_fired, stepping, both_asked, inner_took, outer_took, alone_due, alone_later, alone_soon, alone_never, alone_left, alone_waiting, alone_waited, expiring_alone, expiring_and_asked, expiring_and_lowered, fires_inner, left};
@@ -33,7 +33,7 @@ pub fn reschedules()
     ensures before_the_start { reschedule 0 (Some (negsuc 0)) alone_due ≡ alone_soon }
     ensures never { reschedule 0 None alone_due ≡ alone_never }
     ensures refused { reschedule 0 (Some (pos 99)) alone_left ≡ alone_left }
-    ensures text { reschedule_fault Finished
+    ensures text { reschedule_exception Finished
         ≡ exception_of RuntimeError (codes "Cannot change state of finished Timeout") }
 {}
 

@@ -1,4 +1,4 @@
-//! Cancel requests, and waiting in a circle.
+//! Cancel requests, and waiting in a cycle.
 #![tactic(auto, unfolding(model_text::specs::Tokens::tokens_of, model_text::specs::Pieces::piece_at, model_text::specs::Tokens::piece_tokens, model_text::specs::Levels::term_of, model_text::specs::Forms::form_of, model_text::specs::FirstPass::forms_from, model_text::specs::SecondPass::second_pass, model_text::specs::Bodies::statements_in, model_text::specs::Scripts::script_of, model_says::specs::Says::course, model_machine::specs::Replies::reply, model_machine::specs::Step::serve, model_machine::specs::Step::step, model_machine::specs::Turn::effect, model_machine::specs::Turn::run_below, model_machine::specs::Turn::turn, model_machine::specs::Run::run_on))]
 
 ghost use Rattle.std.specs.Prelude.{◌≡◌, [], ◌∷◌};
@@ -11,13 +11,13 @@ pub fn goes_down_the_chain()
         ≡ goes_down_the_chain_seen }
 {}
 
-/// A task cancels itself and takes it back: the mark stays, and is thrown at its next step.
+/// A task cancels itself and takes it back: must_cancel stays, and is thrown at its next step.
 pub fn taken_back()
     ensures { seen taken_back_text (0 ∷ 0 ∷ 0 ∷ []) ≡ taken_back_seen }
 {}
 
-/// Two cancels come before the task goes on: one ends its sleep, the other marks it, and one throw
-/// uses both up.
+/// Two cancels come before the task goes on: one ends its sleep, the other sets must_cancel of it,
+/// and one throw uses both up.
 pub fn two_before_one_step()
     ensures { seen two_before_one_step_text (0 ∷ 0 ∷ 0 ∷ 0 ∷ 0 ∷ 0 ∷ [])
         ≡ two_before_one_step_seen }
@@ -34,13 +34,13 @@ pub fn left_behind()
     ensures { seen left_behind_text (0 ∷ 0 ∷ 0 ∷ 0 ∷ 0 ∷ []) ≡ left_behind_seen }
 {}
 
-/// What is done is awaited at once, whatever the mark says: the mark is used up at the next
+/// What is done is awaited at once, whatever must_cancel says: must_cancel is used up at the next
 /// `yield`.
 pub fn done_is_awaited_at_once()
     ensures { seen done_text (0 ∷ 0 ∷ 0 ∷ []) ≡ done_seen }
 {}
 
-/// A task that is marked and returns ends cancelled.
+/// A task that must cancel and returns ends cancelled.
 pub fn returns_while_marked()
     ensures { seen returning_text (0 ∷ 0 ∷ []) ≡ returning_seen }
 {}

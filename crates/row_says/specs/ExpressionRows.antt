@@ -8,14 +8,14 @@ use Rattle.model_tree.specs.declared.function.Function.TheVariants.{Len, Str, Ki
 use Rattle.model_tree.specs.declared.function.Function.TheVariants as function
 use Rattle.model_tree.specs.Syntax.{Expr, Or, And, Not, Negate, Index, Apply, MakeError}
 use Rattle.model_says.specs.Expressions.{value_of}
-use Rattle.model_says.specs.Operations.{ValueOrFault, bad_operand, out_of_range, division_by_zero, index_out_of_range, not_utf8}
+use Rattle.model_says.specs.Operations.{ValueOrException, bad_operand, out_of_range, division_by_zero, index_out_of_range, not_utf8}
 use Rattle.model_says.specs.Variables.{Env}
 use Rattle.row_says.specs.Written.{none, yes, no, int, text, bytes, var, list, ◌plus◌, ◌less◌, ◌times◌, ◌over◌, ◌modulo◌, ◌equals◌, ◌differs◌, ◌below◌}
 use Rattle.row_says.specs.Written.{◌atmost◌, ◌above◌, ◌atleast◌}
 
 pub record ExpressionRow : Type 0 where
   pub expr : Expr
-  pub expected : ValueOrFault
+  pub expected : ValueOrException
 
 -- what the variables of the rows hold: an exception with bytes, and one with a member
 abbrev cut_short : Exc
@@ -24,10 +24,10 @@ cut_short = exc IncompleteReadError (codes "cut") (1 ∷ 2 ∷ []) (exc_then (ex
 abbrev env : Env
 env = record { name = codes "e"; value = Exception cut_short } ∷ record { name = codes "n"; value = Nothing } ∷ []
 
-abbrev pub found : ExpressionRow → ValueOrFault
+abbrev pub found : ExpressionRow → ValueOrException
 found row = value_of row.expr env
 
-abbrev pub expected : ExpressionRow → ValueOrFault
+abbrev pub expected : ExpressionRow → ValueOrException
 expected row = row.expected
 
 infix 6 ◌gives◌

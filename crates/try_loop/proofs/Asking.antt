@@ -4,7 +4,7 @@ use Rattle.model_machine.specs.Extra as extra
 use Rattle.model_machine.specs.Extra.{ExtraAnswer}
 use Rattle.model_machine.specs.State.{State}
 use Rattle.refine_parts.proofs.Appending.{extends_same}
-use Rattle.aio_task.specs.Keeps.{Ties}
+use Rattle.aio_task.specs.Keeps.{NameMap}
 use Rattle.aio_task.specs.View.{View}
 use Rattle.aio_extra.specs.Called.{CallsAs, IsServed, SaysAs}
 use Rattle.aio_extra.specs.declared.asked.Asked.{Asked}
@@ -12,10 +12,10 @@ use Rattle.aio_extra.specs.declared.asked.Asked.TheVariants.{Answer, Raise, Wait
 use Rattle.try_loop.specs.Asker.{Says, asker, bytes_by, only_says}
 use Rattle.try_loop.specs.declared.asker.Asker.{Asker}
 
-module _ (running : Option ℕ) (t : Ties) (s : State (Unit {0})) (x y : Asker) (v : View) (h : IsServed asker running t s x v) where
+module _ (running : Option ℕ) (t : NameMap) (s : State (Unit {0})) (x y : Asker) (v : View) (h : IsServed asker running t s x v) where
   calls_so : (it : ExtraAnswer) → CallsAs asker t s v v y (only_says it).call
   calls_so it = record {
-    ties = t;
+    name_map = t;
     keeps = h.keeps;
     extends = extends_same t s.loop.parts;
     stands = tt;

@@ -20,12 +20,12 @@ use Rattle.law_steps.proofs.CancelSound.{plain_within}
 use Rattle.law_steps.proofs.Settling.{IsSettled, settle_cases}
 use Rattle.refine_parts.proofs.Appending.{extends_on, extends_same, kept_soon}
 use Rattle.refine_parts.proofs.Calls.{keeps_plain, kept_settle, new_stays}
-use Rattle.refine_parts.proofs.Only.{make_ties}
+use Rattle.refine_parts.proofs.Only.{make_name_map}
 use Rattle.refine_parts.proofs.Telling.{next_kept, owner_kept}
 use Rattle.aio_ready.specs.Queue as queue
 use Rattle.aio_ready.specs.Queue.{Queue}
 use Rattle.aio_future.specs.Settled as settled
-use Rattle.aio_task.specs.Keeps.{Extends, Keeps, Kept, Ties}
+use Rattle.aio_task.specs.Keeps.{Extends, Keeps, Kept, NameMap}
 use Rattle.aio_task.specs.View.{View}
 use Rattle.aio_extra.specs.Called.{AnswersAs, CallsAs, IsServed, MayServe, SaysAs}
 use Rattle.aio_extra.specs.declared.asked.Asked.{Asked}
@@ -82,7 +82,7 @@ below_all : (actions : List Action) (q : Queue) → (queue.soon_all actions q).b
 below_all [] q = refl
 below_all (action ∷ actions) q = below_all actions (queue.soon action q)
 
-module _ (running : Option ℕ) (t : Ties) (s : State next.MadeFutures) (x : NextTurn) (v : View) (h : IsServed next_turn running t s x v) where
+module _ (running : Option ℕ) (t : NameMap) (s : State next.MadeFutures) (x : NextTurn) (v : View) (h : IsServed next_turn running t s x v) where
   abbrev p : Parts
   p = s.loop.parts
 
@@ -92,7 +92,7 @@ module _ (running : Option ℕ) (t : Ties) (s : State next.MadeFutures) (x : Nex
   -- ---- nothing changes
   stays_so : CallsAs next_turn t s v v x (stays s)
   stays_so = record {
-    ties = t;
+    name_map = t;
     keeps = h.keeps;
     extends = extends_same t p;
     stands = h.stands;
@@ -121,20 +121,20 @@ module _ (running : Option ℕ) (t : Ties) (s : State next.MadeFutures) (x : Nex
     kept : Kept t (new_plain p) (record grown { queue = queue.soon (Acts (length s.extra)) v.queue }) q
     kept = (kept_soon t grown (new_plain p) (keeps_plain t v p h.keeps) (Acts (length s.extra))).0
 
-    extends : Extends p t q kept.ties
-    extends = extends_on t t kept.ties p (new_plain p) q (make_ties t Plain p) kept.extends
+    extends : Extends p t q kept.name_map
+    extends = extends_on t t kept.name_map p (new_plain p) q (make_name_map t Plain p) kept.extends
 
     is_kept : w ≡ record grown { queue = queue.soon (Acts (length s.extra)) v.queue }
     is_kept = is ∙ ap (λ n. record grown { queue = queue.soon (Acts n) v.queue }) (ap length h.stands.0)
 
-    new_gone : kept.ties.gone (next_future p) ≡ false
+    new_gone : kept.name_map.gone (next_future p) ≡ false
     new_gone = ap (λ f. f (next_future p)) extends.gone ∙ new_stays t v p h.keeps
 
-    own : (id : ℕ) → IsOwn s.extra id ⊎ (id ≡ next_future p) → (is_plain q id ≡ true) × (kept.ties.gone id ≡ false)
+    own : (id : ℕ) → IsOwn s.extra id ⊎ (id ≡ next_future p) → (is_plain q id ≡ true) × (kept.name_map.gone id ≡ false)
     own id (inl old) = (made_stays p id (was id old).0, ap (λ f. f id) extends.gone ∙ (was id old).1)
     own id (inr new) = (
       ap (is_plain q) new ∙ ap is_plain_at (get-push_last p.futures fresh),
-      ap kept.ties.gone new ∙ new_gone,
+      ap kept.name_map.gone new ∙ new_gone,
     )
 
     since : (id : ℕ) → IsOwn s.extra id ⊎ (id ≡ next_future p) → IsOwn s.extra id ⊎ (next_future p ≤ id)
@@ -143,8 +143,8 @@ module _ (running : Option ℕ) (t : Ties) (s : State next.MadeFutures) (x : Nex
 
     waits_calls : CallsAs next_turn t s v w y (waits s).call
     waits_calls = record {
-      ties = kept.ties;
-      keeps = subst (λ z. Keeps kept.ties z q) (sym is_kept) kept.keeps;
+      name_map = kept.name_map;
+      keeps = subst (λ z. Keeps kept.name_map z q) (sym is_kept) kept.keeps;
       extends = extends;
       stands = (
         made ∙ ap (λ n. x.made.items ++ n ∷ []) number ∙ ap (λ xs. xs ++ next_future p ∷ []) h.stands.0,
@@ -162,10 +162,10 @@ module _ (running : Option ℕ) (t : Ties) (s : State next.MadeFutures) (x : Nex
     waits_so asked e = record {
       calls = waits_calls;
       answers =
-          subst (λ a. AnswersAs next_turn kept.ties (called (waits s).call s) a (extra.Waits (next_future p) (length s.extra))) (sym e) (
+          subst (λ a. AnswersAs next_turn kept.name_map (called (waits s).call s) a (extra.Waits (next_future p) (length s.extra))) (sym e) (
             number,
             ap length h.stands.0,
-            ap kept.ties.gone number ∙ new_gone,
+            ap kept.name_map.gone number ∙ new_gone,
             λ plain. inr (length s.extra, get-push_last s.extra (next_future p) ∙ ap Some (sym number)),
           );
     }
@@ -211,8 +211,8 @@ module _ (running : Option ℕ) (t : Ties) (s : State next.MadeFutures) (x : Nex
 
       settles : CallsAs next_turn t s v w x call
       settles = record {
-        ties = kept.ties;
-        keeps = subst (λ z. Keeps kept.ties z (settle id outcome p)) (sym is_after) kept.keeps;
+        name_map = kept.name_map;
+        keeps = subst (λ z. Keeps kept.name_map z (settle id outcome p)) (sym is_after) kept.keeps;
         extends = kept.extends;
         stands = (
           h.stands.0,

@@ -16,7 +16,7 @@ use Rattle.model_machine.specs.Sound.{names_made}
 use Rattle.model_machine.specs.State.{State}
 use Rattle.law_runs.specs.Allowed.{AreAllowed, IsAnswerAllowed, IsSaidAllowed, MakesAllowedSteps}
 use Rattle.law_steps.proofs.CancelSound.{plain_within}
-use Rattle.aio_task.specs.Keeps.{Ties}
+use Rattle.aio_task.specs.Keeps.{NameMap}
 use Rattle.aio_extra.specs.Added.{Added, GoesBeside}
 use Rattle.try_loop.specs.Wanted.{wanted_by, told}
 use Rattle.try_loop.specs.declared.next_turn.NextTurn.{NextTurn}
@@ -79,11 +79,11 @@ next_turn_means =
 abbrev pub IsOwn : MadeFutures → ℕ → Type 0
 IsOwn kept id = (place : ℕ) × (slice_get kept place ≡ Some id)
 
--- the futures are the same, and each is a plain one, which wasn't let go
-abbrev pub StandsForMade : Ties → Parts → NextTurn → MadeFutures → Type 0
+-- the futures are the same, and each is a plain one, which wasn't released
+abbrev pub StandsForMade : NameMap → Parts → NextTurn → MadeFutures → Type 0
 StandsForMade t p x kept = (x.made.items ≡ kept) × ((id : ℕ) → IsOwn kept id → (is_plain p id ≡ true) × (t.gone id ≡ false))
 
-pub goes_on : (t u : Ties) (p q : Parts) (x : NextTurn) (kept : MadeFutures) → StandsForMade t p x kept → GoesBeside (IsOwn kept) t p u q
+pub goes_on : (t u : NameMap) (p q : Parts) (x : NextTurn) (kept : MadeFutures) → StandsForMade t p x kept → GoesBeside (IsOwn kept) t p u q
     → StandsForMade u q x kept
 goes_on t u p q x kept h beside = (h.0, λ id own. (beside.plain id (h.1 id own).0, beside.gone id own ∙ (h.1 id own).1))
 

@@ -21,8 +21,9 @@ pub fn awaits_another(alloc: Global, still: &mut Still) -> Result<bool, Memory> 
     Ok(waits && woken && !still.parts().is_pending(own) && !still.parts().is_pending(on))
 }
 
-/// A marked task is resumed with CancelledError once; what it counts is taken back one by one.
-pub fn mark_is_used_up(alloc: Global, still: &mut Still) -> Result<bool, Memory> {
+/// A task that must cancel is resumed with CancelledError once; what it counts is taken back one by
+/// one.
+pub fn must_cancel_is_used_up(alloc: Global, still: &mut Still) -> Result<bool, Memory> {
     let task = still.spawn(alloc)?;
     let own = still.parts().future_of(task);
     let asked = still.cancel(own) && still.cancel(own);

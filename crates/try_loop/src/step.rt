@@ -25,7 +25,7 @@ pub enum CameTo {
     /// The task was resumed with a CancelledError.
     Thrown(u32),
     /// It awaited what would never end.
-    Circle(u32),
+    Cycle(u32),
 }
 
 fn task_of(action: &Action) -> Option<u32>
@@ -33,7 +33,7 @@ fn task_of(action: &Action) -> Option<u32>
 {
     match action {
         Action::Step(task) => Some(*task),
-        Action::StepInCircle { task, circle: _ } => Some(*task),
+        Action::StepInCycle { task, cycle: _ } => Some(*task),
         Action::Wakeup(task) => Some(*task),
         _ => None,
     }

@@ -50,7 +50,7 @@ impl<N: InboxName, R: Wait> Launcher<Inbox<N>, Poster<N>> for PlayLauncher<N, R>
             (untold self.old.faults) (untold self.new.faults)) }
         ensures none { OnErr result (StartsNone (untold self.old.faults)
             (untold self.new.faults)) }
-        ensures later { self.old.faults ≤ self.new.faults }
+        ensures monotone { self.old.faults ≤ self.new.faults }
     {
         if self.refuses() {
             self.faults = self.faults.saturating_add(1);

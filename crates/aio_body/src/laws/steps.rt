@@ -15,27 +15,28 @@ ghost use Rattle.aio_ready.specs.Queue.{soon_all};
 ghost use Rattle.aio_future.specs.Settled.{called, settled};
 ghost use Rattle.aio_cancel.specs.Awaitables.{Appended};
 ghost use Rattle.aio_task.specs.View.{View, parts};
-ghost use Rattle.aio_body.specs.Asked.{HasRested, IsInStep};
-ghost use Rattle.aio_body.specs.Stands.{Setting};
-ghost use Rattle.aio_body.specs.declared.body.Body.{Body};
+ghost use Rattle.aio_body.specs.Asked.{HasSuspended, IsInStep};
+ghost use Rattle.aio_body.specs.Stands.{Context};
+ghost use Rattle.aio_body.specs.declared.run_state.RunState.{RunState};
 
 use aio_extra::Extra;
 
 /// A pause ends the step.
-pub fn a_pause_rests<X: Extra>()
-    ensures { (task : ℕ) (c : Setting X.added) (old : Body X) (s : State X.added.Kept) (v : View)
+pub fn a_pause_suspends<X: Extra>()
+    ensures { (task : ℕ) (c : Context X.added) (old : RunState X) (s : State X.added.Kept)
+        (v : View)
         → IsInStep task c old s
         → parts v ≡ pause task (parts old.parts)
         → v ≡ record old.parts {
           queue = queue.soon (action.Step task) old.parts.queue;
           running = None;
         }
-        → HasRested task c (record old { parts = v }) (unbooked_in (pause task) s) }
+        → HasSuspended task c (record old { parts = v }) (unbooked_in (pause task) s) }
 {}
 
 /// A cancel is asked for, whoever asks.
 pub fn a_cancel_is_asked_for<X: Extra>()
-    ensures { (by : Origin) (task id : ℕ) (c : Setting X.added) (old : Body X)
+    ensures { (by : Origin) (task id : ℕ) (c : Context X.added) (old : RunState X)
         (s : State X.added.Kept) (v : View) → IsInStep task c old s
         → parts v ≡ (cancel id (parts old.parts)).parts → Appended old.parts.queue v.queue
         → v ≡ record old.parts { queue = v.queue; futures = v.futures; tasks = v.tasks }
@@ -45,7 +46,7 @@ pub fn a_cancel_is_asked_for<X: Extra>()
 
 /// A future is made that the script names, and one that is no task's gets its outcome.
 pub fn futures_are_made_and_settled<X: Extra>()
-    ensures made { (task : ℕ) (c : Setting X.added) (old new : Body X) (s : State X.added.Kept)
+    ensures made { (task : ℕ) (c : Context X.added) (old new : RunState X) (s : State X.added.Kept)
         (v : View) → IsInStep task c old s
         → OwnsFutures s.loop.parts
         → v ≡ record old.parts {
@@ -58,7 +59,7 @@ pub fn futures_are_made_and_settled<X: Extra>()
         → IsInStep task c new
         (unbooked_in new_plain
         (record s { futures = s.futures ++ next_future s.loop.parts ∷ [] })) }
-    ensures settled { (task id : ℕ) (outcome : Outcome) (c : Setting X.added) (old : Body X)
+    ensures settled { (task id : ℕ) (outcome : Outcome) (c : Context X.added) (old : RunState X)
         (s : State X.added.Kept) (v : View) → IsInStep task c old s
         → owner_of s.loop.parts id ≡ None
         → v ≡ record old.parts {

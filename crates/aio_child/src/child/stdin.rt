@@ -143,7 +143,7 @@ impl Child {
     /// New marks, unless they are refused. It changes no futures.
     pub fn limits(&mut self, high: Option<i64>, low: Option<i64>) -> Limited
         ensures is { plain.limits_child high low self.old ≡ Ends (self.new, result) }
-        ensures beside { self.new ≡ record self.old {
+        ensures frame { self.new ≡ record self.old {
           stdin = senders.with_writer self.new.stdin.writer self.old.stdin;
         } }
         ensures own { (v : View) → OwnsChild v self.old → OwnsChild v self.new }

@@ -139,7 +139,7 @@ impl Connection {
     /// New marks, unless they are refused. It changes no futures.
     pub fn limits(&mut self, high: Option<i64>, low: Option<i64>) -> Limited
         ensures is { plain.limits_of high low self.old ≡ Ends (self.new, result) }
-        ensures beside { self.new ≡ record self.old {
+        ensures frame { self.new ≡ record self.old {
           sender = senders.with_writer self.new.sender.writer self.old.sender;
         } }
         ensures own { (v : View) → OwnsConnection v self.old → OwnsConnection v self.new }

@@ -109,7 +109,7 @@ impl Sender {
     /// New marks, unless they are refused.
     pub fn limits(&mut self, high: Option<i64>, low: Option<i64>) -> Limited
         ensures is { plain.limits_sender high low self.old ≡ Ends (self.new, result) }
-        ensures beside { self.new ≡ plain.with_writer self.new.writer self.old }
+        ensures frame { self.new ≡ plain.with_writer self.new.writer self.old }
     {
         self.set_limits(high, low)
     }

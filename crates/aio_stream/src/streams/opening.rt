@@ -4,7 +4,7 @@ ghost use Rattle.std.specs.Option.{option_map};
 ghost use Rattle.model_stream.specs.Connections.{Connection as PlainConnection};
 ghost use Rattle.model_stream.specs.Streams.{Streams as PlainStreams, handler_of};
 ghost use Rattle.aio_stream.specs.Kept.{all_opened};
-ghost use Rattle.aio_stream.specs.Standing.{StandsFor};
+ghost use Rattle.aio_stream.specs.Standing.{StreamStandsFor};
 
 use super::Streams;
 use crate::opened::Opened;
@@ -57,7 +57,7 @@ impl Streams {
 
     /// The coroutine that handles a connection that was accepted, which `made` starts.
     pub fn handler_of(&self, id: u32) -> Option<u32>
-        ensures { (s : PlainStreams) → StandsFor self.now s → result ≡ handler_of id s }
+        ensures { (s : PlainStreams) → StreamStandsFor self.now s → result ≡ handler_of id s }
     {
         let connection = self.connections.get(id as usize)?;
         connection.handler()

@@ -5,7 +5,7 @@ ghost use Rattle.model_loop.specs.Parts as plain;
 ghost use Rattle.model_loop.specs.Futures.{is_pending_at, outcome_at};
 ghost use Rattle.model_loop.specs.Totals.{callbacks_at};
 ghost use Rattle.model_loop.specs.Owning.{owner_at};
-ghost use Rattle.algorithm_parts.specs.Forgotten.{released};
+ghost use Rattle.algorithm_parts.specs.Released.{released};
 ghost use Rattle.aio_ready.specs.Queue as queue;
 ghost use Rattle.aio_future.specs.Kinds.{is_asked};
 ghost use Rattle.aio_future.specs.Settled.{settled, called, registered, soon_if_done, asked};
@@ -93,7 +93,7 @@ impl Parts {
         self.body.futures.outcome(id)
     }
 
-    /// A future is let go that is no task's, and is done or has no callbacks. From then on it
+    /// A future is released that is no task's, and is done or has no callbacks. From then on it
     /// stands as a done one without callbacks, and its memory is free.
     pub fn release(&mut self, id: FutureId)
         requires idle { self.old.called ≡ None }

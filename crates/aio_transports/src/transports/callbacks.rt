@@ -54,7 +54,7 @@ impl Transports {
             | Action::HandlerDone { conn: _, task: _ }
             | Action::Made(_)
             | Action::Step(_)
-            | Action::StepInCircle { task: _, circle: _ }
+            | Action::StepInCycle { task: _, cycle: _ }
             | Action::Wakeup(_)
             | Action::SleepDone { task: _, future: _ }
             | Action::GroupDone { group: _, task: _ }

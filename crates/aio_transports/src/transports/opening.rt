@@ -5,7 +5,7 @@ ghost use Rattle.aio_exchange.specs.Follows.{reach};
 ghost use Rattle.aio_task.specs.View.{View};
 ghost use Rattle.aio_transports.specs.Kept.{with_launched};
 ghost use Rattle.aio_transports.specs.Owned.{OwnsTransports};
-ghost use Rattle.aio_transports.specs.Standing.{Answers, StandsFor};
+ghost use Rattle.aio_transports.specs.Standing.{Answers, TransportsStandFor};
 
 use super::Transports;
 use super::remaining::Remaining;
@@ -20,7 +20,7 @@ use std::alloc::Global;
 impl Transports {
     /// Nothing was opened so far, and so many of each kind can be numbered.
     pub fn new(alloc: Global, most: u32) -> Transports
-        ensures stands { StandsFor result (plain.no_streams most) }
+        ensures stands { TransportsStandFor result (plain.no_streams most) }
         ensures own { (v : View) → OwnsTransports v result }
     {
         Transports {
@@ -32,7 +32,8 @@ impl Transports {
 
     /// Whether one more listener can be numbered.
     pub fn may_listen(&self) -> bool
-        ensures is { (s : plain.Streams) → StandsFor self.now s → result ≡ plain.may_listen s }
+        ensures is { (s : plain.Streams) → TransportsStandFor self.now s
+            → result ≡ plain.may_listen s }
         ensures room { result ≡ true → length self.now.streams.servers < 2 ^ 32 }
     {
         self.streams.may_listen()
@@ -40,7 +41,8 @@ impl Transports {
 
     /// Whether one more connection can be numbered.
     pub fn may_connect(&self) -> bool
-        ensures is { (s : plain.Streams) → StandsFor self.now s → result ≡ plain.may_connect s }
+        ensures is { (s : plain.Streams) → TransportsStandFor self.now s
+            → result ≡ plain.may_connect s }
         ensures room { result ≡ true → length self.now.streams.connections < 2 ^ 32 }
     {
         self.streams.may_connect()
@@ -48,7 +50,8 @@ impl Transports {
 
     /// Whether one more child can be numbered.
     pub fn may_launch(&self) -> bool
-        ensures is { (s : plain.Streams) → StandsFor self.now s → result ≡ plain.may_launch s }
+        ensures is { (s : plain.Streams) → TransportsStandFor self.now s
+            → result ≡ plain.may_launch s }
         ensures room { result ≡ true → length self.now.children.children < 2 ^ 32 }
     {
         self.children.may_launch()

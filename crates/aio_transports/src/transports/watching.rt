@@ -6,7 +6,7 @@ ghost use Rattle.model_stream.specs.Watching.{watch_list};
 ghost use Rattle.aio_stream.specs.Kept.{all_opened, opened_as};
 ghost use Rattle.aio_stream.specs.Watched.{entries};
 ghost use Rattle.aio_transports.specs.Kept.{all_seen, since};
-ghost use Rattle.aio_transports.specs.Standing.{StandsFor};
+ghost use Rattle.aio_transports.specs.Standing.{TransportsStandFor};
 ghost use Rattle.aio_transports.specs.Watched.{watched_of, without_gone};
 
 use super::Transports;
@@ -19,8 +19,8 @@ impl Transports {
     /// same streams as before. It goes over what may still be watched alone, and leaves out of that
     /// for good what is gone. After want of memory nothing is promised, of either.
     pub fn watch(&mut self, into: &mut Vec<Watch>) -> Result<(), Memory>
-        ensures { OnOk result ((s : PlainStreams) → StandsFor self.old s
-            → StandsFor self.new s × (into.new.items ≡ into.old.items ++ watch_list s)) }
+        ensures { OnOk result ((s : PlainStreams) → TransportsStandFor self.old s
+            → TransportsStandFor self.new s × (into.new.items ≡ into.old.items ++ watch_list s)) }
     {
         self.see()?;
         self.drop_gone();
@@ -29,7 +29,7 @@ impl Transports {
 
     /// Whether a select watches anything.
     pub fn is_watched(&self) -> bool
-        ensures { (s : PlainStreams) → StandsFor self.now s
+        ensures { (s : PlainStreams) → TransportsStandFor self.now s
             → result ≡ not (length (watch_list s) == 0) }
     {
         self.watches_remaining() || self.watches_since()

@@ -20,7 +20,7 @@ loop-go-init c =
     record {
       walks =
           rw (c.requires.room.empty, c.requires.room.unseen)
-          (walk_begins a.stack.now.room a.seen.now.tasks a.target (parts a.body.now) c.requires.no_circle c.requires.room.fits c.requires.room.marked);
+          (walk_begins a.stack.now.room a.seen.now.tasks a.target (parts a.body.now) c.requires.no_cycle c.requires.room.fits c.requires.room.marked);
       same =
           ap (λ (frames : List WalkFrame). run (Visit a.target) frames a.seen.now.visited (parts a.body.now)) c.requires.room.empty
           ∙ ap (λ (visited : List ℕ). run (Visit a.target) [] visited (parts a.body.now)) c.requires.room.unseen;

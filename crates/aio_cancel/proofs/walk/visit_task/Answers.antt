@@ -3,7 +3,7 @@ use Rattle.model_loop.specs.Tasks.{raise_count}
 use Rattle.algorithm_parts.specs.declared.walk.WalkFrame.TheVariants.{Waits}
 use Rattle.algorithm_parts.specs.declared.walk.Go.TheVariants.{Visit}
 use Rattle.algorithm_parts.proofs.WalkLemmas.{visit_waits}
-use Rattle.algorithm_parts.proofs.WeightLemmas.{weigh_answer, weigh_marked, weigh_waits}
+use Rattle.algorithm_parts.proofs.WeightLemmas.{weigh_answer, weigh_must_cancel, weigh_waits}
 use Rattle.algorithm_parts.proofs.RoomLemmas.{room_for, mark_for, walk_waits, walk_marks}
 use Rattle.aio_cancel.specs.Seen.{Stacked, Marked}
 use Rattle.aio_cancel.specs.Awaitables.{parts}
@@ -65,14 +65,14 @@ returns-in-None-clause-walks c =
     let a = c.args in
     rw (ap (λ (x : Marked). x.tasks) c.add.ensures)
     (walk_marks a.stack.now.room a.seen.now.tasks a.id a.task a.stack.now.frames a.seen.now.visited c.add.new.self.visited
-    (parts a.body.now) (parts c.raise.new.self) (parts c.mark.new.self) _ true c.requires.can
+    (parts a.body.now) (parts c.raise.new.self) (parts c.set_must_cancel.new.self) _ true c.requires.can
     (sym c.has.ensures ∙ c.if-has.false)
     (waits_for c.in-Some.found.now c.in-Some.ensures c.waiter-waiter.ensures) (ap (λ (x : Marked). x.visited) c.add.ensures)
-    c.raise.ensures.after c.mark.ensures.after)
+    c.raise.ensures.after c.set_must_cancel.ensures.after)
 
 pub returns-in-None-clause-falls : goal.returns-in-None-clause-falls
 returns-in-None-clause-falls c =
     let a = c.args in
-    weigh_marked a.task a.id true a.stack.now.frames a.seen.now.visited c.add.new.self.visited (parts a.body.now)
-    (parts c.raise.new.self) (parts c.mark.new.self) (ap (λ (x : Marked). x.visited) c.add.ensures)
-    c.raise.ensures.after c.mark.ensures.after
+    weigh_must_cancel a.task a.id true a.stack.now.frames a.seen.now.visited c.add.new.self.visited (parts a.body.now)
+    (parts c.raise.new.self) (parts c.set_must_cancel.new.self) (ap (λ (x : Marked). x.visited) c.add.ensures)
+    c.raise.ensures.after c.set_must_cancel.ensures.after

@@ -10,5 +10,5 @@ loop-k-preserved g c =
           (g.L.Launcher.seen c.kill_one.new.launcher).kills c.count_running-count.ensures.numbered c.kill_one.ensures.kills
           c.loop-k.invariant.kills;
       launches = c.kill_one.ensures.launches ∙ c.loop-k.invariant.launches;
-      later = omega (arith, c.kill_one.ensures.later, c.loop-k.invariant.later);
+      monotone = omega (arith, c.kill_one.ensures.monotone, c.loop-k.invariant.monotone);
     }

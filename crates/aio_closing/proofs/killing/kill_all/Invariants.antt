@@ -8,5 +8,5 @@ invariant-loop-k g l =
       kills : with_kills (kills_in (drop l.k (running_in l.roster.children))) (g.L.Launcher.seen l.launcher).kills
           ≡ with_kills (kills_in (running_in l.roster.children)) (g.L.Launcher.seen l.initial.launcher).kills;
       launches : (g.L.Launcher.seen l.launcher).launches ≡ (g.L.Launcher.seen l.initial.launcher).launches;
-      later : (g.L.Launcher.seen l.initial.launcher).faults ≤ (g.L.Launcher.seen l.launcher).faults;
+      monotone : (g.L.Launcher.seen l.initial.launcher).faults ≤ (g.L.Launcher.seen l.launcher).faults;
     }

@@ -13,5 +13,5 @@ loop-k-preserved g c =
       settled = omega (arith, one.settled, before.settled);
       runs = one.runs;
       none = (one.none.0 ∙ before.none.0, one.none.1 ∙ before.none.1);
-      later = omega (arith, one.later, before.later);
+      monotone = omega (arith, one.monotone, before.monotone);
     }

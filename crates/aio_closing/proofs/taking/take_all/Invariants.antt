@@ -11,5 +11,5 @@ invariant-loop-k g l =
       settled : SettlesMore (4 * l.k) l.initial.postbox l.postbox;
       runs : HaveRuns l.k l.roster l.lanes;
       none : StartsNone (g.L.Launcher.seen l.initial.launcher) (g.L.Launcher.seen l.launcher);
-      later : (g.L.Launcher.seen l.initial.launcher).faults ≤ (g.L.Launcher.seen l.launcher).faults;
+      monotone : (g.L.Launcher.seen l.initial.launcher).faults ≤ (g.L.Launcher.seen l.launcher).faults;
     }

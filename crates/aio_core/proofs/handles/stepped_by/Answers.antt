@@ -1,7 +1,7 @@
 use Rattle.std.proofs.Common.{◌≡◌, ◌⊎◌, inl, inr, None, ap}
 use Rattle.model_value.specs.Action.{Action}
 use Rattle.law_reach.specs.Changes.{runner_of}
-use Rattle.aio_core.proofs.Acting.{steps_circle, steps_plain, steps_woken, wakeup_begins}
+use Rattle.aio_core.proofs.Acting.{steps_cycle, steps_plain, steps_woken, wakeup_begins}
 use Rattle.aio_core.proofs.handles.stepped_by.Goals as goal
 
 pub woken_with-requires : goal.woken_with-requires
@@ -10,9 +10,9 @@ woken_with-requires g c = wakeup_begins c.in-Wakeup.task c.args.body.now (rw c.i
 pub returns-in-Step : goal.returns-in-Step
 returns-in-Step g c = rw c.in-Step.is (steps_plain c.args.body.now c.in-Step.task c.nothing.result c.nothing.ensures)
 
-pub returns-in_ok-fault-in-StepInCircle : goal.returns-in_ok-fault-in-StepInCircle
-returns-in_ok-fault-in-StepInCircle g c =
-    rw c.in-StepInCircle.is (steps_circle c.args.body.now c.in-StepInCircle.task c.in-StepInCircle.circle _ c.in_ok-fault-in-StepInCircle.ensures)
+pub returns-in_ok-fault-in-StepInCycle : goal.returns-in_ok-fault-in-StepInCycle
+returns-in_ok-fault-in-StepInCycle g c =
+    rw c.in-StepInCycle.is (steps_cycle c.args.body.now c.in-StepInCycle.task c.in-StepInCycle.cycle _ c.in_ok-fault-in-StepInCycle.ensures)
 
 pub returns-in_ok-input-in-Wakeup : goal.returns-in_ok-input-in-Wakeup
 returns-in_ok-input-in-Wakeup g c =

@@ -26,7 +26,7 @@ loop-task-preserved g c =
           (subst (HasCancelled g.X.Extra.added first (record l.body { parts = w.cancel-answer.new.self })) (plus_one l.task)
           (cancelled_more first l.body l.task w.cancel-answer.new.self l.invariant (told ∙ w.if-is_pending.true)
           (w.cancel-answer.ensures.after ∙ ap (λ id. (cancel id (parts l.body.parts)).parts) c.future_of-own.ensures)
-          w.cancel-answer.ensures.queue w.cancel-answer.ensures.beside))
+          w.cancel-answer.ensures.queue w.cancel-answer.ensures.frame))
       | else-is_pending w ↦
           subst (λ b. HasCancelled g.X.Extra.added first b (l.task + 1)) (sym w.body-is)
           (subst (HasCancelled g.X.Extra.added first l.body) (plus_one l.task) (cancelled_on first l.body l.task l.invariant (told ∙ w.if-is_pending.false)))

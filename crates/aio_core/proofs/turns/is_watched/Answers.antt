@@ -11,6 +11,6 @@ returns-then-is_watched g c =
 
 pub returns-else-is_watched : goal.returns-else-is_watched
 returns-else-is_watched g c =
-    λ d s h. c.watches.ensures h.stands.ties s.loop.parts s.extra h.stands.extra
+    λ d s h. c.watches.ensures h.stands.name_map s.loop.parts s.extra h.stands.extra
     ∙ any_else (watch_list s.streams) (g.X.Extra.added.meaning.watches s.extra)
     (sym (c.is_watched.ensures s.streams h.stands.transports) ∙ c.if-is_watched.false)

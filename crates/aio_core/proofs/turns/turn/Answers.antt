@@ -23,17 +23,17 @@ pub after-requires-clause-alive : goal.after-requires-clause-alive
 after-requires-clause-alive g c =
     alive_then g.X.Extra.added g.W.Wire.outside c.args.body.now c.in-Ok.call c.in-Ok.ensures.call
     (λ d s h. sym c.if-is_stalled.false ∙ c.is_stalled.ensures d s h) c.first_call.new.body c.in-Ok.ensures.stands c.in-Ok-ask.answer
-    c.ask.new.body c.in-Ok-ask.ensures.beside c.args.wire.now c.ask.new.wire c.in-Ok-ask.ensures.asked c.requires
+    c.ask.new.body c.in-Ok-ask.ensures.frame c.args.wire.now c.ask.new.wire c.in-Ok-ask.ensures.asked c.requires
 
 pub after-requires-clause-time : goal.after-requires-clause-time
 after-requires-clause-time g c =
     time_then g.X.Extra.added g.W.Wire.outside c.args.body.now c.in-Ok.call c.in-Ok.ensures.call
     (λ d s h. sym c.if-is_stalled.false ∙ c.is_stalled.ensures d s h) c.first_call.new.body c.in-Ok.ensures.stands c.in-Ok-ask.answer
-    c.ask.new.body c.in-Ok-ask.ensures.beside c.args.wire.now c.ask.new.wire c.in-Ok-ask.ensures.asked c.in-Ok.ensures.shape
+    c.ask.new.body c.in-Ok-ask.ensures.frame c.args.wire.now c.ask.new.wire c.in-Ok-ask.ensures.asked c.in-Ok.ensures.shape
 
 pub returns-in-Ok-ask : goal.returns-in-Ok-ask
 returns-in-Ok-ask g c =
     made_then g.X.Extra.added g.W.Wire.outside c.args.body.now c.in-Ok.call c.in-Ok.ensures.call
     (λ d s h. sym c.if-is_stalled.false ∙ c.is_stalled.ensures d s h) c.first_call.new.body c.in-Ok.ensures.stands c.in-Ok-ask.answer
-    c.ask.new.body c.in-Ok-ask.ensures.beside c.args.wire.now c.ask.new.wire c.in-Ok-ask.ensures.asked c.after.new.body c.after.new.wire
+    c.ask.new.body c.in-Ok-ask.ensures.frame c.args.wire.now c.ask.new.wire c.in-Ok-ask.ensures.asked c.after.new.body c.after.new.wire
     c.after.result c.after.ensures c.requires

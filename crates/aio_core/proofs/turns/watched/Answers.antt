@@ -8,7 +8,7 @@ returns-clause-list g c =
     λ d s h. list_so g.X.Extra.added.meaning s c.watch.new.into.items c.of.result c.watches.result
     ((c.in_ok-watch.ensures s.streams h.stands.transports).1 ∙ ap (λ list. list ++ watch_list s.streams)
     c.new-entries.ensures.items)
-    (c.watches.ensures h.stands.ties s.loop.parts s.extra h.stands.extra)
+    (c.watches.ensures h.stands.name_map s.loop.parts s.extra h.stands.extra)
     (c.of.ensures ∙ c.in_ok-put_extra.ensures)
 
 pub returns-clause-stands : goal.returns-clause-stands

@@ -21,7 +21,7 @@ loop-made-preserved g c =
       running = λ program begins.
           let under = l.invariant.running program begins in
           round_on {same_now = c.tell_next.new.shelf ≡ l.shelf} (g.W.Wire.outside.seen c.args.wire.now) under c.loop-made-test.true l.invariant.stays
-          (g.W.Wire.outside.quiet_on c.args.wire.now l.wire c.tell_next.new.wire under.still) (c.tell_next.new.shelf ≡ c.args.shelf.now)
+          (g.W.Wire.outside.quiet_on c.args.wire.now l.wire c.tell_next.new.wire under.unchanged) (c.tell_next.new.shelf ≡ c.args.shelf.now)
           (g.W.Wire.outside.fails c.tell_next.new.wire)
           c.in-Ok-None.field-0 c.in-Ok-None.field-0-is (c.in-Ok-None.ensures.turned (still_goes under));
       stays =
@@ -39,7 +39,7 @@ returns-in-Ok-Some-clause-drives g c = λ program begins.
     let under = l.invariant.running program begins in
     record {
       ok = round_ok (o.seen c.args.wire.now) under c.loop-made-test.true l.invariant.stays
-          (o.quiet_on c.args.wire.now l.wire c.tell_next.new.wire under.still) (c.tell_next.new.shelf ≡ c.args.shelf.now)
+          (o.quiet_on c.args.wire.now l.wire c.tell_next.new.wire under.unchanged) (c.tell_next.new.shelf ≡ c.args.shelf.now)
           c.in-Ok-Some.field-0 c.in-Ok-Some.status c.in-Ok-Some.field-0-is (c.in-Ok-Some.ensures.turned (still_goes under));
       err = tt;
       keeps = o.keeps_on c.args.wire.now l.wire c.tell_next.new.wire l.invariant.keeps c.tell_next.ensures.keeps;
@@ -53,7 +53,7 @@ returns-in-Err-clause-drives g c = λ program begins.
     record {
       ok = tt;
       err = round_err (o.seen c.args.wire.now) under c.loop-made-test.true l.invariant.stays
-          (o.quiet_on c.args.wire.now l.wire c.tell_next.new.wire under.still) (c.tell_next.new.shelf ≡ c.args.shelf.now)
+          (o.quiet_on c.args.wire.now l.wire c.tell_next.new.wire under.unchanged) (c.tell_next.new.shelf ≡ c.args.shelf.now)
           (λ same. sym (ap g.F.Shelf.seen same)) (λ same then. same ∙ then) c.in-Err.cut (c.in-Err.ensures.turned (still_goes under));
       keeps = o.keeps_on c.args.wire.now l.wire c.tell_next.new.wire l.invariant.keeps c.tell_next.ensures.keeps;
     }

@@ -21,7 +21,7 @@ loop-task-preserved c =
     let so = subst (λ left. AskedSoFar v w keys left) c.in-Some.ensures.steps c.loop-task.invariant in
     one_asked v w x c.in-Some.task.now keys c.next.new.self so
     (c.cancel-heard.ensures.after ∙ ap (λ i. (cancel i (parts w)).parts) c.future_of-future.ensures)
-    c.cancel-heard.ensures.queue c.cancel-heard.ensures.beside
+    c.cancel-heard.ensures.queue c.cancel-heard.ensures.frame
 
 pub returns-clause-moves : goal.returns-clause-moves
 returns-clause-moves c = c.loop-task.invariant.moves

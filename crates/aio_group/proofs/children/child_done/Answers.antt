@@ -3,7 +3,7 @@ use Rattle.std.specs.Prelude.{is_some}
 use Rattle.std.specs.Option.{option_copied}
 use Rattle.model_loop.specs.Groups as plain
 use Rattle.aio_group.specs.Held.{Held}
-use Rattle.aio_group.specs.Stands.{Steps}
+use Rattle.aio_group.specs.Stands.{GroupSteps}
 use Rattle.aio_group.proofs.Belonging.{belongs_on, belongs_as}
 use Rattle.aio_group.proofs.Going.{then_moves}
 use Rattle.aio_group.proofs.Stepping.{blamed, heard_child, done_steps, fails_steps, heard_belongs}
@@ -33,8 +33,8 @@ returns-then-not-failed-clause-steps c =
     let failed = c.is_some-failed.result in
     let b = heard_child a v child c.requires.child failed in
     let is = c.is_some-failed.ensures ∙ sym (copied_some c.failure_of.result) ∙ ap is_some c.failure_of.ensures in
-    let wake : Steps b v b w plain.wake_exit = subst (λ h. Steps h v h w plain.wake_exit) c.hear_of.ensures c.wake_exit.ensures.steps in
-    subst (λ h. Steps a v h w (λ id. plain.child_done id child)) (sym c.hear_of.ensures)
+    let wake : GroupSteps b v b w plain.wake_exit = subst (λ h. GroupSteps h v h w plain.wake_exit) c.hear_of.ensures c.wake_exit.ensures.steps in
+    subst (λ h. GroupSteps a v h w (λ id. plain.child_done id child)) (sym c.hear_of.ensures)
     (done_steps a v child c.requires.child failed is w wake c.if-not-failed.true)
 
 pub returns-clause-belongs : goal.returns-clause-belongs
@@ -61,6 +61,6 @@ returns-clause-steps c =
     let failed = c.is_some-failed.result in
     let b = heard_child a v child c.requires.child failed in
     let is = c.is_some-failed.ensures ∙ sym (copied_some c.failure_of.result) ∙ ap is_some c.failure_of.ensures in
-    let wake : Steps b v b w plain.wake_exit = subst (λ h. Steps h v h w plain.wake_exit) c.hear_of.ensures c.wake_exit.ensures.steps in
-    let blame : Steps b w c.blame.new.group x blamed = subst (λ h. Steps h w c.blame.new.group x blamed) c.hear_of.ensures c.blame.ensures.steps in
+    let wake : GroupSteps b v b w plain.wake_exit = subst (λ h. GroupSteps h v h w plain.wake_exit) c.hear_of.ensures c.wake_exit.ensures.steps in
+    let blame : GroupSteps b w c.blame.new.group x blamed = subst (λ h. GroupSteps h w c.blame.new.group x blamed) c.hear_of.ensures c.blame.ensures.steps in
     fails_steps a v child c.requires.child failed is w x c.blame.new.group wake blame c.if-not-failed.false

@@ -1,6 +1,6 @@
 use Rattle.std.proofs.Common.{subst, sym}
 use Rattle.model_loop.specs.Groups.{begin_exit, take_back, abort_if_raised}
-use Rattle.aio_group.specs.Stands.{Steps}
+use Rattle.aio_group.specs.Stands.{GroupSteps}
 use Rattle.aio_group.proofs.Going.{then_moves}
 use Rattle.aio_group.proofs.Standing.{then_steps}
 use Rattle.aio_group.proofs.Exiting.{begun_same}
@@ -24,7 +24,8 @@ returns-clause-steps c =
     let v = c.args.parts.now in
     let w = c.take_back.new.parts in
     let raised = c.args.raised in
-    let first : Steps a v b v (begin_exit raised) = subst (λ h. Steps a v h v (begin_exit raised)) (sym c.set_exiting.ensures) (begin_steps a v raised) in
+    let first : GroupSteps a v b v (begin_exit raised) =
+    subst (λ h. GroupSteps a v h v (begin_exit raised)) (sym c.set_exiting.ensures) (begin_steps a v raised) in
     then_steps a d c.abort_if.new.group v w c.abort_if.new.parts (λ id l. take_back id (begin_exit raised id l)) (abort_if_raised raised)
     (then_steps a b d v v w (begin_exit raised) take_back first c.take_back.ensures.steps)
     (c.abort_if.ensures.steps raised c.is_some-failed.ensures)

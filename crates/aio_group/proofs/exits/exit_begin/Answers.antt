@@ -3,7 +3,7 @@ use Rattle.std.specs.Option.{option_copied}
 use Rattle.model_loop.specs.Groups as plain
 use Rattle.model_loop.specs.Loop.{Group}
 use Rattle.model_loop.specs.Parts.{Parts}
-use Rattle.aio_task.specs.Keeps.{Ties}
+use Rattle.aio_task.specs.Keeps.{NameMap}
 use Rattle.aio_group.specs.Answers.{gone_on}
 use Rattle.aio_group.specs.Exits.{begun, Exits}
 use Rattle.aio_group.specs.Held.{Held}
@@ -36,7 +36,7 @@ returns-clause-steps c =
     let raised = c.args.raised in
     let body = option_copied c.failure_in.result in
     let same = c.begin.ensures.same in
-    let left : (t : Ties) (p : Parts) (group : Group) → KeepsGroup t p a group → LeftByExit a b body × (a.ended ≡ false) =
+    let left : (t : NameMap) (p : Parts) (group : Group) → KeepsGroup t p a group → LeftByExit a b body × (a.ended ≡ false) =
     λ t p group is.
     let early = is.early c.requires.fresh in (
       record {

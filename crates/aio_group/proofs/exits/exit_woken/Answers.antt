@@ -3,7 +3,7 @@ use Rattle.std.specs.Option.{option_copied}
 use Rattle.model_loop.specs.Groups as plain
 use Rattle.model_loop.specs.Loop.{Group}
 use Rattle.model_loop.specs.Parts.{Parts}
-use Rattle.aio_task.specs.Keeps.{Ties}
+use Rattle.aio_task.specs.Keeps.{NameMap}
 use Rattle.aio_group.specs.Answers.{gone_on}
 use Rattle.aio_group.specs.Exits.{heard, Exits}
 use Rattle.aio_group.specs.Held.{Held}
@@ -37,7 +37,7 @@ returns-clause-steps c =
     let body = option_copied c.body.result in
     let same = c.hear.ensures.same in
     let going = is_going a.exiting a.ended c.requires.going in
-    let left : (t : Ties) (p : Parts) (group : Group) → KeepsGroup t p a group → LeftByExit a b body × (a.ended ≡ false) =
+    let left : (t : NameMap) (p : Parts) (group : Group) → KeepsGroup t p a group → LeftByExit a b body × (a.ended ≡ false) =
     λ t p group is. (
       record {
         children = ap (λ (h : Held). h.children) same;

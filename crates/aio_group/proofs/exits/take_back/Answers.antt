@@ -3,7 +3,7 @@ use Rattle.model_loop.specs.Groups.{take_back}
 use Rattle.model_loop.specs.Tasks.{cancelling, uncancel}
 use Rattle.aio_task.specs.View.{View, parts}
 use Rattle.aio_group.specs.GoesOn.{Moves}
-use Rattle.aio_group.specs.Stands.{Steps}
+use Rattle.aio_group.specs.Stands.{GroupSteps}
 use Rattle.aio_group.proofs.Asking.{moves_by}
 use Rattle.aio_group.proofs.Going.{uncancel_on}
 use Rattle.aio_group.proofs.Leaving.{take_back_stays, take_back_steps, take_back_drops}
@@ -20,7 +20,7 @@ returns-then-not-has_requested-clause-steps c =
 
 pub returns-then-left-eq0-clause-moves : goal.returns-then-left-eq0-clause-moves
 returns-then-left-eq0-clause-moves c =
-    uncancel_moves c.args.parts.now c.uncancel-left.new.self c.parent.result c.uncancel-left.ensures.after c.uncancel-left.ensures.beside
+    uncancel_moves c.args.parts.now c.uncancel-left.new.self c.parent.result c.uncancel-left.ensures.after c.uncancel-left.ensures.frame
 
 pub returns-then-left-eq0-clause-steps : goal.returns-then-left-eq0-clause-steps
 returns-then-left-eq0-clause-steps c =
@@ -30,12 +30,12 @@ returns-then-left-eq0-clause-steps c =
     let e : parts w ≡ uncancel a.parent (parts v) = c.uncancel-left.ensures.after ∙ ap (λ i. uncancel i (parts v)) c.parent.ensures in
     let none : cancelling (parts w) a.parent ≡ 0 =
     sym (ap (cancelling (parts w)) c.parent.ensures) ∙ sym c.uncancel-left.ensures.answer ∙ c.if-left-eq0.true in
-    subst (λ h. Steps a v h w take_back) (sym c.drop_kept.ensures)
-    (take_back_drops a v w (sym c.if-not-has_requested.ensures) e c.uncancel-left.ensures.beside none)
+    subst (λ h. GroupSteps a v h w take_back) (sym c.drop_kept.ensures)
+    (take_back_drops a v w (sym c.if-not-has_requested.ensures) e c.uncancel-left.ensures.frame none)
 
 pub returns-else-left-eq0-clause-moves : goal.returns-else-left-eq0-clause-moves
 returns-else-left-eq0-clause-moves c =
-    uncancel_moves c.args.parts.now c.uncancel-left.new.self c.parent.result c.uncancel-left.ensures.after c.uncancel-left.ensures.beside
+    uncancel_moves c.args.parts.now c.uncancel-left.new.self c.parent.result c.uncancel-left.ensures.after c.uncancel-left.ensures.frame
 
 pub returns-else-left-eq0-clause-steps : goal.returns-else-left-eq0-clause-steps
 returns-else-left-eq0-clause-steps c =
@@ -46,4 +46,4 @@ returns-else-left-eq0-clause-steps c =
     let count : c.uncancel-left.result ≡ cancelling (parts w) a.parent =
     c.uncancel-left.ensures.answer ∙ ap (cancelling (parts w)) c.parent.ensures in
     let some : 0 < cancelling (parts w) a.parent = omega (arith, count, c.if-left-eq0.false) in
-    take_back_steps a v w (sym c.if-not-has_requested.ensures) e c.uncancel-left.ensures.beside some
+    take_back_steps a v w (sym c.if-not-has_requested.ensures) e c.uncancel-left.ensures.frame some

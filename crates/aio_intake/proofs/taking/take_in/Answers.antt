@@ -18,7 +18,7 @@ loop-n-init g c =
       posts = record { taken = refl; nones = refl; seats = refl };
       noted = refl;
       none = (refl, refl);
-      later = omega arith;
+      monotone = omega arith;
     }
 
 pub take_in_kth-requires-clause-running : goal.take_in_kth-requires-clause-running
@@ -57,8 +57,8 @@ returns-in_err-gone-clause-none g c =
     starts_on (g.L.Launcher.seen c.args.launcher.now) (g.L.Launcher.seen c.loop-n.launcher)
     (g.L.Launcher.seen c.take_in_kth.new.launcher) c.loop-n.invariant.none c.take_in_kth.ensures.none
 
-pub returns-in_err-gone-clause-later : goal.returns-in_err-gone-clause-later
-returns-in_err-gone-clause-later g c = omega (arith, c.loop-n.invariant.later, c.take_in_kth.ensures.later)
+pub returns-in_err-gone-clause-monotone : goal.returns-in_err-gone-clause-monotone
+returns-in_err-gone-clause-monotone g c = omega (arith, c.loop-n.invariant.monotone, c.take_in_kth.ensures.monotone)
 
 pub returns-in_err-gone-clause-numbered : goal.returns-in_err-gone-clause-numbered
 returns-in_err-gone-clause-numbered g c = subst Numbered (sym c.in_err-gone.ensures.err.0) c.loop-n.invariant.numbered_now
@@ -95,7 +95,7 @@ loop-n-preserved g c =
       none =
           starts_on (g.L.Launcher.seen c.args.launcher.now) (g.L.Launcher.seen c.loop-n.launcher) (g.L.Launcher.seen next.launcher)
           so_far.none c.take_in_kth.ensures.none;
-      later = omega (arith, so_far.later, c.take_in_kth.ensures.later);
+      monotone = omega (arith, so_far.monotone, c.take_in_kth.ensures.monotone);
     }
 
 pub returns : goal.returns
@@ -113,5 +113,5 @@ returns g c =
       posts = so_far.posts;
       noted = so_far.noted;
       none = so_far.none;
-      later = so_far.later;
+      monotone = so_far.monotone;
     }

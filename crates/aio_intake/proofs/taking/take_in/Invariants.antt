@@ -24,5 +24,5 @@ invariant-loop-n g l =
       posts : KeepsPosts l.initial.postbox l.postbox;
       noted : l.roster.noted ≡ l.initial.roster.noted;
       none : StartsNone (g.L.Launcher.seen l.initial.launcher) (g.L.Launcher.seen l.launcher);
-      later : (g.L.Launcher.seen l.initial.launcher).faults ≤ (g.L.Launcher.seen l.launcher).faults;
+      monotone : (g.L.Launcher.seen l.initial.launcher).faults ≤ (g.L.Launcher.seen l.launcher).faults;
     }

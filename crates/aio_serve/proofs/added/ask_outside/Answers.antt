@@ -12,12 +12,12 @@ use Rattle.aio_serve.proofs.added.ask_outside.Goals as goal
 
 pub hear-requires-clause-runs : goal.hear-requires-clause-runs
 hear-requires-clause-runs g c =
-    ap (λ b. is_some b.parts.running) c.ask.ensures.beside
+    ap (λ b. is_some b.parts.running) c.ask.ensures.frame
     ∙ ap is_some (answers_run c.args.task (Outside c.args.code c.args.bytes c.args.key) c.args.body.now c.requires)
 
 pub hear-requires-clause-serves : goal.hear-requires-clause-serves
 hear-requires-clause-serves g c =
-    subst (λ b. MayServe g.X.Extra.added b.parts.running b.extra b.parts) (sym c.ask.ensures.beside)
+    subst (λ b. MayServe g.X.Extra.added b.parts.running b.extra b.parts) (sym c.ask.ensures.frame)
     (heard_served g.X.Extra.added g.W.Wire.outside c.args.task c.args.code c.args.bytes c.args.key c.args.body.now c.args.wire.now c.in-Ok.answer
     c.ask.new.body.events c.ask.new.wire
     (asks_number _ _ _ (to_z-of_z w64 c.args.code c.ranges.code) c.args.bytes (ported c.args.wire.now c.args.body.now.events)
@@ -31,7 +31,7 @@ returns-in-Ok g c =
     c.ask.new.body.events c.ask.new.wire
     (asks_number _ _ _ (to_z-of_z w64 c.args.code c.ranges.code) c.args.bytes (ported c.args.wire.now c.args.body.now.events)
     (ported c.ask.new.wire c.ask.new.body.events) (Ok c.in-Ok.answer) c.in-Ok.ensures.asks)
-    c.ask.new.body c.ask.ensures.beside c.hear.new.body c.hear.result c.hear.ensures)
+    c.ask.new.body c.ask.ensures.frame c.hear.new.body c.hear.result c.hear.ensures)
 
 pub returns-in-Err : goal.returns-in-Err
 returns-in-Err g c =

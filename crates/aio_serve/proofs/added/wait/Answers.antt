@@ -2,10 +2,10 @@ use Rattle.std.proofs.Common.{sym, ap, ◌∙◌}
 use Rattle.std.specs.Prelude.{is_some}
 use Rattle.std.specs.Option.{option_copied}
 use Rattle.aio_body.specs.Asked.{Says}
-use Rattle.aio_body.specs.declared.reply.RequestReply.TheVariants.{Rests}
+use Rattle.aio_body.specs.declared.reply.RequestReply.TheVariants.{Suspends}
 use Rattle.aio_extra.specs.declared.asked.Asked.TheVariants.{Wait}
 use Rattle.aio_serve.specs.Adding.{AnswersAgain, answered}
-use Rattle.aio_serve.proofs.Adding.{answers_idle, answers_run, answers_served, answers_there, rests_so, waits_as, waits_may, wakes_so}
+use Rattle.aio_serve.proofs.Adding.{answers_idle, answers_run, answers_served, answers_there, suspends_so, waits_as, waits_may, wakes_so}
 use Rattle.aio_serve.proofs.added.wait.Goals as goal
 
 pub suspend-suspension-requires-clause-idle : goal.suspend-suspension-requires-clause-idle
@@ -24,11 +24,11 @@ stand_far-requires g c = answers_there c.args.task (Wait c.args.on c.args.key) c
 pub returns-in_default-clause-answers : goal.returns-in_default-clause-answers
 returns-in_default-clause-answers g c at s it h =
     let body = c.args.body.now in
-    waits_as c.args.task at body s (λ k. Says c.args.task at c.stand_far.new.self Rests (answered g.X.Extra.added.meaning c.args.task k s)) c.args.on
+    waits_as c.args.task at body s (λ k. Says c.args.task at c.stand_far.new.self Suspends (answered g.X.Extra.added.meaning c.args.task k s)) c.args.on
     c.args.key it h
-    (λ w. rests_so c.args.task c.args.on c.args.key at body s w c.stand_far.new.self c.suspend-suspension.new.self
+    (λ w. suspends_so c.args.task c.args.on c.args.key at body s w c.stand_far.new.self c.suspend-suspension.new.self
     (sym c.outcome.ensures ∙ ap option_copied c.in_default.is) c.suspend-suspension.ensures.after c.suspend-suspension.ensures.queue
-    c.suspend-suspension.ensures.beside c.in_ok-stand_far.ensures.beside c.in_ok-stand_far.ensures.slots)
+    c.suspend-suspension.ensures.frame c.in_ok-stand_far.ensures.frame c.in_ok-stand_far.ensures.slots)
 
 pub wake-requires-clause-runs : goal.wake-requires-clause-runs
 wake-requires-clause-runs g c = ap is_some (answers_run c.args.task (Wait c.args.on c.args.key) c.args.body.now c.requires)

@@ -26,8 +26,8 @@ returns g c at s h =
     record {
       stands =
           stands_stepped None at body s c.child_done.new.parts c.child_done.new.self (child_done group c.args.task) h.stands
-          (is.stands h.stands.ties s.loop (groups_stand None at body s h.stands)) (child_done_leaves group c.args.task s.loop plain)
-          (ap (λ (v : View). v.profile) is.moves.beside);
-      called = ap (λ (v : View). v.called) is.moves.beside ∙ h.called;
-      running = ap (λ (v : View). v.running) is.moves.beside ∙ h.running;
+          (is.stands h.stands.name_map s.loop (groups_stand None at body s h.stands)) (child_done_leaves group c.args.task s.loop plain)
+          (ap (λ (v : View). v.profile) is.moves.frame);
+      called = ap (λ (v : View). v.called) is.moves.frame ∙ h.called;
+      running = ap (λ (v : View). v.running) is.moves.frame ∙ h.running;
     }

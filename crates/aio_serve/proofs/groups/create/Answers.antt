@@ -48,7 +48,7 @@ returns-in-Some-2 g c task at s h =
     let arguments = c.args.arguments.now in
     let mid = record body { parts = c.create.new.parts; groups = c.create.new.self } in
     let stands = h.going.in_step.stands in
-    let came = c.in_ok-created.ensures.stands stands.ties s.loop (groups_stand (Some task) at body s stands) in
+    let came = c.in_ok-created.ensures.stands stands.name_map s.loop (groups_stand (Some task) at body s stands) in
     let same = body.slots.ok.0 in
     let made = stands.made in
     let few : next_task s.loop.parts < most_ids = omega (arith, same, made, c.len-made.ensures, c.if-made-ge-MOST_IDS.false) in
@@ -65,7 +65,7 @@ returns g c task at s h =
     let arguments = c.args.arguments.now in
     let mid = record body { parts = c.create.new.parts; groups = c.create.new.self } in
     let stands = h.going.in_step.stands in
-    let came = c.in_ok-created.ensures.stands stands.ties s.loop (groups_stand (Some task) at body s stands) in
+    let came = c.in_ok-created.ensures.stands stands.name_map s.loop (groups_stand (Some task) at body s stands) in
     let same = body.slots.ok.0 in
     let made = stands.made in
     let few : next_task s.loop.parts < most_ids = omega (arith, same, made, c.len-made.ensures, c.if-made-ge-MOST_IDS.false) in

@@ -6,7 +6,7 @@ use Rattle.model_loop.specs.Groups.{enter_group, make_group, next_group}
 use Rattle.model_loop.specs.Loop.{Loop}
 use Rattle.model_machine.specs.Replies.{most_ids}
 use Rattle.model_machine.specs.State.{in_loop}
-use Rattle.aio_group.specs.Stands.{Came, Stands as GroupStands}
+use Rattle.aio_group.specs.Stands.{Came, GroupsStand as GroupStands}
 use Rattle.aio_group.proofs.Going.{same_on}
 use Rattle.refine_parts.proofs.Appending.{extends_same}
 use Rattle.aio_body.specs.declared.reply.RequestReply.TheVariants.{Answers}
@@ -21,7 +21,7 @@ returns-then-len-ge-MOST_IDS g c =
     let body = c.args.body.now in
     IfOk-weaker c.out_of_range.result _ _ (λ said e at s h.
     let stands = h.going.in_step.stands in
-    let same = same_many stands.ties s.loop.parts body.groups s.loop.groups stands.blocks.groups in
+    let same = same_many stands.name_map s.loop.parts body.groups s.loop.groups stands.blocks.groups in
     let many : most_ids ≤ next_group s.loop = omega (arith, same, c.len.ensures, c.if-len-ge-MOST_IDS.true) in
     raises_so c.args.task at body s said _ out_of_range e (none_grouped g.X.Extra.added.meaning c.args.task s many) h.going.in_step)
     c.out_of_range.ensures
@@ -32,18 +32,18 @@ returns g c at s h =
     let task = c.args.task in
     let groups = c.enter.new.self in
     let in_step = h.going.in_step in
-    let ties = in_step.stands.ties in
-    let same = same_many ties s.loop.parts body.groups s.loop.groups in_step.stands.blocks.groups in
+    let name_map = in_step.stands.name_map in
+    let same = same_many name_map s.loop.parts body.groups s.loop.groups in_step.stands.blocks.groups in
     let number : c.in_ok-id.id ≡ next_group s.loop = c.in_ok-id.ensures.number ∙ same in
     let change : Loop → Loop = λ l. enter_group (next_group l) (make_group task l) in
     let few : next_group s.loop < most_ids = omega (arith, same, c.len.ensures, c.if-len-ge-MOST_IDS.false) in
-    let came : Came ties s.loop groups body.parts (change s.loop) = record {
-      ties = ties;
+    let came : Came name_map s.loop groups body.parts (change s.loop) = record {
+      name_map = name_map;
       stands =
-          subst (λ (k : ℕ). GroupStands ties groups body.parts (enter_group k (make_group task s.loop))) number
-          (c.enter.ensures.stands ties body.parts (make_group task s.loop)
-          (c.in_ok-id.ensures.stands ties body.parts s.loop (groups_stand (Some task) at body s in_step.stands)));
-      extends = extends_same ties s.loop.parts;
+          subst (λ (k : ℕ). GroupStands name_map groups body.parts (enter_group k (make_group task s.loop))) number
+          (c.enter.ensures.stands name_map body.parts (make_group task s.loop)
+          (c.in_ok-id.ensures.stands name_map body.parts s.loop (groups_stand (Some task) at body s in_step.stands)));
+      extends = extends_same name_map s.loop.parts;
       goes_on = same_on s.loop.parts;
     } in
     answers_so task at (record body { groups = groups }) (in_loop change s) _ _ (Group (next_group s.loop))

@@ -9,7 +9,7 @@ use Rattle.aio_extra.specs.Added.{Added}
 use Rattle.aio_body.specs.Asked.{IsAskingFor, Serves}
 use Rattle.aio_body.specs.Asking.{Comes, or_stop, serving}
 use Rattle.aio_body.specs.Stands.{Possible}
-use Rattle.aio_body.specs.declared.body.Body.{Body}
+use Rattle.aio_body.specs.declared.run_state.RunState.{RunState}
 use Rattle.aio_body.specs.declared.reply.RequestReply.{RequestReply}
 use Rattle.aio_body.proofs.Alone.{serves_alone}
 use Rattle.aio_serve.proofs.Owning.{is_of_loop}
@@ -65,7 +65,7 @@ returns-in-Kill g c = rw c.in-Kill.is c.kill.ensures.comes
 
 -- ---- those that ask nothing
 alone : {X W : Type 0} (a : Added X) (o : Outside W) (task : ℕ) (asked it : Request) → asked ≡ it
-    → (old : Body X) (wire : W) (new : Body X) (result : Result RequestReply Memory) → Serves a task it old new result
+    → (old : RunState X) (wire : W) (new : RunState X) (result : Result RequestReply Memory) → Serves a task it old new result
     → (told : Result RequestReply Stop) → told ≡ or_stop result
     → Comes o (serving a task asked old new) (ported wire old.events) (ported wire new.events) told
 alone a o task asked it same old wire new result serves told e =
@@ -158,4 +158,4 @@ unreachable-requires g c =
     c.in_default.not-Write c.in_default.not-WriteEof c.in_default.not-Close c.in_default.not-Kill
     c.in_default.not-WaitClosed c.in_default.not-Drain c.in_default.not-Limits c.in_default.not-Read
     c.in_default.not-ReadExactly c.in_default.not-ReadUntil c.in_default.not-ReadLine c.in_default.not-StandardError
-    c.in_default.not-WaitChild c.in_default.not-ReturnCode) ∙ c.requires.beside)
+    c.in_default.not-WaitChild c.in_default.not-ReturnCode) ∙ c.requires.frame)

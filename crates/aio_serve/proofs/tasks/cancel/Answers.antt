@@ -27,9 +27,9 @@ returns-in-Some g c task at s h =
     let kept = h.going.in_step.stands in
     answers_so task at (record body { parts = v }) (in_loop (book (λ p. (request (ByScript task) on p).booked)) s) _ _
     (Truth (request (ByScript task) on s.loop.parts).answer)
-    (ap Answers (c.bool.ensures ∙ ap Truth (c.cancel.ensures.answer ∙ answer_kept kept.ties body.parts s.loop.parts kept.keeps on)))
+    (ap Answers (c.bool.ensures ∙ ap Truth (c.cancel.ensures.answer ∙ answer_kept kept.name_map body.parts s.loop.parts kept.keeps on)))
     (cancel_means g.X.Extra.added.meaning task s x on (awaited_as task at body s h.going x (Some on) named))
-    (requests_so (ByScript task) task on at body s v h.going.in_step c.cancel.ensures.after c.cancel.ensures.queue c.cancel.ensures.beside)
+    (requests_so (ByScript task) task on at body s v h.going.in_step c.cancel.ensures.after c.cancel.ensures.queue c.cancel.ensures.frame)
 
 pub returns-in-None : goal.returns-in-None
 returns-in-None g c task =

@@ -5,10 +5,10 @@ use Rattle.model_says.specs.Operations.{out_of_range}
 use Rattle.model_loop.specs.Tasks.{next_task, spawn}
 use Rattle.model_machine.specs.Replies.{most_ids}
 use Rattle.model_machine.specs.State.{unbooked_in, with_coroutine}
-use Rattle.aio_body.specs.declared.body.Body.{Body}
+use Rattle.aio_body.specs.declared.run_state.RunState.{RunState}
 use Rattle.aio_body.specs.declared.reply.RequestReply.TheVariants.{Answers}
 use Rattle.aio_body.proofs.May.{idle_some}
-use Rattle.aio_serve.proofs.Resting.{none_spawned, one_spawned}
+use Rattle.aio_serve.proofs.Suspending.{none_spawned, one_spawned}
 use Rattle.aio_serve.proofs.Saying.{answers_so, raises_so}
 use Rattle.aio_serve.proofs.Spawning.{spawns_so}
 use Rattle.aio_serve.proofs.tasks.spawn.Goals as goal
@@ -24,7 +24,7 @@ returns-then-len-ge-MOST_IDS g c task =
     c.out_of_range.ensures
 
 pub spawn-requires : goal.spawn-requires
-spawn-requires g c = record { idle = ap (λ (b : Body _). b.parts.called) c.in_ok-hold.ensures.beside ∙ idle_some c.args.body.now c.requires }
+spawn-requires g c = record { idle = ap (λ (b : RunState _). b.parts.called) c.in_ok-hold.ensures.frame ∙ idle_some c.args.body.now c.requires }
 
 pub returns : goal.returns
 returns g c task at s h =
@@ -39,8 +39,8 @@ returns g c task at s h =
     let made = stands.made in
     let few : length body.slots.items + 1 < 2 ^ 32 = omega (arith, same, c.len.ensures, c.if-len-ge-MOST_IDS.false) in
     let number : c.in_ok-task.task ≡ next_task p =
-    c.in_ok-task.ensures.number ∙ ap (λ (b : Body _). length b.parts.tasks) c.in_ok-hold.ensures.beside ∙ ap length stands.keeps.tasks in
+    c.in_ok-task.ensures.number ∙ ap (λ (b : RunState _). length b.parts.tasks) c.in_ok-hold.ensures.frame ∙ ap length stands.keeps.tasks in
     answers_so task at (record held { parts = v }) (with_coroutine coroutine arguments (unbooked_in spawn s)) _ _ (Task (next_task p))
     (ap Answers (c.task.ensures ∙ ap Task number)) (one_spawned g.X.Extra.added.meaning task s coroutine arguments (omega (arith, few, made)))
     (spawns_so task coroutine arguments at body held s v h.going c.in_ok-hold.ensures few c.in_ok-task.ensures.after c.in_ok-task.ensures.queue
-    c.in_ok-task.ensures.beside)
+    c.in_ok-task.ensures.frame)

@@ -21,7 +21,7 @@ pub number-requires : goal.number-requires
 number-requires g c =
     let other = c.in-Some.task in
     rw c.uncancel.ensures.answer
-    (few_left c.args.body.now c.uncancel.new.self c.requires other c.uncancel.ensures.after c.uncancel.ensures.beside other)
+    (few_left c.args.body.now c.uncancel.new.self c.requires other c.uncancel.ensures.after c.uncancel.ensures.frame other)
 
 pub returns-in-Some : goal.returns-in-Some
 returns-in-Some g c task at s h =
@@ -29,7 +29,7 @@ returns-in-Some g c task at s h =
     let other = c.in-Some.task in
     let v = c.uncancel.new.self in
     let now = in_loop (book (uncancel_by (ByScript task) other)) s in
-    let stands = uncancels_so (ByScript task) task other at body s v h.going.in_step c.uncancel.ensures.after c.uncancel.ensures.beside in
+    let stands = uncancels_so (ByScript task) task other at body s v h.going.in_step c.uncancel.ensures.after c.uncancel.ensures.frame in
     answers_so task at (record body { parts = v }) now _ _ (Int (pos (cancelling now.loop.parts other)))
     (c.number.ensures
     ∙ ap (λ n. Answers (Int (pos n))) (c.uncancel.ensures.answer ∙ count_read (Some task) at (record body { parts = v }) now stands.stands other))

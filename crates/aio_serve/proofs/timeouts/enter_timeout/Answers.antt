@@ -52,5 +52,5 @@ returns g c at s h =
     (enter_goes g.X.Extra.added.meaning task s c.args.delay.now delay
     (given_as c.args.delay.now c.as_delay.result c.as_delay.ensures c.in-Some.delay delay c.in-Some.is c.number.ensures) few)
     (goes_timed task at body s c.enter.new.parts c.enter.new.self (enter_timeout task delay s.loop) in_step
-    (c.in_ok-id.ensures.after in_step.stands.ties s.loop (timeouts_of _ at body s in_step.stands))
+    (c.in_ok-id.ensures.after in_step.stands.name_map s.loop (timeouts_of _ at body s in_step.stands))
     (leaves_enter task delay s.loop) (enter_groups task delay s.loop) c.in_ok-id.ensures.below c.in_ok-id.ensures.step)

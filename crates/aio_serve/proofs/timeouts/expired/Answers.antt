@@ -14,7 +14,7 @@ returns-in-Some g c task at s h =
     let id = c.in-Some.id in
     let stands = h.going.in_step.stands in
     answers_so task at body s _ _ (Truth (has_expired (timeout_of s.loop id).state))
-    (ap Answers (c.bool.ensures ∙ ap Truth (c.has_expired.ensures stands.ties s.loop stands.blocks.timeouts)))
+    (ap Answers (c.bool.ensures ∙ ap Truth (c.has_expired.ensures stands.name_map s.loop stands.blocks.timeouts)))
     (expired_goes g.X.Extra.added.meaning task s c.args.timeout.now id (sym c.as_timeout.ensures ∙ c.in-Some.is)) h.going.in_step
 
 pub returns-in-None : goal.returns-in-None

@@ -19,7 +19,7 @@ returns g c at s h =
     record {
       stands =
           stands_timed None at body s c.fire.new.parts c.fire.new.self (fire id s.loop) h.stands
-          (c.fire.ensures.after h.stands.ties s.loop (timeouts_of None at body s h.stands))
+          (c.fire.ensures.after h.stands.name_map s.loop (timeouts_of None at body s h.stands))
           (leaves_fire id s.loop) (fire_groups id s.loop) c.fire.ensures.below c.fire.ensures.step.profile;
       called = c.fire.ensures.step.called ∙ h.called;
       running = c.fire.ensures.step.running ∙ h.running;

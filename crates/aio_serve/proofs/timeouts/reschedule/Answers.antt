@@ -56,9 +56,9 @@ returns-in-Set g c task at s h =
     c.args.timeout.now c.args.when.now id when
     (sym c.as_timeout.ensures ∙ c.in-Some.is)
     (given_as c.args.when.now c.as_delay.result c.as_delay.ensures c.in-Some-as_delay.when when c.in-Some-as_delay.is c.number.ensures)
-    (sym (ap refused c.in-Set.is) ∙ c.in_ok-reschedule.ensures.answer in_step.stands.ties s.loop keeps.timeouts)
+    (sym (ap refused c.in-Set.is) ∙ c.in_ok-reschedule.ensures.answer in_step.stands.name_map s.loop keeps.timeouts)
     (goes_timed task at body s c.reschedule.new.parts c.reschedule.new.self (reschedule id when s.loop) in_step
-    (c.in_ok-reschedule.ensures.after in_step.stands.ties s.loop keeps)
+    (c.in_ok-reschedule.ensures.after in_step.stands.name_map s.loop keeps)
     (leaves_reschedule id when s.loop) (reschedule_groups id when s.loop) c.in_ok-reschedule.ensures.below c.in_ok-reschedule.ensures.step)
     _ (ap Answers c.nothing.ensures)
 
@@ -74,8 +74,8 @@ returns-in-BadState g c task =
     c.args.timeout.now c.args.when.now id when (state_of c.in-BadState.state)
     (sym c.as_timeout.ensures ∙ c.in-Some.is)
     (given_as c.args.when.now c.as_delay.result c.as_delay.ensures c.in-Some-as_delay.when when c.in-Some-as_delay.is c.number.ensures)
-    (sym (ap refused c.in-BadState.is) ∙ c.in_ok-reschedule.ensures.answer in_step.stands.ties s.loop keeps.timeouts)
+    (sym (ap refused c.in-BadState.is) ∙ c.in_ok-reschedule.ensures.answer in_step.stands.name_map s.loop keeps.timeouts)
     (goes_timed task at body s c.reschedule.new.parts c.reschedule.new.self (reschedule id when s.loop) in_step
-    (c.in_ok-reschedule.ensures.after in_step.stands.ties s.loop keeps)
+    (c.in_ok-reschedule.ensures.after in_step.stands.name_map s.loop keeps)
     (leaves_reschedule id when s.loop) (reschedule_groups id when s.loop) c.in_ok-reschedule.ensures.below c.in_ok-reschedule.ensures.step)
     said e) c.refused-in-BadState.ensures

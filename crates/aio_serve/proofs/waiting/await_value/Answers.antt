@@ -5,13 +5,13 @@ use Rattle.model_value.specs.declared.request.Request.TheVariants as request
 use Rattle.model_says.specs.Requests.{bad_argument}
 use Rattle.model_loop.specs.Futures.{future_outcome}
 use Rattle.model_machine.specs.Replies.{awaits_as}
-use Rattle.aio_body.specs.declared.reply.RequestReply.TheVariants.{Rests}
+use Rattle.aio_body.specs.declared.reply.RequestReply.TheVariants.{Suspends}
 use Rattle.aio_body.specs.Asked.{Says}
 use Rattle.aio_extra.specs.Added.{named_in}
 use Rattle.aio_body.proofs.May.{going_of, idle_of, running_of}
 use Rattle.aio_body.proofs.Rooms.{waits_so}
 use Rattle.aio_serve.proofs.Reading.{awaited_as, outcome_read}
-use Rattle.aio_serve.proofs.Resting.{await_means, await_refused, awaited_spares, awaited_waits}
+use Rattle.aio_serve.proofs.Suspending.{await_means, await_refused, awaited_spares, awaited_waits}
 use Rattle.aio_serve.proofs.Saying.{raises_so, replied_so}
 use Rattle.aio_serve.proofs.waiting.await_value.Goals as goal
 
@@ -66,7 +66,7 @@ returns g c at s h =
     let is = awaited_as task at body s h.going x (Some on) named in
     let none : future_outcome s.loop.parts on ≡ None =
     sym (outcome_read task at body s h.going x on named) ∙ sym c.outcome.ensures ∙ ap option_copied c.in_default-outcome.is in
-    subst (Says task at (record body { parts = v }) Rests) (sym (await_means g.X.Extra.added.meaning task s x on is ∙ ap (λ o. awaits_as o task on s) none))
+    subst (Says task at (record body { parts = v }) Suspends) (sym (await_means g.X.Extra.added.meaning task s x on is ∙ ap (λ o. awaits_as o task on s) none))
     (waits_so task on at body s v h.going.in_step
     (awaited_spares s (named_in g.X.Extra.added s) (λ place id e. inl (place, e)) task h.going.sound.others.loop.parts.owns x on is)
-    c.suspend-suspension.ensures.after c.suspend-suspension.ensures.queue c.suspend-suspension.ensures.beside)
+    c.suspend-suspension.ensures.after c.suspend-suspension.ensures.queue c.suspend-suspension.ensures.frame)

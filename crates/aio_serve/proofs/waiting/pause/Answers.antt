@@ -9,5 +9,5 @@ pub pause-requires-clause-running : goal.pause-requires-clause-running
 pause-requires-clause-running g c = running_of c.args.task c.args.body.now c.requires
 
 pub returns : goal.returns
-returns g c = λ setting s going.
-    pauses_so c.args.task setting c.args.body.now s c.pause.new.self going.in_step c.pause.ensures.after c.pause.ensures.beside
+returns g c = λ context s going.
+    pauses_so c.args.task context c.args.body.now s c.pause.new.self going.in_step c.pause.ensures.after c.pause.ensures.frame

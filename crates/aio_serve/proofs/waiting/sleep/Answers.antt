@@ -4,7 +4,7 @@ use lib.Signed.{lt_z}
 use Rattle.model_says.specs.Requests.{bad_argument}
 use Rattle.model_machine.specs.Replies.{sleeps_for}
 use Rattle.aio_body.specs.Asked.{Says}
-use Rattle.aio_serve.proofs.Resting.{sleep_means, sleep_refused, sleeps_none, sleeps_on}
+use Rattle.aio_serve.proofs.Suspending.{sleep_means, sleep_refused, sleeps_none, sleeps_on}
 use Rattle.aio_serve.proofs.Saying.{raises_so}
 use Rattle.aio_serve.proofs.waiting.sleep.Goals as goal
 

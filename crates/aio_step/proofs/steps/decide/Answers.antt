@@ -2,7 +2,7 @@ use Rattle.std.proofs.Common.{subst}
 use Rattle.model_machine.specs.State as plain
 use Rattle.aio_transports.specs.Readers.{reader_as}
 use Rattle.aio_body.specs.Stands.{Possible}
-use Rattle.aio_body.specs.declared.standing.Standing.TheVariants.{Leaving, Serving, Connecting, Yielding, Reading, ReadingAll}
+use Rattle.aio_body.specs.declared.resume_point.ResumePoint.TheVariants.{Leaving, Serving, Connecting, Yielding, Reading, ReadingAll}
 use Rattle.aio_step.specs.Stepping.{IsDecidingAs}
 use Rattle.aio_step.proofs.Deciding.{heard_alone, heard_asked, heard_on, heard_sleeping}
 use Rattle.aio_step.proofs.First.{stood_is}

@@ -1,4 +1,4 @@
-use Rattle.aio_step.proofs.Going.{on_end, on_first, on_next, on_rest, on_serve, on_starved, on_stop, rests_there}
+use Rattle.aio_step.proofs.Going.{on_end, on_first, on_next, on_suspend, on_serve, on_starved, on_stop, suspends_there}
 use Rattle.aio_step.proofs.steps.serve.Goals as goal
 
 pub loop-answered-init : goal.loop-answered-init
@@ -14,17 +14,18 @@ serve_one-requires g c =
 pub put_back-requires : goal.put_back-requires
 put_back-requires g c =
     let l = c.loop-answered in
-    rests_there g.X.Extra.added g.W.Wire.outside c.args.task c.args.input c.args.body.now c.args.coroutine c.args.wire.now l.fresh l.input l.body l.coroutine
+    suspends_there g.X.Extra.added g.W.Wire.outside c.args.task c.args.input c.args.body.now c.args.coroutine c.args.wire.now l.fresh l.input l.body l.coroutine
     l.wire
-    l.invariant c.serve_one.new.body c.serve_one.new.coroutine c.serve_one.new.wire (rw c.in-Ok-Rests.field-0-is at c.in-Ok-Rests.ensures)
+    l.invariant c.serve_one.new.body c.serve_one.new.coroutine c.serve_one.new.wire (rw c.in-Ok-Suspends.field-0-is at c.in-Ok-Suspends.ensures)
     c.requires
 
-pub returns-in-Ok-Rests : goal.returns-in-Ok-Rests
-returns-in-Ok-Rests g c =
+pub returns-in-Ok-Suspends : goal.returns-in-Ok-Suspends
+returns-in-Ok-Suspends g c =
     let l = c.loop-answered in
-    on_rest g.X.Extra.added g.W.Wire.outside c.args.task c.args.input c.args.body.now c.args.coroutine c.args.wire.now l.fresh l.input l.body l.coroutine l.wire
-    l.invariant c.serve_one.new.body c.serve_one.new.coroutine c.serve_one.new.wire (rw c.in-Ok-Rests.field-0-is at c.in-Ok-Rests.ensures)
-    c.put_back.new.self c.put_back.ensures.beside c.put_back.ensures.slots
+    on_suspend g.X.Extra.added g.W.Wire.outside c.args.task c.args.input c.args.body.now c.args.coroutine c.args.wire.now l.fresh l.input l.body l.coroutine
+    l.wire
+    l.invariant c.serve_one.new.body c.serve_one.new.coroutine c.serve_one.new.wire (rw c.in-Ok-Suspends.field-0-is at c.in-Ok-Suspends.ensures)
+    c.put_back.new.self c.put_back.ensures.frame c.put_back.ensures.slots
 
 pub returns-in-Ok-Ended : goal.returns-in-Ok-Ended
 returns-in-Ok-Ended g c =

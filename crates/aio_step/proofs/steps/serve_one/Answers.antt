@@ -42,7 +42,7 @@ returns-in-Ok-Returns g c =
     (record c.args.body.now { parts = c.finish.new.self }) (Ended Goes) refl (λ d s h.
     returns_so c.args.task c.args.fresh c.args.input c.args.body.now c.args.coroutine.now c.resume.new.self c.in-Ok-Returns.field-0
     c.in-Ok-Returns.ensures.said c.in-Ok-Returns.ensures.stands d s h c.in-Ok-Returns.value c.in-Ok-Returns.field-0-is c.finish.new.self c.finish.ensures.after
-    c.finish.ensures.queue c.finish.ensures.beside)
+    c.finish.ensures.queue c.finish.ensures.frame)
 
 pub returns-in-Ok-Raises : goal.returns-in-Ok-Raises
 returns-in-Ok-Raises g c =
@@ -51,7 +51,7 @@ returns-in-Ok-Raises g c =
     (record c.args.body.now { parts = c.finish-in-Ok-Raises.new.self }) (Ended Goes) refl (λ d s h.
     raises_so c.args.task c.args.fresh c.args.input c.args.body.now c.args.coroutine.now c.resume.new.self c.in-Ok-Raises.field-0
     c.in-Ok-Raises.ensures.said c.in-Ok-Raises.ensures.stands d s h c.in-Ok-Raises.fault c.in-Ok-Raises.field-0-is c.finish-in-Ok-Raises.new.self
-    c.finish-in-Ok-Raises.ensures.after c.finish-in-Ok-Raises.ensures.queue c.finish-in-Ok-Raises.ensures.beside)
+    c.finish-in-Ok-Raises.ensures.after c.finish-in-Ok-Raises.ensures.queue c.finish-in-Ok-Raises.ensures.frame)
 
 pub returns-in-Ok-Runaway : goal.returns-in-Ok-Runaway
 returns-in-Ok-Runaway g c =

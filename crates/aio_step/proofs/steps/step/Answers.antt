@@ -29,7 +29,7 @@ serve-requires-in-Ok-Raises g c =
 pub put_back-requires : goal.put_back-requires
 put_back-requires g c =
     waits_there g.X.Extra.added g.W.Wire.outside c.args.task c.args.input c.args.body.now c.requires.made c.begin-coroutine.result c.begin-coroutine.new.body
-    c.begin-coroutine.ensures c.args.wire.now c.decide.new.body c.decide.new.wire (rw c.in-Ok-Rests.field-0-is at c.in-Ok-Rests.ensures) c.requires.called
+    c.begin-coroutine.ensures c.args.wire.now c.decide.new.body c.decide.new.wire (rw c.in-Ok-Suspends.field-0-is at c.in-Ok-Suspends.ensures) c.requires.called
 
 pub returns-in-Ok-Answers : goal.returns-in-Ok-Answers
 returns-in-Ok-Answers g c =
@@ -47,11 +47,11 @@ returns-in-Ok-Raises g c =
     c.decide.new.body c.in-Ok-Raises.fault says) (rw c.in-Ok-Raises.field-0-is at c.in-Ok-Raises.ensures)
     c.serve-in-Ok-Raises.new.body c.serve-in-Ok-Raises.new.wire c.serve-in-Ok-Raises.result c.serve-in-Ok-Raises.ensures
 
-pub returns-in-Ok-Rests : goal.returns-in-Ok-Rests
-returns-in-Ok-Rests g c =
+pub returns-in-Ok-Suspends : goal.returns-in-Ok-Suspends
+returns-in-Ok-Suspends g c =
     waits_on g.X.Extra.added g.W.Wire.outside c.args.task c.args.input c.args.body.now c.requires.made c.begin-coroutine.result c.begin-coroutine.new.body
-    c.begin-coroutine.ensures c.args.wire.now c.decide.new.body c.decide.new.wire (rw c.in-Ok-Rests.field-0-is at c.in-Ok-Rests.ensures)
-    c.put_back.new.self c.put_back.ensures.beside c.put_back.ensures.slots
+    c.begin-coroutine.ensures c.args.wire.now c.decide.new.body c.decide.new.wire (rw c.in-Ok-Suspends.field-0-is at c.in-Ok-Suspends.ensures)
+    c.put_back.new.self c.put_back.ensures.frame c.put_back.ensures.slots
 
 pub returns-in-Err : goal.returns-in-Err
 returns-in-Err g c =

@@ -13,5 +13,5 @@ returns g c = record {
   comes =
       acts_so {a = g.X.Extra.added} c.args.action.now c.args.body.now g.W.Wire.outside c.has_returned-returned.result c.run.new.body
       c.args.wire.now c.run.new.wire c.requires.taken c.requires.of_streams c.has_returned-returned.ensures c.run.result
-      c.run.ensures.comes c.run.ensures.beside;
+      c.run.ensures.comes c.run.ensures.frame;
 }

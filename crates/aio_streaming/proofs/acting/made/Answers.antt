@@ -2,7 +2,7 @@ use Rattle.std.proofs.Common.{◌<◌, ◌≤◌, length, sym, ap, refl, ◌∙�
 use Rattle.std.proofs.lemmas.Result.{on_ok_weaker}
 use Rattle.model_value.specs.declared.action.Action.TheVariants as action
 use Rattle.model_machine.specs.Replies.{most_ids}
-use Rattle.aio_body.specs.declared.body.Body.{Body}
+use Rattle.aio_body.specs.declared.run_state.RunState.{RunState}
 use Rattle.aio_task.specs.View.{View}
 use Rattle.aio_streaming.proofs.Callbacks.{taken_idle, taken_owned}
 use Rattle.aio_streaming.proofs.Handlers.{closes_so, handles_none, handles_so, one_conn}
@@ -32,14 +32,14 @@ returns-then-len-ge-MOST_IDS g c =
 pub spawn-requires : goal.spawn-requires
 spawn-requires g c = record {
   idle =
-      ap (λ (v : View). v.called) c.ticket.ensures ∙ ap (λ (b : Body _). b.parts.called) c.in_ok-hold.ensures.beside
+      ap (λ (v : View). v.called) c.ticket.ensures ∙ ap (λ (b : RunState _). b.parts.called) c.in_ok-hold.ensures.frame
       ∙ taken_idle {a = g.X.Extra.added} (action.Made c.args.conn) c.args.body.now c.requires refl;
 }
 
 pub on_done-requires-clause-idle : goal.on_done-requires-clause-idle
 on_done-requires-clause-idle g c =
-    ap (λ (v : View). v.called) c.in-Ok.ensures.beside ∙ ap (λ (v : View). v.called) c.ticket.ensures
-    ∙ ap (λ (b : Body _). b.parts.called) c.in_ok-hold.ensures.beside
+    ap (λ (v : View). v.called) c.in-Ok.ensures.frame ∙ ap (λ (v : View). v.called) c.ticket.ensures
+    ∙ ap (λ (b : RunState _). b.parts.called) c.in_ok-hold.ensures.frame
     ∙ taken_idle {a = g.X.Extra.added} (action.Made c.args.conn) c.args.body.now c.requires refl
 
 pub returns-in-Ok : goal.returns-in-Ok
@@ -54,5 +54,5 @@ returns-in-Ok g c at s h =
     handles_so g.X.Extra.added c.args.conn body c.in-Some.coroutine
     (λ s stands. sym c.in-Some.is ∙ c.handler_of.ensures s stands) _ with_conn few held c.in_ok-hold.ensures c.ticket.new.self
     c.spawn.new.self c.on_done.new.self c.in-Ok.task c.future_of-own.result c.ticket.ensures c.in-Ok.ensures.number
-    c.in-Ok.ensures.after c.in-Ok.ensures.queue c.in-Ok.ensures.beside c.future_of-own.ensures c.on_done.ensures at s h
+    c.in-Ok.ensures.after c.in-Ok.ensures.queue c.in-Ok.ensures.frame c.future_of-own.ensures c.on_done.ensures at s h
     (record held { parts = c.on_done.new.self }) refl

@@ -41,5 +41,5 @@ returns g c =
           (sym (c.as_child.ensures s h.going.in_step.stands.transports) ∙ c.in-Some.is))
           (kill_forgets c.in-Some.id)
           (λ s kept. kills (is_plain s.loop.parts) (next_future s.loop.parts) c.in-Some.id s.streams kept)
-          (events_beside c.args.body.now c.kill_child.new.body c.kill_child.ensures.beside) c.kill_child.result c.kill_child.ensures.comes);
+          (events_beside c.args.body.now c.kill_child.new.body c.kill_child.ensures.frame) c.kill_child.result c.kill_child.ensures.comes);
     }

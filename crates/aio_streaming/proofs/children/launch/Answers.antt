@@ -76,5 +76,5 @@ returns g c =
           (sym (c.may_launch.ensures.is s.streams h.going.in_step.stands.transports) ∙ c.if-not-may_launch.false))
           (launch_forgets c.in-Some.words _) WaitsNever
           (λ s kept. launches (is_plain s.loop.parts) (next_future s.loop.parts) c.in-Some.words s.streams kept)
-          c.launch_child.ensures.beside c.launch_child.result c.launched.result c.launch_child.ensures.comes c.launched.ensures;
+          c.launch_child.ensures.frame c.launch_child.result c.launched.result c.launch_child.ensures.comes c.launched.ensures;
     }

@@ -13,7 +13,7 @@ use Rattle.aio_body.specs.declared.reply.RequestReply.TheVariants as said
 use Rattle.aio_body.specs.Asked.{Serves}
 use Rattle.aio_body.proofs.Alone.{serves_raise}
 use Rattle.refine_streams.proofs.Meaning.{wait_means, wait_refused}
-use Rattle.refine_streams.proofs.Served.{asking_answers, asking_idle, asking_owned, asking_pending, asking_rests, asking_running}
+use Rattle.refine_streams.proofs.Served.{asking_answers, asking_idle, asking_owned, asking_pending, asking_suspends, asking_running}
 use Rattle.aio_streaming.proofs.children.wait_child.Goals as goal
 
 pub returns-in_default : goal.returns-in_default
@@ -70,7 +70,7 @@ returns-in-Ok-Code g c =
 pub returns-in-Ok-Waits : goal.returns-in-Ok-Waits
 returns-in-Ok-Waits g c =
     let new = record c.args.body.now { parts = c.wait.new.parts; transports = c.wait.new.self } in
-    asking_rests c.args.task (request.WaitChild c.args.child.now) c.args.body.now c.requires new refl refl (λ n. wait n c.in-Some.id)
+    asking_suspends c.args.task (request.WaitChild c.args.child.now) c.args.body.now c.requires new refl refl (λ n. wait n c.in-Some.id)
     (awaits_exit_as c.args.task)
     (λ at s h.
     wait_means g.X.Extra.added.meaning c.args.task s c.args.child.now c.in-Some.id
@@ -81,6 +81,6 @@ returns-in-Ok-Waits g c =
     (record {
       after = c.suspend-suspension.ensures.after;
       queue = c.suspend-suspension.ensures.queue;
-      beside = c.suspend-suspension.ensures.beside;
+      frame = c.suspend-suspension.ensures.frame;
     })
     (λ t. ap (λ w. awaits_exit_as c.args.task w t) c.in-Ok-Waits.field-0-is)

@@ -72,7 +72,7 @@ waits-requires-clause-idle g c =
     connects_to g.X.Extra.added.meaning c.args.task s c.args.port.now c.in-Some.number (sym c.as_int.ensures ∙ c.in-Some.is) c.in-Some-as_port.number
     (sym (c.may_connect.ensures.is s.streams h.going.in_step.stands.transports) ∙ c.if-not-may_connect.false)
     (ap port_in (sym (to_z-of_z w64 c.in-Some.number fits)) ∙ sym c.as_port.ensures ∙ c.in-Some-as_port.is))
-    c.in-Ok-Some.field-0 c.in-Ok-Some.ensures.comes c.in-Ok-Some.ensures.beside c.in-Ok-Some.connecting c.in-Ok-Some.field-0-is
+    c.in-Ok-Some.field-0 c.in-Ok-Some.ensures.comes c.in-Ok-Some.ensures.frame c.in-Ok-Some.connecting c.in-Ok-Some.field-0-is
 
 pub waits-requires-clause-running : goal.waits-requires-clause-running
 waits-requires-clause-running g c =
@@ -83,7 +83,7 @@ waits-requires-clause-running g c =
     connects_to g.X.Extra.added.meaning c.args.task s c.args.port.now c.in-Some.number (sym c.as_int.ensures ∙ c.in-Some.is) c.in-Some-as_port.number
     (sym (c.may_connect.ensures.is s.streams h.going.in_step.stands.transports) ∙ c.if-not-may_connect.false)
     (ap port_in (sym (to_z-of_z w64 c.in-Some.number fits)) ∙ sym c.as_port.ensures ∙ c.in-Some-as_port.is))
-    c.in-Ok-Some.field-0 c.in-Ok-Some.ensures.comes c.in-Ok-Some.ensures.beside c.in-Ok-Some.connecting c.in-Ok-Some.field-0-is
+    c.in-Ok-Some.field-0 c.in-Ok-Some.ensures.comes c.in-Ok-Some.ensures.frame c.in-Ok-Some.connecting c.in-Ok-Some.field-0-is
 
 pub waits-requires-clause-pending : goal.waits-requires-clause-pending
 waits-requires-clause-pending g c =
@@ -94,7 +94,7 @@ waits-requires-clause-pending g c =
     connects_to g.X.Extra.added.meaning c.args.task s c.args.port.now c.in-Some.number (sym c.as_int.ensures ∙ c.in-Some.is) c.in-Some-as_port.number
     (sym (c.may_connect.ensures.is s.streams h.going.in_step.stands.transports) ∙ c.if-not-may_connect.false)
     (ap port_in (sym (to_z-of_z w64 c.in-Some.number fits)) ∙ sym c.as_port.ensures ∙ c.in-Some-as_port.is))
-    c.in-Ok-Some.field-0 c.in-Ok-Some.ensures.comes c.in-Ok-Some.ensures.beside c.in-Ok-Some.connecting c.in-Ok-Some.field-0-is
+    c.in-Ok-Some.field-0 c.in-Ok-Some.ensures.comes c.in-Ok-Some.ensures.frame c.in-Ok-Some.connecting c.in-Ok-Some.field-0-is
 
 pub waits-requires-clause-there : goal.waits-requires-clause-there
 waits-requires-clause-there g c =
@@ -105,7 +105,7 @@ waits-requires-clause-there g c =
     connects_to g.X.Extra.added.meaning c.args.task s c.args.port.now c.in-Some.number (sym c.as_int.ensures ∙ c.in-Some.is) c.in-Some-as_port.number
     (sym (c.may_connect.ensures.is s.streams h.going.in_step.stands.transports) ∙ c.if-not-may_connect.false)
     (ap port_in (sym (to_z-of_z w64 c.in-Some.number fits)) ∙ sym c.as_port.ensures ∙ c.in-Some-as_port.is))
-    c.in-Ok-Some.field-0 c.in-Ok-Some.ensures.comes c.in-Ok-Some.ensures.beside c.in-Ok-Some.connecting c.in-Ok-Some.field-0-is
+    c.in-Ok-Some.field-0 c.in-Ok-Some.ensures.comes c.in-Ok-Some.ensures.frame c.in-Ok-Some.connecting c.in-Ok-Some.field-0-is
 
 pub returns-in-Ok-Some : goal.returns-in-Ok-Some
 returns-in-Ok-Some g c =
@@ -121,9 +121,9 @@ returns-in-Ok-Some g c =
           connects_to g.X.Extra.added.meaning c.args.task s c.args.port.now c.in-Some.number (sym c.as_int.ensures ∙ c.in-Some.is) c.in-Some-as_port.number
           (sym (c.may_connect.ensures.is s.streams h.going.in_step.stands.transports) ∙ c.if-not-may_connect.false)
           (ap port_in (sym (to_z-of_z w64 c.in-Some.number fits)) ∙ sym c.as_port.ensures ∙ c.in-Some-as_port.is))
-          c.in-Ok-Some.field-0 c.in-Ok-Some.ensures.comes c.in-Ok-Some.ensures.beside c.in-Ok-Some.connecting
+          c.in-Ok-Some.field-0 c.in-Ok-Some.ensures.comes c.in-Ok-Some.ensures.frame c.in-Ok-Some.connecting
           c.in-Ok-Some.field-0-is c.waits.new.body c.waits.result c.waits.ensures.is c.waits.ensures.suspends
-          c.waits.ensures.beside c.waits.ensures.slots);
+          c.waits.ensures.frame c.waits.ensures.slots);
     }
 
 pub returns-in-Ok-None : goal.returns-in-Ok-None
@@ -139,7 +139,7 @@ returns-in-Ok-None g c =
           connects_to g.X.Extra.added.meaning c.args.task s c.args.port.now c.in-Some.number (sym c.as_int.ensures ∙ c.in-Some.is) c.in-Some-as_port.number
           (sym (c.may_connect.ensures.is s.streams h.going.in_step.stands.transports) ∙ c.if-not-may_connect.false)
           (ap port_in (sym (to_z-of_z w64 c.in-Some.number fits)) ∙ sym c.as_port.ensures ∙ c.in-Some-as_port.is))
-          c.in-Ok-None.field-0 c.in-Ok-None.ensures.comes c.in-Ok-None.ensures.beside c.in-Ok-None.field-0-is c.raises.result c.raises.ensures);
+          c.in-Ok-None.field-0 c.in-Ok-None.ensures.comes c.in-Ok-None.ensures.frame c.in-Ok-None.field-0-is c.raises.result c.raises.ensures);
     }
 
 pub returns-in-Err : goal.returns-in-Err

@@ -85,6 +85,6 @@ returns g c =
           (ap port_in (sym (to_z-of_z w64 c.in-Some.number fits)) ∙ sym c.as_port.ensures ∙ c.in-Some-as_port.is))
           (listen_forgets c.in-Some-as_port.number c.args.handler) WaitsNever
           (λ s kept. listens (is_plain s.loop.parts) (next_future s.loop.parts) c.in-Some-as_port.number c.args.handler s.streams kept)
-          (told_beside c.args.body.now c.listen_at.new.body c.listen_at.ensures.beside) c.listen_at.result c.listened.result
+          (told_beside c.args.body.now c.listen_at.new.body c.listen_at.ensures.frame) c.listen_at.result c.listened.result
           c.listen_at.ensures.comes c.listened.ensures;
     }

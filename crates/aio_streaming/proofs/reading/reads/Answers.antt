@@ -1,7 +1,7 @@
 use Rattle.model_value.specs.Value.{Bytes}
 use Rattle.model_machine.specs.Replies.{reads}
 use Rattle.aio_transports.specs.Readers.{reader_as}
-use Rattle.aio_streaming.proofs.Looks.{answers_on, on_idle, on_owned, on_within, read_answers, read_pending, read_raises, read_rests, read_running}
+use Rattle.aio_streaming.proofs.Looks.{answers_on, on_idle, on_owned, on_within, read_answers, read_pending, read_raises, read_suspends, read_running}
 use Rattle.aio_streaming.proofs.reading.reads.Goals as goal
 
 pub read-requires-clause-idle : goal.read-requires-clause-idle
@@ -42,12 +42,12 @@ returns-in-Ok-Raises g c =
 
 pub returns-in_ok-stand_far-in-Ok-Waits : goal.returns-in_ok-stand_far-in-Ok-Waits
 returns-in_ok-stand_far-in-Ok-Waits g c =
-    read_rests c.args.task c.args.body.now c.requires c.args.from c.read.new.parts c.read.new.self c.args.op c.in-Ok-Waits.field-0
+    read_suspends c.args.task c.args.body.now c.requires c.args.from c.read.new.parts c.read.new.self c.args.op c.in-Ok-Waits.field-0
     c.in-Ok-Waits.ensures.told c.in-Ok-Waits.on c.in-Ok-Waits.field-0-is c.stand_far.new.self c.suspend-suspension.new.self
-    c.in_ok-stand_far-in-Ok-Waits.ensures.beside
+    c.in_ok-stand_far-in-Ok-Waits.ensures.frame
     c.in_ok-stand_far-in-Ok-Waits.ensures.slots
     (record {
       after = c.suspend-suspension.ensures.after;
       queue = c.suspend-suspension.ensures.queue;
-      beside = c.suspend-suspension.ensures.beside;
+      frame = c.suspend-suspension.ensures.frame;
     })

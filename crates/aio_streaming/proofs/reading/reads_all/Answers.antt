@@ -3,12 +3,12 @@ use Rattle.model_value.specs.Value.{Bytes}
 use Rattle.model_stream.specs.declared.answers.StreamGot.TheVariants as got
 use Rattle.model_machine.specs.Replies.{reads_all}
 use Rattle.aio_body.specs.declared.reply.RequestReply.TheVariants as said
-use Rattle.aio_body.specs.Slots.{standing_at}
-use Rattle.aio_body.specs.declared.standing.Standing.TheVariants.{ReadingAll}
+use Rattle.aio_body.specs.Slots.{resume_point_at}
+use Rattle.aio_body.specs.declared.resume_point.ResumePoint.TheVariants.{ReadingAll}
 use Rattle.aio_receiver.specs.Gotten.{all_got}
 use Rattle.aio_transports.specs.Readers.{reader_as}
 use Rattle.aio_streaming.specs.Going.{RepliesOn}
-use Rattle.aio_streaming.proofs.Looks.{all_answers, all_pending, all_raises, all_rests, all_running, answers_on, on_idle, on_owned, on_within}
+use Rattle.aio_streaming.proofs.Looks.{all_answers, all_pending, all_raises, all_suspends, all_running, answers_on, on_idle, on_owned, on_within}
 use Rattle.aio_streaming.proofs.reading.reads_all.Goals as goal
 
 pub read_all-requires-clause-idle : goal.read_all-requires-clause-idle
@@ -62,14 +62,14 @@ pub returns-in_ok-stand_far-in-Ok-joined-2 : goal.returns-in_ok-stand_far-in-Ok-
 returns-in_ok-stand_far-in-Ok-joined-2 g c =
     let is : c.in-Ok.field-0.got ≡ got.Waits c.in-Waits.on = cc (c.in-Waits.is) in
     let all : c.in-Ok-joined-2.taken ≡ c.args.taken ++ c.in-Ok.field-0.taken = cc (c.in-Ok-joined-2.ensures) in
-    all_rests c.args.task c.args.body.now c.requires c.args.from c.read_all.new.parts c.read_all.new.self c.args.taken
+    all_suspends c.args.task c.args.body.now c.requires c.args.from c.read_all.new.parts c.read_all.new.self c.args.taken
     (all_got c.in-Ok.field-0) c.in-Ok.ensures.told
-    c.in-Waits.on is c.stand_far.new.self c.suspend-suspension.new.self c.in_ok-stand_far-in-Ok-joined-2.ensures.beside
+    c.in-Waits.on is c.stand_far.new.self c.suspend-suspension.new.self c.in_ok-stand_far-in-Ok-joined-2.ensures.frame
     (c.in_ok-stand_far-in-Ok-joined-2.ensures.slots
-    ∙ ap (λ (bytes : List ℕ). standing_at c.args.task (ReadingAll c.args.from bytes c.in-Waits.on) c.args.body.now.slots.items)
+    ∙ ap (λ (bytes : List ℕ). resume_point_at c.args.task (ReadingAll c.args.from bytes c.in-Waits.on) c.args.body.now.slots.items)
     all)
     (record {
       after = c.suspend-suspension.ensures.after;
       queue = c.suspend-suspension.ensures.queue;
-      beside = c.suspend-suspension.ensures.beside;
+      frame = c.suspend-suspension.ensures.frame;
     })

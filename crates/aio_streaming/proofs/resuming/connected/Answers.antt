@@ -21,6 +21,6 @@ returns-in-Throw g c = record {
   comes =
       rw (c.thrown.ensures, c.in-Throw.is) (connect_raises g.X.Extra.added c.args.task (Connecting c.args.conn) c.args.body.now g.W.Wire.outside c.requires
       c.drop_made.new.body c.args.wire.now c.drop_made.new.wire c.args.conn c.in-Throw.fault (λ s. refl)
-      c.drop_made.ensures.beside c.drop_made.result
+      c.drop_made.ensures.frame c.drop_made.result
       c.drop_made.ensures.comes);
 }

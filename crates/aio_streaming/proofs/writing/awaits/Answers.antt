@@ -25,4 +25,4 @@ pub returns : goal.returns
 returns g c =
     awaits_so c.args.task c.args.on c.args.body.now
     (sym c.outcome.ensures ∙ ap option_copied c.in_default.is) c.suspend-suspension.new.self
-    c.suspend-suspension.ensures.after c.suspend-suspension.ensures.queue c.suspend-suspension.ensures.beside
+    c.suspend-suspension.ensures.after c.suspend-suspension.ensures.queue c.suspend-suspension.ensures.frame

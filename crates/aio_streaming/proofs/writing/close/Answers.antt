@@ -52,7 +52,7 @@ returns-in-Some-Server g c =
           ∙ ap (λ k. Some (closable_as k)) c.in-Some-Server.field-0-is))
           (close_server_forgets c.in-Some-Server.id)
           (λ s kept. closes_server (is_plain s.loop.parts) (next_future s.loop.parts) c.in-Some-Server.id s.streams kept)
-          (told_beside c.args.body.now c.close_listener.new.body c.close_listener.ensures.beside) c.close_listener.result
+          (told_beside c.args.body.now c.close_listener.new.body c.close_listener.ensures.frame) c.close_listener.result
           c.close_listener.ensures.comes);
     }
 

@@ -49,7 +49,7 @@ returns-in-Ok-Yields g c =
     drain_yields c.args.task c.args.body.now c.requires new refl refl
     c.args.yielded c.args.whom c.in-Ok-Yields.field-0 c.in-Ok-Yields.ensures.told c.in-Ok-Yields.field-0-is c.stand.new.self
     c.pause.new.self
-    c.pause.ensures.after c.pause.ensures.beside c.stand.ensures.beside c.stand.ensures.slots
+    c.pause.ensures.after c.pause.ensures.frame c.stand.ensures.frame c.stand.ensures.slots
 
 pub returns-in-Ok-Waits : goal.returns-in-Ok-Waits
 returns-in-Ok-Waits g c =
@@ -60,7 +60,7 @@ returns-in-Ok-Waits g c =
     (record {
       after = c.suspend-suspension.ensures.after;
       queue = c.suspend-suspension.ensures.queue;
-      beside = c.suspend-suspension.ensures.beside;
+      frame = c.suspend-suspension.ensures.frame;
     })
 
 pub returns-in-Ok-Raises : goal.returns-in-Ok-Raises

@@ -79,5 +79,5 @@ returns g c =
           (sym c.as_bytes.ensures ∙ ap (option_map _) c.in-Some-as_bytes.is ∙ ap Some (sym c.as_slice.ensures.value)))
           (write_forgets c.in-Some.whom piece) WaitsNever
           (λ s kept. writes (is_plain s.loop.parts) (next_future s.loop.parts) c.in-Some.whom piece s.streams kept)
-          c.write_piece.ensures.beside c.write_piece.result c.wrote.result c.write_piece.ensures.comes c.wrote.ensures;
+          c.write_piece.ensures.frame c.write_piece.result c.wrote.result c.write_piece.ensures.comes c.wrote.ensures;
     }

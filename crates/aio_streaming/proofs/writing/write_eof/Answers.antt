@@ -48,5 +48,5 @@ returns g c =
           (sym (c.as_conn.ensures s h.going.in_step.stands.transports) ∙ c.in-Some.is))
           (write_eof_forgets c.in-Some.conn)
           (λ s kept. ends (is_plain s.loop.parts) (next_future s.loop.parts) c.in-Some.conn s.streams kept)
-          c.write_end.ensures.beside c.write_end.result c.write_end.ensures.comes);
+          c.write_end.ensures.frame c.write_end.result c.write_end.ensures.comes);
     }

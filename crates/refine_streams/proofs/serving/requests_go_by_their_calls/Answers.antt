@@ -14,9 +14,9 @@ returns-clause-stops g c = λ task request old new wire after tree next why mean
     means (reply_leaves _ _ _) adds forgets why call
 
 pub returns-clause-answers : goal.returns-clause-answers
-returns-clause-answers g c = λ task request old new wire after tree next it value means has call keeping beside is.
+returns-clause-answers g c = λ task request old new wire after tree next it value means has call keeping frame is.
     let p = serving g.X.Extra.added task request old new in
     let come =
-    do_goes _ p (Some task) old new wire after (λ d s from. may_asking d old s task request from) has tree next means WaitsNever it call keeping beside in
+    do_goes _ p (Some task) old new wire after (λ d s from. may_asking d old s task request from) has tree next means WaitsNever it call keeping frame in
     gone_ends g.W.Wire.outside p (Some task) old new wire after _ (next it) come new (said.Answers value) refl
     (λ d s from gone. answers_so task (before come.0 d) old new s from.going.in_step _ _ (next it) d gone value is)

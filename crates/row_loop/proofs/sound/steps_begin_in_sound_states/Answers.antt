@@ -1,6 +1,6 @@
 use Rattle.row_loop.proofs.StepStates.{awaited_stands, handled_stands, handler_runs_stands, main_done_stands, nothing_made_stands, one_task_stands}
-use Rattle.row_loop.proofs.StepStates.{paused_stands, running_marked_never, running_marked_once, running_marked_twice, running_over_none_stands}
-use Rattle.row_loop.proofs.StepStates.{running_stands, sleeping_stands, three_timers_stands, two_due_stands, woken_and_marked_stands, woken_at_once_stands}
+use Rattle.row_loop.proofs.StepStates.{paused_stands, running_must_cancel_never, running_must_cancel_once, running_must_cancel_twice, running_over_none_stands}
+use Rattle.row_loop.proofs.StepStates.{running_stands, sleeping_stands, three_timers_stands, two_due_stands, woken_and_must_cancel_stands, woken_at_once_stands}
 use Rattle.row_loop.proofs.sound.steps_begin_in_sound_states.Goals as goal
 
 pub returns-clause-nothing_made : goal.returns-clause-nothing_made
@@ -12,14 +12,14 @@ returns-clause-one_task c = one_task_stands
 pub returns-clause-running : goal.returns-clause-running
 returns-clause-running c = running_stands
 
-pub returns-clause-marked_once : goal.returns-clause-marked_once
-returns-clause-marked_once c = running_marked_once
+pub returns-clause-must_cancel_once : goal.returns-clause-must_cancel_once
+returns-clause-must_cancel_once c = running_must_cancel_once
 
-pub returns-clause-marked_twice : goal.returns-clause-marked_twice
-returns-clause-marked_twice c = running_marked_twice
+pub returns-clause-must_cancel_twice : goal.returns-clause-must_cancel_twice
+returns-clause-must_cancel_twice c = running_must_cancel_twice
 
-pub returns-clause-marked_uncounted : goal.returns-clause-marked_uncounted
-returns-clause-marked_uncounted c = running_marked_never
+pub returns-clause-must_cancel_uncounted : goal.returns-clause-must_cancel_uncounted
+returns-clause-must_cancel_uncounted c = running_must_cancel_never
 
 pub returns-clause-sleeping : goal.returns-clause-sleeping
 returns-clause-sleeping c = sleeping_stands
@@ -27,8 +27,8 @@ returns-clause-sleeping c = sleeping_stands
 pub returns-clause-woken_at_once : goal.returns-clause-woken_at_once
 returns-clause-woken_at_once c = woken_at_once_stands
 
-pub returns-clause-woken_and_marked : goal.returns-clause-woken_and_marked
-returns-clause-woken_and_marked c = woken_and_marked_stands
+pub returns-clause-woken_and_must_cancel : goal.returns-clause-woken_and_must_cancel
+returns-clause-woken_and_must_cancel c = woken_and_must_cancel_stands
 
 pub returns-clause-paused : goal.returns-clause-paused
 returns-clause-paused c = paused_stands

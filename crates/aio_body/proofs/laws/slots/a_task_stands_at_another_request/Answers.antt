@@ -1,5 +1,5 @@
-use Rattle.aio_body.proofs.Slotting.{stands_standing}
+use Rattle.aio_body.proofs.Slotting.{stands_resume_point}
 use Rattle.aio_body.proofs.laws.slots.a_task_stands_at_another_request.Goals as goal
 
 pub returns : goal.returns
-returns g c = stands_standing
+returns g c = stands_resume_point

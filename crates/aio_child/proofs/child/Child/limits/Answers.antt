@@ -15,16 +15,16 @@ returns-clause-is c =
     c.self.view_is
     (ap (λ d. and_then {A = Sender × Limited} {B = Child × Limited} d (λ done. Ends (its_stdin.put done.0 before, done.1))) c.limits.ensures.is)
 
-pub returns-clause-beside : goal.returns-clause-beside
-returns-clause-beside c =
+pub returns-clause-frame : goal.returns-clause-frame
+returns-clause-frame c =
     let i = c.self.inside in
     let before : Child = record { stdin = i.stdin; out = i.out; errs = i.errs; code = i.code; waits = i.waits.items } in
     subst (λ (v : Child). record before { stdin = c.limits.new.self } ≡ record v { stdin = record v.stdin { writer = c.limits.new.self.writer } })
-    c.self.view_is (ap (λ (s : Sender). record before { stdin = s }) c.limits.ensures.beside)
+    c.self.view_is (ap (λ (s : Sender). record before { stdin = s }) c.limits.ensures.frame)
 
 pub returns-clause-own : goal.returns-clause-own
 returns-clause-own c v own =
     let i = c.self.inside in
     let before : Child = record { stdin = i.stdin; out = i.out; errs = i.errs; code = i.code; waits = i.waits.items } in
     let was : OwnsChild v before = subst (OwnsChild v) (sym c.self.view_is) own in
-    record { stdin = subst (OwnsSender v) (sym c.limits.ensures.beside) was.stdin; out = was.out; errs = was.errs; waits = was.waits }
+    record { stdin = subst (OwnsSender v) (sym c.limits.ensures.frame) was.stdin; out = was.out; errs = was.errs; waits = was.waits }

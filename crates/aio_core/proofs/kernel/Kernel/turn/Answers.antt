@@ -19,7 +19,7 @@ returns-in-Some g c =
       stays = (refl, omega arith);
       kept = kept_end c.end.result c.end.new.kept c.end.ensures.kept;
       again = if_some c.args.self.now.ended (λ it. Again it c.end.result) c.in-Some.ended it_ended c.end.ensures.answer;
-      still = if_some c.args.self.now.ended (λ it. c.args.wire.now ≡ c.args.wire.now) c.in-Some.ended it_ended refl;
+      unchanged = if_some c.args.self.now.ended (λ it. c.args.wire.now ≡ c.args.wire.now) c.in-Some.ended it_ended refl;
     }
 
 -- ---- it had not
@@ -54,7 +54,7 @@ returns-in-Ok g c =
       stays = c.in-Ok.ensures.stays;
       kept = kept_now c.in-Ok.went c.keep.result c.take.new.self c.keep.new.kept c.take.ensures.after c.keep.ensures;
       again = if_none c.args.self.now.ended (λ it. Again it c.keep.result) none;
-      still = if_none c.args.self.now.ended (λ it. c.turn.new.wire ≡ c.args.wire.now) none;
+      unchanged = if_none c.args.self.now.ended (λ it. c.turn.new.wire ≡ c.args.wire.now) none;
     }
 
 pub returns-in-Err : goal.returns-in-Err
@@ -74,5 +74,5 @@ returns-in-Err g c =
       stays = c.in-Err.ensures.stays;
       kept = kept_now said c.keep-in-Err.result c.take.new.self c.keep-in-Err.new.kept c.take.ensures.after c.keep-in-Err.ensures;
       again = if_none c.args.self.now.ended (λ it. Again it c.keep-in-Err.result) none;
-      still = if_none c.args.self.now.ended (λ it. c.turn.new.wire ≡ c.args.wire.now) none;
+      unchanged = if_none c.args.self.now.ended (λ it. c.turn.new.wire ≡ c.args.wire.now) none;
     }

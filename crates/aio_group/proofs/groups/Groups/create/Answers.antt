@@ -5,7 +5,7 @@ use Rattle.model_loop.specs.Tasks.{next_task}
 use Rattle.aio_group.specs.declared.created.Created.TheVariants as created
 use Rattle.aio_group.specs.Answers.{created_of}
 use Rattle.aio_group.specs.Held.{shown}
-use Rattle.aio_group.specs.Stands.{AllBelong, Stands, Came}
+use Rattle.aio_group.specs.Stands.{AllBelong, GroupsStand, Came}
 use Rattle.aio_group.proofs.Calls.{on_err, found, found_belongs, found_stands, kept_same, changed_belong, not_entered_came, not_refused, refused_came}
 use Rattle.aio_group.proofs.Going.{same_moves}
 use Rattle.aio_group.proofs.Listing.{get_past, set-same}
@@ -23,7 +23,7 @@ returns-in_default-clause-stands c =
     let items = c.self.inside.held.items in
     λ t l s.
     not_entered_came t items c.args.parts.now l c.args.id (get_past items c.args.id c.in_default.ensures.item.3)
-    (subst (λ gs. Stands t gs c.args.parts.now l) (sym c.self.view_is) s)
+    (subst (λ gs. GroupsStand t gs c.args.parts.now l) (sym c.self.view_is) s)
 
 pub returns-in-Some-refuses-clause-belongs : goal.returns-in-Some-refuses-clause-belongs
 returns-in-Some-refuses-clause-belongs c =

@@ -1,7 +1,7 @@
 use Rattle.std.proofs.Common.{slice_set, ap, sym, subst, inl}
 use Rattle.model_loop.specs.Groups.{enter_group}
 use Rattle.aio_group.specs.Held.{Held}
-use Rattle.aio_group.specs.Stands.{AllBelong, Stands}
+use Rattle.aio_group.specs.Stands.{AllBelong, GroupsStand}
 use Rattle.aio_group.proofs.Belonging.{all_belong_set, belongs_as}
 use Rattle.aio_group.proofs.Calls.{found, found_stands}
 use Rattle.aio_group.proofs.Listing.{get_past}
@@ -26,7 +26,7 @@ returns-clause-stands c =
     let items = c.self.inside.held.items in
     let f = found c.args.id c.in-Some.group.now c.self.view_is c.in-Some.ensures.item.3.0 c.in-Some.ensures.item.1 in
     λ t v l s.
-    subst (λ h. Stands t (slice_set items c.args.id h) v (enter_group c.args.id l)) (sym c.enter.ensures)
+    subst (λ h. GroupsStand t (slice_set items c.args.id h) v (enter_group c.args.id l)) (sym c.enter.ensures)
     (enter_stands t items v l c.args.id held f.at (found_stands f t v l s))
 
 pub returns-in_default-clause-belongs : goal.returns-in_default-clause-belongs
@@ -37,4 +37,4 @@ returns-in_default-clause-stands c =
     let items = c.self.inside.held.items in
     λ t v l s.
     enter_none t items v l c.args.id (get_past items c.args.id c.in_default.ensures.item.3)
-    (subst (λ gs. Stands t gs v l) (sym c.self.view_is) s)
+    (subst (λ gs. GroupsStand t gs v l) (sym c.self.view_is) s)

@@ -9,4 +9,4 @@ wait-tells c =
     let before = c.args.self.now in
     subst (λ (x : Exited × ExitPlan). ExitAnswers (plan_seen before) x.0 (plan_seen x.1))
     (λ i. (sym c.ensures.answer i, sym c.ensures.after i))
-    (wait_answers before (subst (λ (p : ExitPlan). before.faults ≤ p.faults) c.ensures.after c.ensures.later))
+    (wait_answers before (subst (λ (p : ExitPlan). before.faults ≤ p.faults) c.ensures.after c.ensures.monotone))

@@ -9,6 +9,6 @@ invariant_of-self c =
     let old = c.self.invariant in
     let called = ap (λ (v : View). v.called) c.self.view_is ∙ c.requires.called in
     let alone = ap (λ (v : View). v.running) c.self.view_is ∙ c.requires.alone in (
-      begin_kept _ c.begin-marked.new.body c.args.task c.args.input called alone c.begin-marked.ensures.after c.begin-marked.ensures.queue old.0,
-      sized _ _ _ _ _ _ _ (size_begin c.args.task c.args.input _) c.begin-marked.ensures.after old.1.unnoted old.1,
+      begin_kept _ c.begin-must_cancel.new.body c.args.task c.args.input called alone c.begin-must_cancel.ensures.after c.begin-must_cancel.ensures.queue old.0,
+      sized _ _ _ _ _ _ _ (size_begin c.args.task c.args.input _) c.begin-must_cancel.ensures.after old.1.unnoted old.1,
     )

@@ -16,8 +16,8 @@ returns-clause-after c = λ t l keeps.
     (record {
       parts = c.cancel-answer.ensures.after ∙ ap (λ (target : ℕ). (cancel target (parts v)).parts) c.future_of.ensures;
       queue = c.cancel-answer.ensures.queue;
-      time = ap (λ (x : View). x.time) c.cancel-answer.ensures.beside;
-      schedule = ap (λ (x : View). x.schedule) c.cancel-answer.ensures.beside;
+      time = ap (λ (x : View). x.time) c.cancel-answer.ensures.frame;
+      schedule = ap (λ (x : View). x.schedule) c.cancel-answer.ensures.frame;
     })
 
 pub returns-clause-given_up : goal.returns-clause-given_up

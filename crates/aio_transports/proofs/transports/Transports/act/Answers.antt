@@ -143,7 +143,7 @@ act-requires-clause-no_child g c =
     or_else r (λ w. no (action.HandlerDone w.0 w.1) w.2 refl) (λ r.
     or_else r (λ w. no (action.Made w.0) w.1 refl) (λ r.
     or_else r (λ w. no (action.Step w.0) w.1 refl) (λ r.
-    or_else r (λ w. no (action.StepInCircle w.0 w.1) w.2 refl) (λ r.
+    or_else r (λ w. no (action.StepInCycle w.0 w.1) w.2 refl) (λ r.
     or_else r (λ w. no (action.Wakeup w.0) w.1 refl) (λ r.
     or_else r (λ w. no (action.SleepDone w.0 w.1) w.2 refl) (λ r.
     or_else r (λ w. no (action.GroupDone w.0 w.1) w.2 refl) (λ r.

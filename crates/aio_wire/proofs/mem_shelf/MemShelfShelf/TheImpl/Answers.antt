@@ -38,7 +38,7 @@ read-tells c =
           (λ told is. let same : file ≡ told = cc in subst (λ (f : Option (List ℕ)). ReadsAt f c.args.from given) same
           (ReadsAt-got_at file c.args.from c.args.max c.requires));
       counted = from_given c.result given (ReadLeavesShelf c.args.name.now (seen_of before) (seen_of c.new.self.now)) c.ensures.next
-          (ReadLeavesShelf-got_at before c.new.self.now c.args.name.now file c.args.from c.args.max c.ensures.after c.ensures.later);
+          (ReadLeavesShelf-got_at before c.new.self.now c.args.name.now file c.args.from c.args.max c.ensures.after c.ensures.monotone);
       files = λ i name. Some (held (c.ensures.after i) name);
       err = on_err_weaker c.result (λ same. ap seen_of same) c.ensures.unchanged;
     }

@@ -1,5 +1,0 @@
-use Rattle.aio_body.proofs.Rooms.{pauses_so}
-use Rattle.aio_body.proofs.laws.steps.a_pause_rests.Goals as goal
-
-pub returns : goal.returns
-returns g c = pauses_so

@@ -1,5 +1,0 @@
-use Rattle.law_cancel.proofs.Reach.{leads_decides}
-use Rattle.law_cancel.proofs.circles.test_decides.Goals as goal
-
-pub returns : goal.returns
-returns c = leads_decides

@@ -1,5 +1,0 @@
-use Rattle.law_promises.proofs.Falling.{failure_first}
-use Rattle.law_promises.proofs.marks.another_exception_comes_first.Goals as goal
-
-pub returns : goal.returns
-returns c = failure_first

@@ -1,0 +1,11 @@
+use Rattle.law_promises.proofs.Falling.{begin_falls, finish_falls, suspend_falls}
+use Rattle.law_promises.proofs.must_cancel.must_cancel_falls.Goals as goal
+
+pub returns-clause-begins : goal.returns-clause-begins
+returns-clause-begins c = begin_falls
+
+pub returns-clause-returns : goal.returns-clause-returns
+returns-clause-returns c = finish_falls
+
+pub returns-clause-waits : goal.returns-clause-waits
+returns-clause-waits c = suspend_falls
