@@ -19,6 +19,7 @@ pub struct Reports<N: InboxName> {
 }
 
 impl<N: InboxName> Reports<N> {
+    /// Four places in which nothing is yet.
     pub fn new() -> Reports<N> {
         Reports {
             stdin: Slot::new(),

@@ -10,6 +10,7 @@ pub struct Slot<T> {
 }
 
 impl<T: Drop> Slot<T> {
+    /// A place in which nothing is yet.
     pub fn new() -> Slot<T> {
         Slot {
             item: Mutex::new(None),

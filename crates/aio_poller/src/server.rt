@@ -21,6 +21,7 @@ struct Pause {
 }
 
 impl Server {
+    /// The server of a listener that was just opened: nothing is registered of it.
     pub fn new(listener: TcpListener) -> Server {
         Server {
             listener,

@@ -60,6 +60,7 @@ impl Sockets {
         })
     }
 
+    /// A bell that wakes this poller from any thread. Only want of memory fails.
     pub fn bell(&self) -> Result<PollerBell, Memory> {
         Ok(PollerBell::of(Arc::try_clone(&self.waker)?))
     }

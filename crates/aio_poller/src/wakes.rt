@@ -32,6 +32,7 @@ impl Model for Wakes {
 }
 
 impl Wakes {
+    /// No wake was counted yet.
     pub fn none() -> Wakes
         ensures { result ≡ 0 }
     {

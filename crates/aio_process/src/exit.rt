@@ -21,6 +21,7 @@ pub struct ChildExit<R> {
 }
 
 impl<R> ChildExit<R> {
+    /// The exit of a process that runs: it wasn't waited for yet.
     pub fn make(rt: R, process: Arc<Process, Global>) -> ChildExit<R> {
         ChildExit {
             rt,

@@ -30,6 +30,7 @@ pub struct PipeSource<P> {
 }
 
 impl<P> PipeSource<P> {
+    /// What a process writes into this pipe, from its first byte.
     pub fn make(pipe: P, process: Arc<Process, Global>) -> PipeSource<P> {
         PipeSource {
             pipe,
@@ -124,6 +125,7 @@ pub struct PipeSink<P> {
 }
 
 impl<P> PipeSink<P> {
+    /// What a process reads from this pipe.
     pub fn make(pipe: P, process: Arc<Process, Global>) -> PipeSink<P> {
         PipeSink {
             pipe,

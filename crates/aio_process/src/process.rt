@@ -19,6 +19,7 @@ pub struct Process {
 }
 
 impl Process {
+    /// The process of a child that was just started.
     pub fn of(child: Child) -> Process {
         Process {
             child: Mutex::new(child),

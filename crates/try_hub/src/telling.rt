@@ -6,6 +6,7 @@ use std::alloc::Global;
 /// The most bytes that are told by themselves; more are told by their number.
 const FEW: usize = 8;
 
+/// The text is told, with no end of its line.
 pub fn say(text: &str, told: &mut Vec<u8>) -> Result<(), Memory> {
     told.extend_from_slice(text.as_bytes())?;
     Ok(())

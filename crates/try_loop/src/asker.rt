@@ -27,6 +27,7 @@ impl Asker {
     ghost use Rattle.aio_extra.specs.Added.{KeepsNothing};
     ghost use Rattle.try_loop.specs.Asker.{asker};
 
+    /// One that keeps nothing.
     pub fn new() -> Asker
         ensures { KeepsNothing asker result tt }
     {

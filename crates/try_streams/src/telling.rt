@@ -7,6 +7,7 @@ use aio_written::push_call;
 use model_stream::{ChildWait, Wrote};
 use std::alloc::Global;
 
+/// A line of its own.
 pub fn say(text: &str, told: &mut Vec<u8>) -> Result<(), Memory> {
     told.extend_from_slice(text.as_bytes())?;
     told.push(b'\n')?;
@@ -18,6 +19,7 @@ fn say_waits(alloc: Global, future: u64, told: &mut Vec<u8>) -> Result<(), Memor
     say(line.as_str(), told)
 }
 
+/// The child that was launched, or that it was refused.
 pub fn say_launch(alloc: Global, number: Option<u32>, told: &mut Vec<u8>) -> Result<(), Memory> {
     match number {
         None => say("refused", told),
@@ -28,6 +30,7 @@ pub fn say_launch(alloc: Global, number: Option<u32>, told: &mut Vec<u8>) -> Res
     }
 }
 
+/// What a write came to.
 pub fn say_wrote(wrote: Wrote, told: &mut Vec<u8>) -> Result<(), Memory> {
     match wrote {
         Wrote::Done => say("done", told),
@@ -35,6 +38,7 @@ pub fn say_wrote(wrote: Wrote, told: &mut Vec<u8>) -> Result<(), Memory> {
     }
 }
 
+/// Whether the marks were set.
 pub fn say_limited(limited: Limited, told: &mut Vec<u8>) -> Result<(), Memory> {
     match limited {
         Limited::Set => say("set", told),
@@ -42,6 +46,7 @@ pub fn say_limited(limited: Limited, told: &mut Vec<u8>) -> Result<(), Memory> {
     }
 }
 
+/// The exit's code, or the future that waits for it.
 pub fn say_wait(alloc: Global, said: ChildWait, told: &mut Vec<u8>) -> Result<(), Memory> {
     match said {
         ChildWait::Waits(future) => say_waits(alloc, future, told),
@@ -52,6 +57,7 @@ pub fn say_wait(alloc: Global, said: ChildWait, told: &mut Vec<u8>) -> Result<()
     }
 }
 
+/// What a drain came to.
 pub fn say_drain(alloc: Global, next: Drain, told: &mut Vec<u8>) -> Result<(), Memory> {
     match &next {
         Drain::Goes => say("goes", told),
@@ -64,6 +70,7 @@ pub fn say_drain(alloc: Global, next: Drain, told: &mut Vec<u8>) -> Result<(), M
     }
 }
 
+/// What a read gave, or the future that waits for it.
 pub fn say_got(alloc: Global, got: StreamGot, told: &mut Vec<u8>) -> Result<(), Memory> {
     match &got {
         StreamGot::Bytes(bytes) => {
