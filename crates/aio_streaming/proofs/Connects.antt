@@ -59,8 +59,14 @@ use Rattle.refine_streams.proofs.Served.{asking_idle, serving_fails, serving_goe
 use Rattle.aio_body.proofs.HasSlot.{slot_there}
 
 -- ---- what a connect leaves, where it began a connection
-Left : ℕ → Streams → Streams → ℕ × ℕ → Type 0
+abbrev Left : ℕ → Streams → Streams → ℕ × ℕ → Type 0
 Left next s after begun = (after ≡ add_connection (connecting next (next + 1)) s) × (begun.1 ≡ next + 1)
+
+ends_same : {A : Type 0} {a b : A} → Ends a ≡ Ends b → a ≡ b
+ends_same e = cc
+
+some_same : {A : Type 0} {a b : A} → Some a ≡ Some b → a ≡ b
+some_same e = cc
 
 begun_leaves : (port next : ℕ) (s after : Streams) (begun : ℕ × ℕ) (way : List Move) (left : Doing (Streams × Option (ℕ × ℕ)))
     → Leads (connect port next s) way left → left ≡ Ends (after, Some begun) → Left next s after begun
@@ -72,23 +78,17 @@ begun_leaves port next s after begun (Heard asked answer ∷ way) left leads e =
         then Changes MakeFuture (Changes MakeFuture
         (Ends (add_connection (connecting next (next + 1)) s, Some (length s.connections, next + 1))))
         else Ends (s, None)) way left → Left next s after begun
-    by false [] l = absurd (cc)
+    by false [] l = absurd (let none = ap (λ x. x.1) (ends_same (l ∙ e)) in cc)
     by false (it ∷ way) l = absurd l
     by true [] l = absurd (cc)
     by true (Heard other reply_ ∷ way) l = absurd l
     by true (Did it ∷ []) l = absurd (let same = l.1 in cc)
     by true (Did it ∷ Heard other reply_ ∷ way) l = absurd l.1
     by true (Did it ∷ Did also ∷ (more ∷ way)) l = absurd l.1.1
-    by true (Did it ∷ Did also ∷ []) l = (sym (ap (λ x. x.0) same), sym (next_of (length s.connections) begun.0 (next + 1) begun.1 (ap (λ x. x.1) same)))
-      where
-        whole : Ends (add_connection (connecting next (next + 1)) s, Some (length s.connections, next + 1)) ≡ Ends (after, Some begun)
-        whole = l.1.1 ∙ e
-
-        same : (add_connection (connecting next (next + 1)) s, Some (length s.connections, next + 1)) ≡ (after, Some begun)
-        same = cc
-
-        next_of : (one other on also_on : ℕ) → Some (one, on) ≡ Some (other, also_on) → on ≡ also_on
-        next_of one other on also_on is = cc
+    by true (Did it ∷ Did also ∷ []) l =
+        let same = ends_same (l.1.1 ∙ e) in
+        let begins = some_same (ap (λ x. x.1) same) in
+        (sym (ap (λ x. x.0) same), sym (ap (λ x. x.1) begins))
 
 -- with its result nothing is left to do
 by_all : {A : Type 0} (last : Last) (left : Doing A) (count : ℕ) (result : A) → EndsBy last left count (Ok result) → left ≡ Ends result
@@ -195,13 +195,13 @@ module _ {X W : Type 0} {a : Added X} (task number : ℕ) (request : Request) (o
               (reach new.parts after new.events) (Ok (after_, it)) × StandsAfter new.transports s.streams after_)
           called = call s.streams stands.transports
 
+          ended : called.1.0.left ≡ Ends (called.0, it)
+          ended = by_all called.1.0.last called.1.0.left new.events.answers (called.0, it) called.1.0.ends
+
           left : Left next s.streams called.0 begun
           left =
               begun_leaves number next s.streams called.0 begun called.1.0.way called.1.0.left called.1.0.leads
               (ended ∙ ap (λ x. Ends (called.0, x)) is)
-
-          ended : called.1.0.left ≡ Ends (called.0, it)
-          ended = by_all called.1.0.last called.1.0.left new.events.answers (called.0, it) called.1.0.ends
 
           before : times_asked (next + 1) s.streams ≡ 0
           before =
