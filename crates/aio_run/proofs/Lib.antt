@@ -2,3 +2,4 @@ mod Outcomes
 mod Promise
 mod TextFronts
 mod WireRuns
+mod Writing

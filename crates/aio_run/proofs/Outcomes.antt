@@ -1,5 +1,5 @@
 -- From a driven run to what the program may write.
-use Rattle.std.proofs.Common.{◌≡◌, ℕ, List, [], ◌∷◌, ◌++◌, Option, Some, None, refl, ap, sym, ◌∙◌, subst, inl, inr}
+use Rattle.std.proofs.Common.{◌≡◌, ℕ, List, [], ◌∷◌, ◌++◌, Option, Some, None, Result, Ok, Err, IfOk, IfErr, refl, ap, sym, ◌∙◌, subst, inl, inr}
 use Rattle.model_tree.specs.Syntax.{Program}
 use Rattle.model_text.specs.declared.cause.Cause.{Cause}
 use Rattle.model_text.specs.Canonical.{canonical}
@@ -25,17 +25,15 @@ use Rattle.aio_memwire.specs.JournalWire.{left_of, seen_of}
 use Rattle.aio_memwire.specs.Reading.{IsFront}
 use Rattle.aio_drive.specs.Drive.{DrivenWire, IsUnbegun, MayDrive, Undisturbed, over_all, over_front}
 use Rattle.aio_drive.specs.Outcome.{EndsEarly}
-use Rattle.aio_drive.specs.Writing.{StopsWriting}
 use Rattle.aio_drive.specs.declared.driver.Manner as code
 use Rattle.aio_drive.specs.declared.halt.Halt.{Halt}
-use Rattle.aio_drive.specs.declared.halt.Halt.TheVariants.{Memory, Sink}
-use Rattle.aio_drive.proofs.Fronts.{took-nil}
 use Rattle.aio_drive.proofs.Unrecorded.{early_wider, whole_wider}
 use Rattle.aio_tally.specs.Tallied.{Tallies, plain_counts}
 use Rattle.aio_tally.specs.declared.tallying.Tally.{Tally}
 use Rattle.aio_run.specs.Manner.{manner_of}
 use Rattle.aio_run.specs.Script.{SpellsScript, IsMissing, Tells, refusal_text}
 use Rattle.aio_run.specs.Working.{TalliesOver, TalliesWork}
+use Rattle.aio_run.specs.Writes.{Writes}
 use Rattle.aio_run.specs.declared.script.NoScript.{NoScript}
 use Rattle.aio_run.specs.declared.script.NoScript.TheVariants.{Refused, Failed, Memory as NoMemory}
 use Rattle.aio_run.proofs.TextFronts.{spells_alike}
@@ -149,34 +147,20 @@ module _ {F : Type 0} (seen : F → ShelfSeen) (first held now after : F) (name 
   none_then : Quiet → NoneFailed (seen first) (seen after)
   none_then quiet = none_failed (seen first) (seen after) (seen_kept seen first held now after kept left quiet)
 
-  pub run_whole : (old new : SinkSeen) (status : ℕ) → WritesWhole (Drives (over_all before after_it (Undisturbed Fails Quiet))) old new status
-      → WritesWhole Runs old new status
-  run_whole =
-      whole_wider (Drives (over_all before after_it (Undisturbed Fails Quiet))) Runs Quiet (NoneFailed (seen first) (seen after))
-      (runs ((over_all before after_it (Undisturbed Fails Quiet)).asked) ((over_all before after_it (Undisturbed Fails Quiet)).caused)) none_then
+  abbrev all : DrivenWire
+  all = over_all before after_it (Undisturbed Fails Quiet)
 
-  pub run_early : (halt : Halt) (old new : SinkSeen)
-      → EndsEarly (Drives (over_front halt before after_it (Undisturbed Fails Quiet))) (IsUnbegun Quiet before after_it) old new halt
-      → EndsEarly Runs (NoneFailed (seen first) (seen after)) old new halt
-  run_early halt =
-      early_wider (Drives (over_front halt before after_it (Undisturbed Fails Quiet))) Runs (IsUnbegun Quiet before after_it)
-      (NoneFailed (seen first) (seen after)) (runs ((over_front halt before after_it (Undisturbed Fails Quiet)).asked)
-      ((over_front halt before after_it (Undisturbed Fails Quiet)).caused)) (λ holds. none_then holds.0) halt
+  abbrev front : Halt → DrivenWire
+  front halt = over_front halt before after_it (Undisturbed Fails Quiet)
 
--- nothing was written, for want of memory
-pub nothing_yet : (may : ProgramOutput → Type 0) (none : Type 0) (sink : SinkSeen) → none → EndsEarly may none sink sink Memory
-nothing_yet may none sink holds = ([], inl (refl, holds), sym (took-nil sink))
-
--- a line that is all of an output
-pub line_early : (halt : Halt) (may : ProgramOutput → Type 0) (none : Type 0) (output : ProgramOutput) (text : List ℕ) (old new : SinkSeen) → may output
-    → text ≡ output.text → StopsWriting text old new halt → EndsEarly may none old new halt
-line_early Memory may none output text old new allowed same stops = (stops.0, inr (output, allowed, (stops.1.0, stops.1.1 ∙ same)), stops.2)
-line_early Sink may none output text old new allowed same stops = (stops.0, inr (output, allowed, (stops.1.0, stops.1.1 ∙ same)), stops.2)
-
--- none of it was written, for want of memory
-pub line_unwritten : (may : ProgramOutput → Type 0) (none : Type 0) (output : ProgramOutput) (sink : SinkSeen) → may output
-    → EndsEarly may none sink sink Memory
-line_unwritten may none output sink allowed = ([], inr (output, allowed, (output.text, refl)), sym (took-nil sink))
+  pub run_written : (old new : SinkSeen) (result : Result ℕ Halt) → IfOk result (WritesWhole (Drives all) old new)
+      → IfErr result (λ halt. EndsEarly (Drives (front halt)) (IsUnbegun Quiet before after_it) old new halt)
+      → Writes Runs (NoneFailed (seen first) (seen after)) old new result
+  run_written old new (Ok status) whole early =
+      whole_wider (Drives all) Runs Quiet (NoneFailed (seen first) (seen after)) (runs all.asked all.caused) none_then old new status whole
+  run_written old new (Err halt) whole early =
+      early_wider (Drives (front halt)) Runs (IsUnbegun Quiet before after_it) (NoneFailed (seen first) (seen after))
+      (runs (front halt).asked (front halt).caused) (λ holds. none_then holds.0) halt old new early
 
 -- ---- the work of a seed
 -- a journal's wire of which nothing was asked tells the entries of its file

@@ -1,6 +1,6 @@
 -- From a driven run over the wire to what the program may write.
 use Rattle.std.specs.Prelude.{codes}
-use Rattle.std.proofs.Common.{◌≡◌, ℕ, ◌≤◌, List, [], ◌∷◌, ◌++◌, Option, Some, None, length, refl, ap, sym, ◌∙◌, subst, inl, inr, append-nil, arith}
+use Rattle.std.proofs.Common.{◌≡◌, ℕ, ◌≤◌, List, [], ◌∷◌, ◌++◌, Option, Some, None, Result, Ok, Err, IfOk, IfErr, length, refl, ap, sym, ◌∙◌, subst, inl, inr, append-nil, arith}
 use Rattle.std.proofs.Math.Path.{fun_ext}
 use Rattle.std.specs.Option.{option_map}
 use Rattle.model_tree.specs.Syntax.{Program}
@@ -14,7 +14,7 @@ use Rattle.model_wire.specs.Event.{Event, calls_in, handed_in}
 use Rattle.model_wire.specs.Told.{ShelfSeen, SinkSeen, WireSeen, took}
 use Rattle.model_wire.specs.Trace.{End, lines_of_events}
 use Rattle.model_program.specs.Runs.{run}
-use Rattle.model_program.specs.Written.{MayBegin, ProgramOutput, WritesWhole}
+use Rattle.model_program.specs.Written.{MayBegin, ProgramOutput}
 use Rattle.model_commands.specs.Asked as plain
 use Rattle.model_commands.specs.Asked.{Asks, AsksOnce}
 use Rattle.model_commands.specs.Outputs.{KeepsOthers, MayRun, MayRunOver, MayRunScript, Outside, Pace, faulted}
@@ -32,8 +32,9 @@ use Rattle.aio_drive.specs.declared.halt.Halt.{Halt}
 use Rattle.aio_drive.specs.declared.halt.Halt.TheVariants.{Memory, Sink}
 use Rattle.aio_drive.proofs.Fronts.{took_on}
 use Rattle.aio_drive.proofs.Written.{early_by}
-use Rattle.aio_run.specs.Running.{TellsUntil, between, pace_of, told_all, told_until}
+use Rattle.aio_run.specs.Running.{TellsBy, between, pace_of, told_by}
 use Rattle.aio_run.specs.Script.{SpellsScript, IsMissing, Tells}
+use Rattle.aio_run.specs.Writes.{Writes}
 use Rattle.aio_run.specs.declared.script.NoScript.{NoScript}
 use Rattle.aio_run.specs.declared.script.NoScript.TheVariants.{Refused, Failed, Memory as NoMemory}
 use Rattle.aio_run.proofs.Outcomes.{refused_as}
@@ -129,7 +130,7 @@ module _ (program : Program) (how : Manner) (it : Driven) (fails : Type 0) (undi
 
 -- what was known of a run that was cut short
 pub until_so : (halt : Halt) (it : Driven) (events : List Event) → drive.TellsUntil halt it events
-    → TellsUntil halt (between_of it) it.shelf.name events
+    → TellsBy (Err halt) (between_of it) it.shelf.name events
 until_so Memory it events (front, rest, is, (more, one, asks), records) =
     (front, rest, is, (more, one, asks-same (front ++ more) it.before it.after asks), records)
 until_so Sink it events (front, rest, is, told) = (front, rest, is, (asks-same front it.before it.after told.0, told.1))
@@ -163,57 +164,44 @@ module _ (program : Program) (how : Manner) (it : Driven) (first mid : SinkSeen)
     is = refl;
   }
 
-  pub cut_whole : (fails : Type 0) (told : Option (List ℕ) → List Event → Type 0) (caused : End → Type 0) (last : SinkSeen) (status : ℕ)
-      → status ≡ 9 → last ≡ took mid (codes "! fault shelf\n")
-      → WritesWhole
-      (MayRun (record { seen = between_of it; fails = fails; told = told; caused = caused }) program (pace_of it.shelf.name how)) first last status
-  unfolding cut_short
-  cut_whole fails told caused last status is wrote = (
-    cut_short,
-    inr (inr stops_so),
-    took_on first mid last (lines_of_events how.trace (run program stops.had stops.made).events) (codes "! fault shelf\n") stops.wrote wrote
-        ∙ ap (took first) (sym cut_text),
-    is,
-  )
+  abbrev lines : List ℕ
+  lines = lines_of_events how.trace (run program stops.had stops.made).events
 
-  pub cut_early : (fails : Type 0) (told : Option (List ℕ) → List Event → Type 0) (caused : End → Type 0) (none : Type 0) (last : SinkSeen) (halt : Halt)
-      → StopsWriting (codes "! fault shelf\n") mid last halt
-      → EndsEarly
-      (MayRun (record { seen = between_of it; fails = fails; told = told; caused = caused }) program (pace_of it.shelf.name how)) none first last halt
-  cut_early fails told caused none last halt stopped =
-      early_by (MayRun (record { seen = between_of it; fails = fails; told = told; caused = caused }) program (pace_of it.shelf.name how)) none first mid
-      (lines_of_events how.trace (run program stops.had stops.made).events) stops.wrote cut_short (inr (inr stops_so))
-      (codes "! fault shelf\n") [] (cut_text ∙ ap (λ (t : List ℕ). lines_of_events how.trace (run program stops.had stops.made).events ++ t)
-      (sym (append-nil (codes "! fault shelf\n")))) last halt stopped
+  abbrev fault : List ℕ
+  fault = codes "! fault shelf\n"
+
+  -- the fault's line was written after those of the turns before, or a front of it
+  pub cut_written : (fails none : Type 0) (last : SinkSeen) (result : Result ℕ Halt) → IfOk result (λ status. (status ≡ 9) × (last ≡ took mid fault))
+      → IfErr result (StopsWriting fault mid last)
+      → Writes (MayRun (told_by result (between_of it) fails) program (pace_of it.shelf.name how)) none first last result
+  unfolding cut_short
+  cut_written fails none last (Ok status) done stopped =
+      (cut_short, inr (inr stops_so), took_on first mid last lines fault stops.wrote done.1 ∙ ap (took first) (sym cut_text), done.0)
+  cut_written fails none last (Err halt) done stopped =
+      early_by (MayRun (told_by (Err halt) (between_of it) fails) program (pace_of it.shelf.name how)) none first mid lines stops.wrote cut_short
+      (inr (inr stops_so)) fault [] (cut_text ∙ ap (λ (t : List ℕ). lines ++ t) (sym (append-nil fault))) last halt stopped
 
 -- ---- scripts
 -- a script's run, by the rules for its text; reading it changed nothing of the shelf
-pub run_by_script : (script : Program) (old mid new : ShelfSeen) (before after : WireSeen) (name : List ℕ) (fails : Type 0)
-    (told : Between → Option (List ℕ) → List Event → Type 0) (caused : End → Type 0) (pace : Pace) → SpellsScript (old.file name) script → mid ≡ old
-    → (output : ProgramOutput)
-    → MayRun (record { seen = between mid new before after; fails = fails; told = told (between mid new before after); caused = caused }) script pace output
-    → MayRunOver (record { seen = between old new before after; fails = fails; told = told (between old new before after); caused = caused }) name pace output
-run_by_script script old mid new before after name fails told caused pace spells same output may =
-    let it : ShelfSeen → Outside = λ s. record {
-      seen = between s new before after;
-      fails = fails;
-      told = told (between s new before after);
-      caused = caused;
-    } in
+pub run_by_script : (script : Program) (old mid new : ShelfSeen) (before after : WireSeen) (name : List ℕ) (fails : Type 0) (result : Result ℕ Halt)
+    (pace : Pace) → SpellsScript (old.file name) script → mid ≡ old → (output : ProgramOutput)
+    → MayRun (told_by result (between mid new before after) fails) script pace output
+    → MayRunOver (told_by result (between old new before after) fails) name pace output
+run_by_script script old mid new before after name fails result pace spells same output may =
+    let it : ShelfSeen → Outside = λ s. told_by result (between s new before after) fails in
     let here = subst (λ (s : ShelfSeen). MayRun (it s) script pace output) same may in
     inr (spells.0, spells.1, subst (λ (p : Judged Program). MayRunScript (it old) p pace output) (sym spells.2) here)
 
-pub run_without : (none : NoScript) (old new : ShelfSeen) (seen : WireSeen) (name : List ℕ) (fails : Type 0)
-    (told : Option (List ℕ) → List Event → Type 0) (caused : End → Type 0) (pace : Pace) → IsMissing name old new none → new.file ≡ old.file
-    → (output : ProgramOutput) → Tells none output
-    → MayRunOver (record { seen = between old new seen seen; fails = fails; told = told; caused = caused }) name pace output
-run_without (Refused number cause) old new seen name fails told caused pace missing kept output tells =
+pub run_without : (none : NoScript) (old new : ShelfSeen) (seen : WireSeen) (name : List ℕ) (fails : Type 0) (result : Result ℕ Halt) (pace : Pace)
+    → IsMissing name old new none → new.file ≡ old.file → (output : ProgramOutput) → Tells none output
+    → MayRunOver (told_by result (between old new seen seen) fails) name pace output
+run_without (Refused number cause) old new seen name fails result pace missing kept output tells =
     let (text, why, says, spells, is) = missing.0 in
-    let it : Outside = record { seen = between old new seen seen; fails = fails; told = told; caused = caused } in
+    let it : Outside = told_by result (between old new seen seen) fails in
     let refused : MayRunScript it (fault_at number why) pace output = ((refl, missing.1), refused_as number cause why output is tells) in
     inr (text, says, subst (λ (p : Judged Program). MayRunScript it p pace output) (sym spells) refused)
-run_without Failed old new seen name fails told caused pace missing kept output tells = inl (missing, kept, refl, tells)
-run_without NoMemory old new seen name fails told caused pace missing kept output tells = absurd tells
+run_without Failed old new seen name fails result pace missing kept output tells = inl (missing, kept, refl, tells)
+run_without NoMemory old new seen name fails result pace missing kept output tells = absurd tells
 
 -- where memory was refused while a script was read nothing changed
 pub unread : (none : NoScript) (old new : ShelfSeen) (name : List ℕ) → IsMissing name old new none → none ≡ NoMemory → new ≡ old

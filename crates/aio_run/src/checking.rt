@@ -1,9 +1,8 @@
 //! Checking a script.
-ghost use Rattle.std.specs.Prelude.{◌≡◌, IfOk, IfErr};
+ghost use Rattle.std.specs.Prelude.{◌≡◌};
 ghost use Rattle.model_wire.specs.Told.{NoneFailed};
 ghost use Rattle.model_program.specs.Program.{MayCheck};
-ghost use Rattle.model_program.specs.Written.{WritesWhole};
-ghost use Rattle.aio_drive.specs.Outcome.{EndsEarly};
+ghost use Rattle.aio_run.specs.Writes.{Writes};
 
 use crate::script::{read_script, refuse};
 use aio_drive::{Halt, tell};
@@ -18,12 +17,9 @@ pub fn check<F: Shelf, K: Sink>(
     shelf: &mut F,
     out: &mut K,
 ) -> Result<u8, Halt>
-    ensures ok { IfOk result
-        (WritesWhole (MayCheck (F.seen shelf.old) (F.seen shelf.new) script.now)
-        (K.seen out.old) (K.seen out.new)) }
-    ensures err { IfErr result
-        (EndsEarly (MayCheck (F.seen shelf.old) (F.seen shelf.new) script.now)
-        (NoneFailed (F.seen shelf.old) (F.seen shelf.new)) (K.seen out.old) (K.seen out.new)) }
+    ensures written { Writes (MayCheck (F.seen shelf.old) (F.seen shelf.new) script.now)
+        (NoneFailed (F.seen shelf.old) (F.seen shelf.new))
+        (K.seen out.old) (K.seen out.new) result }
     ensures files { (F.seen shelf.new).file ≡ (F.seen shelf.old).file }
 {
     match read_script(alloc, script, shelf) {

@@ -1,11 +1,10 @@
 //! What the program does for its words.
-ghost use Rattle.std.specs.Prelude.{◌≡◌, None, IfOk, IfErr, map, string_bytes};
+ghost use Rattle.std.specs.Prelude.{◌≡◌, None, map, string_bytes};
 ghost use Rattle.model_words.specs.Words.{command_of as plain_command_of};
-ghost use Rattle.model_program.specs.Written.{WritesWhole};
 ghost use Rattle.model_commands.specs.Outputs.{IsUnbegun, KeepsFiles, KeepsWire, MayWrite};
 ghost use Rattle.model_commands.specs.Promise.{Behaves};
-ghost use Rattle.aio_drive.specs.Outcome.{EndsEarly};
-ghost use Rattle.aio_run.specs.Running.{between, told_all, told_until};
+ghost use Rattle.aio_run.specs.Running.{between, told_by};
+ghost use Rattle.aio_run.specs.Writes.{Writes};
 
 use crate::checking::check;
 use crate::replaying::replay;
@@ -71,22 +70,12 @@ fn serve<F: Shelf, W: Wire, K: Sink>(
     wire: &mut W,
     out: &mut K,
 ) -> Result<u8, Halt>
-    ensures ok { IfOk result (WritesWhole
-        (MayWrite (told_all
+    ensures written { let it = told_by result
         (between (F.seen shelf.old) (F.seen shelf.new) (W.outside.seen wire.old)
-        (W.outside.seen wire.new))
-        (W.outside.fails wire.old)) (plain_command_of (map string_bytes words.now)))
-        (K.seen out.old) (K.seen out.new)) }
-    ensures err { IfErr result (λ halt. EndsEarly
-        (MayWrite (told_until halt
-        (between (F.seen shelf.old) (F.seen shelf.new) (W.outside.seen wire.old)
-        (W.outside.seen wire.new))
-        (W.outside.fails wire.old)) (plain_command_of (map string_bytes words.now)))
-        (IsUnbegun (told_until halt
-        (between (F.seen shelf.old) (F.seen shelf.new) (W.outside.seen wire.old)
-        (W.outside.seen wire.new))
-        (W.outside.fails wire.old)) (plain_command_of (map string_bytes words.now)))
-        (K.seen out.old) (K.seen out.new) halt) }
+        (W.outside.seen wire.new)) (W.outside.fails wire.old) in
+        let command = plain_command_of (map string_bytes words.now) in
+        Writes (MayWrite it command) (IsUnbegun it command)
+        (K.seen out.old) (K.seen out.new) result }
     ensures files { KeepsFiles (plain_command_of (map string_bytes words.now))
         (F.seen shelf.old) (F.seen shelf.new) }
     ensures wire { KeepsWire (plain_command_of (map string_bytes words.now)) wire.old wire.new }

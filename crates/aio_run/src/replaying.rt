@@ -1,10 +1,9 @@
 //! Replaying a script over a journal.
-ghost use Rattle.std.specs.Prelude.{◌≡◌, ◌≤◌, IfOk, IfErr};
+ghost use Rattle.std.specs.Prelude.{◌≡◌, ◌≤◌};
 ghost use Rattle.model_wire.specs.Told.{NoneFailed};
 ghost use Rattle.model_program.specs.Program.{MayReplay, MayRun};
-ghost use Rattle.model_program.specs.Written.{WritesWhole};
-ghost use Rattle.aio_drive.specs.Outcome.{EndsEarly};
 ghost use Rattle.aio_run.specs.Manner.{manner_of};
+ghost use Rattle.aio_run.specs.Writes.{Writes};
 
 use crate::script::{read_script, refuse};
 use aio_drive::{Halt, Manner, drive};
@@ -24,12 +23,10 @@ pub fn replay<F: Shelf, K: Sink>(
     out: &mut K,
 ) -> Result<u8, Halt>
     requires some { 1 ≤ manner.turns }
-    ensures ok { IfOk result (WritesWhole
+    ensures written { Writes
         (MayReplay (F.seen shelf.old) (F.seen shelf.new) script.now (manner_of journal.now manner))
-        (K.seen out.old) (K.seen out.new)) }
-    ensures err { IfErr result (EndsEarly
-        (MayReplay (F.seen shelf.old) (F.seen shelf.new) script.now (manner_of journal.now manner))
-        (NoneFailed (F.seen shelf.old) (F.seen shelf.new)) (K.seen out.old) (K.seen out.new)) }
+        (NoneFailed (F.seen shelf.old) (F.seen shelf.new))
+        (K.seen out.old) (K.seen out.new) result }
     ensures files { (F.seen shelf.new).file ≡ (F.seen shelf.old).file }
 {
     match read_script(alloc, script, shelf) {
@@ -48,12 +45,10 @@ fn replay_program<F: Shelf, K: Sink>(
     out: &mut K,
 ) -> Result<u8, Halt>
     requires some { 1 ≤ manner.turns }
-    ensures ok { IfOk result (WritesWhole
+    ensures written { Writes
         (MayRun (F.seen shelf.old) (F.seen shelf.new) program.now (manner_of journal.now manner))
-        (K.seen out.old) (K.seen out.new)) }
-    ensures err { IfErr result (EndsEarly
-        (MayRun (F.seen shelf.old) (F.seen shelf.new) program.now (manner_of journal.now manner))
-        (NoneFailed (F.seen shelf.old) (F.seen shelf.new)) (K.seen out.old) (K.seen out.new)) }
+        (NoneFailed (F.seen shelf.old) (F.seen shelf.new))
+        (K.seen out.old) (K.seen out.new) result }
     ensures files { (F.seen shelf.new).file ≡ (F.seen shelf.old).file }
 {
     let mut wire = JournalWire::new(alloc, shelf, journal);

@@ -1,11 +1,10 @@
 //! Running a script over the wire.
-ghost use Rattle.std.specs.Prelude.{◌≡◌, ◌≤◌, IfOk, IfErr};
+ghost use Rattle.std.specs.Prelude.{◌≡◌, ◌≤◌};
 ghost use Rattle.std.specs.Option.{option_copied};
-ghost use Rattle.model_program.specs.Written.{WritesWhole};
 ghost use Rattle.model_commands.specs.Asked.{AsksOnce};
 ghost use Rattle.model_commands.specs.Outputs.{KeepsOthers, MayRun, MayRunOver};
-ghost use Rattle.aio_drive.specs.Outcome.{EndsEarly};
-ghost use Rattle.aio_run.specs.Running.{between, pace_of, told_all, told_until};
+ghost use Rattle.aio_run.specs.Running.{between, pace_of, told_by};
+ghost use Rattle.aio_run.specs.Writes.{Writes};
 
 use crate::script::{read_script, refuse};
 use aio_drive::{Cut, Halt, Manner, drive_recorded, say};
@@ -25,20 +24,14 @@ pub fn run<F: Shelf, W: Wire, K: Sink>(
     out: &mut K,
 ) -> Result<u8, Halt>
     requires some { 1 ≤ manner.turns }
-    ensures ok { IfOk result (WritesWhole
-        (MayRunOver (told_all
-        (between (F.seen shelf.old) (F.seen shelf.new) (W.outside.seen wire.old)
-        (W.outside.seen wire.new))
-        (W.outside.fails wire.old)) script.now (pace_of (option_copied journal.entry) manner))
-        (K.seen out.old) (K.seen out.new)) }
-    ensures err { IfErr result (λ halt. EndsEarly
-        (MayRunOver (told_until halt
+    ensures written { Writes
+        (MayRunOver (told_by result
         (between (F.seen shelf.old) (F.seen shelf.new) (W.outside.seen wire.old)
         (W.outside.seen wire.new))
         (W.outside.fails wire.old)) script.now (pace_of (option_copied journal.entry) manner))
         ((F.seen shelf.new ≡ F.seen shelf.old)
         × AsksOnce (W.outside.seen wire.old) (W.outside.seen wire.new))
-        (K.seen out.old) (K.seen out.new) halt) }
+        (K.seen out.old) (K.seen out.new) result }
     ensures files { KeepsOthers (option_copied journal.entry)
         (F.seen shelf.old) (F.seen shelf.new) }
 {
@@ -59,20 +52,14 @@ fn run_program<F: Shelf, W: Wire, K: Sink>(
     out: &mut K,
 ) -> Result<u8, Halt>
     requires some { 1 ≤ manner.turns }
-    ensures ok { IfOk result (WritesWhole
-        (MayRun (told_all
-        (between (F.seen shelf.old) (F.seen shelf.new) (W.outside.seen wire.old)
-        (W.outside.seen wire.new))
-        (W.outside.fails wire.old)) program.now (pace_of (option_copied journal.entry) manner))
-        (K.seen out.old) (K.seen out.new)) }
-    ensures err { IfErr result (λ halt. EndsEarly
-        (MayRun (told_until halt
+    ensures written { Writes
+        (MayRun (told_by result
         (between (F.seen shelf.old) (F.seen shelf.new) (W.outside.seen wire.old)
         (W.outside.seen wire.new))
         (W.outside.fails wire.old)) program.now (pace_of (option_copied journal.entry) manner))
         ((F.seen shelf.new ≡ F.seen shelf.old)
         × AsksOnce (W.outside.seen wire.old) (W.outside.seen wire.new))
-        (K.seen out.old) (K.seen out.new) halt) }
+        (K.seen out.old) (K.seen out.new) result }
     ensures files { KeepsOthers (option_copied journal.entry)
         (F.seen shelf.old) (F.seen shelf.new) }
 {

@@ -1,9 +1,8 @@
 //! A script of the shelf, or why there is none.
 ghost use Rattle.std.specs.Prelude.{◌≡◌, IfOk, IfErr, OnOk, string_bytes};
 ghost use Rattle.model_wire.specs.Trace.{line};
-ghost use Rattle.model_program.specs.Written.{WritesWhole};
-ghost use Rattle.aio_drive.specs.Outcome.{EndsEarly};
 ghost use Rattle.aio_run.specs.Script.{SpellsScript, IsMissing, Tells, refusal_text};
+ghost use Rattle.aio_run.specs.Writes.{Writes};
 
 use aio_drive::{Halt, say};
 use aio_memwire::{ReadFault, read_front};
@@ -45,9 +44,8 @@ pub fn read_script<F: Shelf>(alloc: Global, name: &str, shelf: &mut F) -> Result
 
 /// Writes why there is no script.
 pub fn refuse<K: Sink>(alloc: Global, none: NoScript, out: &mut K) -> Result<u8, Halt>
-    ensures ok { IfOk result (WritesWhole (Tells none) (K.seen out.old) (K.seen out.new)) }
-    ensures err { IfErr result
-        (EndsEarly (Tells none) (none ≡ NoScript.Memory) (K.seen out.old) (K.seen out.new)) }
+    ensures { Writes (Tells none) (none ≡ NoScript.Memory) (K.seen out.old) (K.seen out.new)
+        result }
 {
     match none {
         NoScript::Refused { line, cause } => {

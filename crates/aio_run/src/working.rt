@@ -1,11 +1,10 @@
 //! The work of a seed.
-ghost use Rattle.std.specs.Prelude.{◌≡◌, ℕ, List, Some, codes, IfOk, IfErr, string_bytes};
+ghost use Rattle.std.specs.Prelude.{◌≡◌, ℕ, List, Some, codes, IfOk, string_bytes};
 ghost use Rattle.model_wire.specs.Trace.{line};
-ghost use Rattle.model_program.specs.Written.{WritesWhole};
 ghost use Rattle.model_commands.specs.Works.{MayWork, counts_text as plain_counts_text, work_text};
 ghost use Rattle.aio_tally.specs.Tallied.{plain_counts};
-ghost use Rattle.aio_drive.specs.Outcome.{EndsEarly};
 ghost use Rattle.aio_run.specs.Working.{TalliesOver, TalliesWork};
+ghost use Rattle.aio_run.specs.Writes.{Writes};
 
 use aio_base::Memory;
 use aio_drive::{Halt, say};
@@ -20,9 +19,7 @@ const MOST_TURNS: u64 = 1 << 40;
 
 /// Runs the work that a seed makes, in memory, and writes on one line how much it did.
 pub fn work<K: Sink>(alloc: Global, seed: u64, out: &mut K) -> Result<u8, Halt>
-    ensures ok { IfOk result (WritesWhole (MayWork seed) (K.seen out.old) (K.seen out.new)) }
-    ensures err { IfErr result
-        (EndsEarly (MayWork seed) (Unit {0}) (K.seen out.old) (K.seen out.new)) }
+    ensures { Writes (MayWork seed) (Unit {0}) (K.seen out.old) (K.seen out.new) result }
 {
     let tally = tally_work(alloc, seed)?;
     let text = work_line(alloc, seed, &tally.counts)?;
