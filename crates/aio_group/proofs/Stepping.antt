@@ -6,10 +6,10 @@ use Rattle.std.proofs.lemmas.Bool.{cases_eq, ne_eqb}
 use Rattle.std.specs.List.{AllByRecursion as Each}
 use Rattle.model_value.specs.declared.outcome.Outcome.TheVariants.{Value as Returned}
 use Rattle.model_value.specs.Value.{Exc, Nothing}
+use Rattle.model_loop.proofs.GroupCases.{abort_and_request_unless}
 use Rattle.model_loop.specs.Cancel.{cancel, has_seen}
 use Rattle.model_loop.specs.Futures.{future_outcome, settle}
-use Rattle.model_loop.specs.Groups.{group_of, set_group, is_empty, failure_in, failure_of, abort, request_parent, wake_if_last, wake_exit}
-use Rattle.model_loop.specs.Groups.{abort_and_request_unless, child_done}
+use Rattle.model_loop.specs.Groups.{group_of, set_group, is_empty, failure_in, failure_of, abort, request_parent, wake_if_last, wake_exit, child_done}
 use Rattle.model_loop.specs.Ledger.{Origin, ByAbort, ByGroup, ask_cancel, request_each}
 use Rattle.model_loop.specs.Loop.{Group, Loop, book}
 use Rattle.model_loop.specs.Parts.{Parts}
