@@ -4,11 +4,12 @@ use Rattle.std.proofs.Common.{append-nil, append_assoc}
 use Rattle.std.specs.Prelude.{is_none}
 use Rattle.std.proofs.lemmas.Bool.{cases_Bool}
 use Rattle.model_value.specs.Value.{Outcome}
-use Rattle.model_loop.specs.Cancel.{Canceller, cancel, cancel_at, cancel_until, cancel_below, cancel_within}
+use Rattle.model_loop.specs.Cancel.{Canceller, cancel, cancel_below, cancel_within}
 use Rattle.model_loop.specs.Futures.{is_pending_at, is_pending}
 use Rattle.model_loop.specs.Ledger.{Origin, request_where, request_each}
 use Rattle.model_loop.specs.Parts.{Future, FutureKind, Parts}
 use Rattle.model_loop.specs.Tasks.{future_of, lives}
+use Rattle.law_cancel.proofs.CancelCases.{cancel_at, cancel_until}
 use Rattle.aio_cancel.specs.Awaitables.{Appended}
 use Rattle.aio_task.specs.View.{View, parts}
 use Rattle.aio_task.specs.Keeps.{NameMap, Keeps, Kept, Becomes}

@@ -11,8 +11,7 @@ use Rattle.model_value.specs.declared.input.Input.TheVariants.{Send, Throw}
 use Rattle.model_value.specs.declared.outcome.Outcome.TheVariants.{Cancelled}
 use Rattle.model_value.specs.Input.{Input}
 use Rattle.model_value.specs.Value.{Outcome, Exc}
-use Rattle.model_loop.specs.Cancel.{CancelRequest, Canceller, answers, has_seen, cancel_each, asked_where, must_cancel_unless, cancel_waiter, cancel_unseen}
-use Rattle.model_loop.specs.Cancel.{cancel_task, cancel_kind, cancel_until, cancel_at, cancel_by, cancel_below, cancel_within, cancel}
+use Rattle.model_loop.specs.Cancel.{CancelRequest, Canceller, answers, has_seen, cancel_each, cancel_by, cancel_below, cancel_within, cancel}
 use Rattle.model_loop.specs.Futures.{is_pending_at, is_pending, made_before, mark_asked, new_plain, next_future, settle, settled, settled_as, with_future}
 use Rattle.model_loop.specs.Groups.{group_of, set_group, only_cancelled, abort, abort_where, take_back, take_back_where, begin_exit, abort_if_raised}
 use Rattle.model_loop.specs.Groups.{keep_and_abort_unless}
@@ -21,6 +20,8 @@ use Rattle.model_loop.specs.Ledger.{Origin, ByAbort, ByGroup, Asked, Raised, Boo
 use Rattle.model_loop.specs.Loop.{Group, Loop, in_parts, book}
 use Rattle.model_loop.specs.Parts.{FutureKind, Plain, OfTask, Many, Future, Task, Parts}
 use Rattle.model_loop.specs.Tasks.{cancelling, change_task, future_of, lives, next_task, raise_count, waiter_of}
+use Rattle.law_cancel.proofs.CancelCases.{asked_where, must_cancel_unless, cancel_waiter, cancel_unseen, cancel_task_where, cancel_kind, cancel_until}
+use Rattle.law_cancel.proofs.CancelCases.{cancel_at}
 use Rattle.law_cancel.proofs.Counting.{change_task-kept}
 use Rattle.law_cancel.proofs.Effects.{done_as, asked_as, settle-futures, settle-tasks, mark_asked-futures, mark_asked-tasks, change_task-futures}
 use Rattle.law_cancel.proofs.Lookups.{get-push_other, get-set_same}
@@ -174,7 +175,7 @@ module _ (F V : Canceller) (frow : IsRow F) (fc : Commutes F) (vc : Commutes V) 
       ∙ waits t task.waiter (s ++ t ∷ []) raised (waits_left p raised l made)
       (λ on w. let k = made t on (was ∙ w) in omega (arith, k, n))
 
-  task : (seen : Bool) (t : ℕ) → cancel_task V seen t s (new_plain p) ≡ grown (cancel_task V seen t s p)
+  task : (seen : Bool) (t : ℕ) → cancel_task_where V seen t s (new_plain p) ≡ grown (cancel_task_where V seen t s p)
   task true t = refl
   task false t = unseen t (slice_get p.tasks t) refl
 

@@ -12,7 +12,8 @@ use Rattle.model_loop.specs.Parts.{FutureKind, OfTask, Future, Task, Handle, Par
 use Rattle.model_loop.specs.Handles.{soon, soon_all}
 use Rattle.model_loop.specs.Futures.{with_future, settle, settled, settled_as, register, registered, registered_on, mark_asked, make_future}
 use Rattle.model_loop.specs.Tasks.{change_task, spawn, next_task}
-use Rattle.model_loop.specs.Cancel.{Canceller, cancel_at, cancel}
+use Rattle.model_loop.specs.Cancel.{Canceller, cancel}
+use Rattle.law_cancel.proofs.CancelCases.{cancel_at}
 use Rattle.law_cancel.proofs.Effects.{done_as, asked_as}
 use Rattle.algorithm_parts.proofs.Commuting.{SeesRequests, changes, cancels}
 use Rattle.aio_task.specs.Bare.{bare_action, bare_handle, bare_future, bare, bare_of}

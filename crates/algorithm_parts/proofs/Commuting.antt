@@ -8,8 +8,9 @@ use Rattle.model_value.specs.Value.{Outcome}
 use Rattle.model_loop.specs.Parts.{FutureKind, Plain, OfTask, Many, Future, Task, Parts}
 use Rattle.model_loop.specs.Futures.{made_before, settle, mark_asked}
 use Rattle.model_loop.specs.Tasks.{raise_count, change_task}
-use Rattle.model_loop.specs.Cancel.{CancelRequest, Canceller, answers, has_seen, cancel_each, asked_where, must_cancel_unless, cancel_waiter}
-use Rattle.model_loop.specs.Cancel.{cancel_unseen, cancel_task, cancel_kind, cancel_until, cancel_at, cancel_by, cancel_below, cancel_within, cancel}
+use Rattle.model_loop.specs.Cancel.{CancelRequest, Canceller, answers, has_seen, cancel_each, cancel_by, cancel_below, cancel_within, cancel}
+use Rattle.law_cancel.proofs.CancelCases.{asked_where, must_cancel_unless, cancel_waiter, cancel_unseen, cancel_task_where, cancel_kind, cancel_until}
+use Rattle.law_cancel.proofs.CancelCases.{cancel_at}
 use Rattle.law_cancel.proofs.Trace.{Goes, IsRow, below_row, within_row}
 
 abbrev pub seen_by : (Parts → Parts) → CancelRequest → CancelRequest
@@ -69,7 +70,7 @@ module _ (view : Parts → Parts) (Good : Parts → Type 0) (sees : SeesRequests
         ap (cancel_waiter V t task.waiter (s ++ t ∷ [])) (changes t _ p)
         ∙ waits t task.waiter (s ++ t ∷ []) (raise_count t p) (sees.raised t p good)
 
-    task : (seen : Bool) (t : ℕ) → cancel_task V seen t s (view p) ≡ seen_by view (cancel_task V seen t s p)
+    task : (seen : Bool) (t : ℕ) → cancel_task_where V seen t s (view p) ≡ seen_by view (cancel_task_where V seen t s p)
     task true t = refl
     task false t = ap (λ ts. cancel_unseen V t (slice_get ts t) s (view p)) (sees.tasks p) ∙ unseen t (slice_get p.tasks t)
 

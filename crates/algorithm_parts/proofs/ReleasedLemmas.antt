@@ -9,7 +9,8 @@ use Rattle.model_loop.specs.Parts.{FutureKind, Future, Task, Parts}
 use Rattle.model_loop.specs.Handles.{soon, soon_all}
 use Rattle.model_loop.specs.Futures.{with_future, settle, settled, settled_as, mark_asked}
 use Rattle.model_loop.specs.Tasks.{change_task}
-use Rattle.model_loop.specs.Cancel.{Canceller, answers, cancel_until, cancel_at, cancel}
+use Rattle.model_loop.specs.Cancel.{Canceller, answers, cancel}
+use Rattle.law_cancel.proofs.CancelCases.{cancel_until, cancel_at}
 use Rattle.law_cancel.proofs.Effects.{done_as, asked_as}
 use Rattle.law_cancel.proofs.Trace.{Goes, begins, settles, asks, raises, sets_must_cancel}
 use Rattle.algorithm_parts.specs.Quiet.{stage_of, stage, stage_at, Later, Grows}

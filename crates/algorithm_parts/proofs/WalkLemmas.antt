@@ -8,8 +8,8 @@ use Rattle.model_value.specs.Value.{Outcome}
 use Rattle.model_loop.specs.Parts.{FutureKind, Plain, OfTask, Many, Future, Task, Parts}
 use Rattle.model_loop.specs.Futures.{made_before, settle, mark_asked, asked_kind}
 use Rattle.model_loop.specs.Tasks.{raise_count}
-use Rattle.model_loop.specs.Cancel.{CancelRequest, answers, has_seen, cancel_each, asked_where, must_cancel_unless, cancel_task, cancel_until, cancel_at}
-use Rattle.model_loop.specs.Cancel.{cancel_with, cancel_unseen}
+use Rattle.model_loop.specs.Cancel.{CancelRequest, answers, has_seen, cancel_each, cancel_with}
+use Rattle.law_cancel.proofs.CancelCases.{asked_where, must_cancel_unless, cancel_unseen, cancel_task_where, cancel_until, cancel_at}
 use Rattle.law_cancel.proofs.Lookups.{get-set_kept}
 use Rattle.law_cancel.proofs.Effects.{settle-futures, done_as, mark_asked-futures, asked_as, change_task-futures}
 use Rattle.law_cancel.proofs.Trace.{Goes, begins, settles, asks, raises, sets_must_cancel, with_row}
@@ -30,7 +30,7 @@ resume-push (f ∷ frames) frame r = ap (finish f) (resume-push frames frame r)
 abbrev pub by_stands : FutureState → List ℕ → ℕ → List ℕ → Parts → CancelRequest
 by_stands stands.Done members id s p = answers false s p
 by_stands stands.Plain members id s p = answers true s (settle id Cancelled p)
-by_stands (stands.OfTask task) members id s p = cancel_task cancel_with (has_seen s task) task s p
+by_stands (stands.OfTask task) members id s p = cancel_task_where cancel_with (has_seen s task) task s p
 by_stands stands.Many members id s p = ask_joined id (joined false (cancel_each cancel_with (made_before id members) s p))
 
 module _ (id : ℕ) (s : List ℕ) (p : Parts) where

@@ -2,7 +2,8 @@
 use Rattle.std.specs.Prelude.{ℕ, Bool, ◌||◌, List, [], ◌∷◌, drop, slice_get}
 use Rattle.model_loop.specs.Parts.{Parts}
 use Rattle.model_loop.specs.Futures.{made_before}
-use Rattle.model_loop.specs.Cancel.{CancelRequest, answers, has_seen, cancel_each, asked_where, must_cancel_unless, cancel_task, cancel_with}
+use Rattle.model_loop.specs.Cancel.{CancelRequest, answers, has_seen, cancel_each, cancel_with}
+use Rattle.law_cancel.proofs.CancelCases.{asked_where, must_cancel_unless, cancel_task_where}
 use Rattle.algorithm_parts.specs.Shape.{members_at}
 use Rattle.algorithm_parts.specs.declared.walk.WalkFrame.{WalkFrame}
 use Rattle.algorithm_parts.specs.declared.walk.WalkFrame.TheVariants.{Waits, Members}
@@ -40,4 +41,4 @@ abbrev pub run : Go → List WalkFrame → List ℕ → Parts → CancelRequest
 run go frames seen p = resume frames (now go seen p)
 
 abbrev pub run_task : ℕ → List WalkFrame → List ℕ → Parts → CancelRequest
-run_task task frames seen p = resume frames (cancel_task cancel_with (has_seen seen task) task seen p)
+run_task task frames seen p = resume frames (cancel_task_where cancel_with (has_seen seen task) task seen p)

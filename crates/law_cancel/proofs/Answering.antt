@@ -8,8 +8,9 @@ use Rattle.model_loop.specs.Parts.{FutureKind, Plain, OfTask, Many, Future, Task
 use Rattle.model_loop.specs.Futures.{made_before}
 use Rattle.model_loop.specs.Tasks.{raise_count}
 use Rattle.model_loop.specs.Spent.{spent_kind, spent_until, spent_by, spent_below, is_spent}
-use Rattle.model_loop.specs.Cancel.{CancelRequest, Canceller, answers, has_seen, cancel_each, asked_where, must_cancel_unless, cancel_waiter, cancel_unseen}
-use Rattle.model_loop.specs.Cancel.{cancel_task, cancel_kind, cancel_until, cancel_at, cancel_below, cancel_within, cancel_with}
+use Rattle.model_loop.specs.Cancel.{CancelRequest, Canceller, answers, has_seen, cancel_each, cancel_below, cancel_within, cancel_with}
+use Rattle.law_cancel.proofs.CancelCases.{asked_where, must_cancel_unless, cancel_waiter, cancel_unseen, cancel_task_where, cancel_kind, cancel_until}
+use Rattle.law_cancel.proofs.CancelCases.{cancel_at}
 use Rattle.law_cancel.proofs.Total.{further}
 
 -- ---- spent futures: a greater bound changes nothing
@@ -60,7 +61,7 @@ unseen_answers : (cancel : Canceller) (id : ℕ) (o : Option Task) (s : List ℕ
 unseen_answers cancel id None s p = refl
 unseen_answers cancel id (Some task) s p = waiter_answers cancel id task.waiter (s ++ id ∷ []) (raise_count id p)
 
-task_answers : (cancel : Canceller) (seen : Bool) (id : ℕ) (s : List ℕ) (p : Parts) → (cancel_task cancel seen id s p).answer ≡ true
+task_answers : (cancel : Canceller) (seen : Bool) (id : ℕ) (s : List ℕ) (p : Parts) → (cancel_task_where cancel seen id s p).answer ≡ true
 task_answers cancel true id s p = refl
 task_answers cancel false id s p = unseen_answers cancel id (slice_get p.tasks id) s p
 

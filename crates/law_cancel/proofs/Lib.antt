@@ -1,4 +1,5 @@
 pub mod Answering
+pub mod CancelCases
 pub mod Cycling
 pub mod Counting
 pub mod Effects

@@ -6,10 +6,11 @@ use Rattle.model_value.specs.Value.{Outcome}
 use Rattle.model_loop.specs.Parts.{FutureKind, Plain, OfTask, Many, Future, Task, Parts}
 use Rattle.model_loop.specs.Futures.{is_pending_at, made_before}
 use Rattle.model_loop.specs.Tasks.{raise_count}
-use Rattle.model_loop.specs.Cancel.{CancelRequest, Canceller, answers, has_seen, cancel_each, asked_where, must_cancel_unless, cancel_waiter, cancel_unseen}
-use Rattle.model_loop.specs.Cancel.{cancel_task, cancel_kind, cancel_until, cancel_at, cancel_by, cancel_below, cancel_within, cancel_with}
+use Rattle.model_loop.specs.Cancel.{CancelRequest, Canceller, answers, has_seen, cancel_each, cancel_by, cancel_below, cancel_within, cancel_with}
 use Rattle.model_loop.specs.Cancelling.{IsPendingAs, Cancels, done, plain, many, visited, task, no_task, CancelsEach, none, each, CancelsWaiter, waits_not}
 use Rattle.model_loop.specs.Cancelling.{waits}
+use Rattle.law_cancel.proofs.CancelCases.{asked_where, must_cancel_unless, cancel_waiter, cancel_unseen, cancel_task_where, cancel_kind, cancel_until}
+use Rattle.law_cancel.proofs.CancelCases.{cancel_at}
 use Rattle.law_cancel.proofs.Seen.{left, left_le}
 use Rattle.law_cancel.proofs.Trace.{IsRow, below_row, within_row}
 use Rattle.law_cancel.proofs.Total.{cancel_with_itself, fewer, no_more}
@@ -48,7 +49,7 @@ module _ (F V : Canceller) (id : ℕ) (s : List ℕ) (p : Parts)
       go (Some on) w = task is n e
           (subst (λ o. CancelsWaiter o (s ++ t ∷ []) (raise_count t p) (V on (s ++ t ∷ []) (raise_count t p))) (sym w) (waits (waiter_meets t it on n e)))
 
-  task_meets : (t : ℕ) → IsPendingAs p id (OfTask t) → (seen : Bool) → has_seen s t ≡ seen → Cancels id s p (cancel_task V seen t s p)
+  task_meets : (t : ℕ) → IsPendingAs p id (OfTask t) → (seen : Bool) → has_seen s t ≡ seen → Cancels id s p (cancel_task_where V seen t s p)
   task_meets t is true n = visited is n
   task_meets t is false n = unseen_meets t is n (slice_get p.tasks t) refl
 
@@ -120,15 +121,15 @@ mutual
       ∙ ap (λ (r : CancelRequest). asked_where r.answer id r) (only_each e)
   only_cancel {id = id} {s = s} {p = p} (visited {task = t} is n) =
       cancel_with_itself id s p ∙ by_kind cancel_with cancel_with id s p (OfTask t) is
-      ∙ ap (λ b. cancel_task cancel_with b t s p) n
+      ∙ ap (λ b. cancel_task_where cancel_with b t s p) n
   only_cancel {id = id} {s = s} {p = p} (task {task = t} {it = it} is n e w) =
       cancel_with_itself id s p ∙ by_kind cancel_with cancel_with id s p (OfTask t) is
-      ∙ ap (λ b. cancel_task cancel_with b t s p) n
+      ∙ ap (λ b. cancel_task_where cancel_with b t s p) n
       ∙ ap (λ o. cancel_unseen cancel_with t o s p) e
       ∙ only_waiter t w
   only_cancel {id = id} {s = s} {p = p} (no_task {task = t} is n e) =
       cancel_with_itself id s p ∙ by_kind cancel_with cancel_with id s p (OfTask t) is
-      ∙ ap (λ b. cancel_task cancel_with b t s p) n
+      ∙ ap (λ b. cancel_task_where cancel_with b t s p) n
       ∙ ap (λ o. cancel_unseen cancel_with t o s p) e
 
   only_each : {ids s : List ℕ} {p : Parts} {r : CancelRequest} → CancelsEach ids s p r → cancel_each cancel_with ids s p ≡ r

@@ -7,8 +7,9 @@ use Rattle.model_value.specs.Value.{Outcome}
 use Rattle.model_loop.specs.Parts.{FutureKind, Plain, OfTask, Many, Future, Task, Parts}
 use Rattle.model_loop.specs.Futures.{made_before}
 use Rattle.model_loop.specs.Tasks.{raise_count}
-use Rattle.model_loop.specs.Cancel.{CancelRequest, Canceller, has_seen, cancel_each, asked_where, must_cancel_unless, cancel_waiter, cancel_unseen, cancel_task}
-use Rattle.model_loop.specs.Cancel.{cancel_kind, cancel_until, cancel_at, cancel_by, cancel_below, cancel_within, cancel_with}
+use Rattle.model_loop.specs.Cancel.{CancelRequest, Canceller, has_seen, cancel_each, cancel_by, cancel_below, cancel_within, cancel_with}
+use Rattle.law_cancel.proofs.CancelCases.{asked_where, must_cancel_unless, cancel_waiter, cancel_unseen, cancel_task_where, cancel_kind, cancel_until}
+use Rattle.law_cancel.proofs.CancelCases.{cancel_at}
 use Rattle.law_cancel.proofs.Effects.{length-change_task}
 use Rattle.law_cancel.proofs.Seen.{left, left_le, left-push}
 use Rattle.law_cancel.proofs.Trace.{Goes, IsRow, goes-tasks, goes-left, below_row, within_row}
@@ -51,7 +52,7 @@ module _ (F G V W : Canceller) (id : ℕ) (s : List ℕ) (p : Parts)
       go None = refl
       go (Some w) = ap (λ (r : CancelRequest). must_cancel_unless r.answer t r) (waiter_same t task w n e)
 
-  task_same : (seen : Bool) (t : ℕ) → has_seen s t ≡ seen → cancel_task V seen t s p ≡ cancel_task W seen t s p
+  task_same : (seen : Bool) (t : ℕ) → has_seen s t ≡ seen → cancel_task_where V seen t s p ≡ cancel_task_where W seen t s p
   task_same true t n = refl
   task_same false t n = unseen_same t (slice_get p.tasks t) refl n
 

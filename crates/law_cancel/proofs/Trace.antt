@@ -6,8 +6,9 @@ use Rattle.model_value.specs.Value.{Outcome}
 use Rattle.model_loop.specs.Parts.{FutureKind, Plain, OfTask, Many, Future, Task, Parts}
 use Rattle.model_loop.specs.Futures.{made_before, settle, mark_asked}
 use Rattle.model_loop.specs.Tasks.{set_must_cancel, raise_count}
-use Rattle.model_loop.specs.Cancel.{CancelRequest, Canceller, has_seen, cancel_each, asked_where, must_cancel_unless, cancel_waiter, cancel_unseen, cancel_task}
-use Rattle.model_loop.specs.Cancel.{cancel_kind, cancel_until, cancel_at, cancel_by, cancel_below, cancel_within, cancel_with}
+use Rattle.model_loop.specs.Cancel.{CancelRequest, Canceller, has_seen, cancel_each, cancel_by, cancel_below, cancel_within, cancel_with}
+use Rattle.law_cancel.proofs.CancelCases.{asked_where, must_cancel_unless, cancel_waiter, cancel_unseen, cancel_task_where, cancel_kind, cancel_until}
+use Rattle.law_cancel.proofs.CancelCases.{cancel_at}
 use Rattle.law_cancel.proofs.Lookups.{get-set_kept}
 use Rattle.law_cancel.proofs.Effects.{settle-futures, settle-tasks, done_as, mark_asked-futures, mark_asked-tasks, asked_as, length-change_task}
 use Rattle.law_cancel.proofs.Effects.{change_task-futures}
@@ -139,7 +140,7 @@ unseen_row cancel row id (Some task) s p e n =
     goes_on (raises begins id task n e) (waiter_row cancel row id task.waiter (s ++ id ∷ []) (raise_count id p))
 
 task_row : (cancel : Canceller) → IsRow cancel → (seen : Bool) (id : ℕ) (s : List ℕ) (p : Parts) → has_seen s id ≡ seen
-    → Row s p (cancel_task cancel seen id s p)
+    → Row s p (cancel_task_where cancel seen id s p)
 task_row cancel row true id s p n = begins
 task_row cancel row false id s p n = unseen_row cancel row id (slice_get p.tasks id) s p refl n
 

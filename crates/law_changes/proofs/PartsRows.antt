@@ -6,15 +6,15 @@ use Rattle.model_value.specs.declared.action.Action.TheVariants.{StepInCycle, Wa
 use Rattle.model_value.specs.declared.outcome.Outcome.TheVariants.{Cancelled}
 use Rattle.model_value.specs.Input.{Input}
 use Rattle.model_value.specs.Value.{Value, Exc, Outcome}
-use Rattle.model_loop.specs.Cancel.{CancelRequest, Canceller, cancel, cancel_at, cancel_below, cancel_by, cancel_each, cancel_kind, cancel_task}
-use Rattle.model_loop.specs.Cancel.{cancel_unseen, cancel_until}
-use Rattle.model_loop.specs.Cancel.{cancel_waiter, cancel_within, asked_where, has_seen, must_cancel_unless}
+use Rattle.model_loop.specs.Cancel.{CancelRequest, Canceller, cancel, cancel_below, cancel_by, cancel_each, cancel_within, has_seen}
 use Rattle.model_loop.specs.Futures.{made_before}
 use Rattle.model_loop.specs.Ledger.{Origin, request_each, request_where}
 use Rattle.model_loop.specs.Parts.{Future, FutureKind, Plain, OfTask, Many, Parts, Task}
 use Rattle.model_loop.specs.Cycles.{cycle}
 use Rattle.model_loop.specs.Suspend.{cancel_wait, suspend, suspend_unless, wait_on}
 use Rattle.model_loop.specs.Tasks.{begin_step, finish, future_of, must_cancel_of, lives, clear_must_cancel}
+use Rattle.law_cancel.proofs.CancelCases.{cancel_at, cancel_kind, cancel_task_where, cancel_unseen, cancel_until, cancel_waiter, asked_where}
+use Rattle.law_cancel.proofs.CancelCases.{must_cancel_unless}
 use Rattle.law_changes.specs.Blocks.{OfRequest, cancels, keeps_asked, counts, sets_must_cancel, OfWait, cycles, registers_step, begins_wait, in_wait}
 use Rattle.law_changes.specs.Blocks.{clears_must_cancel}
 use Rattle.law_changes.specs.Changes.{PartsChange, MayInParts, made_of_parts, CallsSoon, Settles, Registers, KeepsAsked, WaitsFor, SetsMustCancel}
@@ -43,7 +43,7 @@ module _ (member waiter : Canceller) (members : ByRows member) (waiters : ByRows
   unseen_row task None seen p = stays
   unseen_row task (Some it) seen p = on (one (Counts task) (counts task)) (waiter_row task it.waiter (seen ++ task ∷ []) _)
 
-  task_row : (b : Bool) (task : ℕ) (seen : List ℕ) (p : Parts) → Reaches made_of_parts OfRequest p (cancel_task waiter b task seen p).parts
+  task_row : (b : Bool) (task : ℕ) (seen : List ℕ) (p : Parts) → Reaches made_of_parts OfRequest p (cancel_task_where waiter b task seen p).parts
   task_row true task seen p = stays
   task_row false task seen p = unseen_row task (slice_get p.tasks task) seen p
 

@@ -11,8 +11,7 @@ use Rattle.model_value.specs.Action.{CycleKind}
 use Rattle.model_value.specs.Number.{most}
 use Rattle.model_value.specs.Value.{Outcome}
 use Rattle.model_loop.specs.Balance.{lowers}
-use Rattle.model_loop.specs.Cancel.{Canceller, cancel, cancel_at, cancel_below, cancel_kind, cancel_unseen, cancel_until, cancel_waiter, cancel_within}
-use Rattle.model_loop.specs.Cancel.{has_seen, must_cancel_unless}
+use Rattle.model_loop.specs.Cancel.{Canceller, cancel, cancel_below, cancel_within, has_seen}
 use Rattle.model_loop.specs.Cycles.{cycle}
 use Rattle.model_loop.specs.Futures.{is_pending_at, next_future}
 use Rattle.model_loop.specs.Ledger.{Origin, ByWait, LedgerEntry, Raised, Took, ask_cancel, raised_among, uncancel_by}
@@ -22,6 +21,7 @@ use Rattle.model_loop.specs.Parts.{FutureKind, Plain, OfTask, Many, Future, Part
 use Rattle.model_loop.specs.Suspend.{cancel_wait, suspend, suspend_unless, wait_on}
 use Rattle.model_loop.specs.Tasks.{cancelling, future_of, must_cancel_of, lives, next_task, one_more, raise_count, uncancel}
 use Rattle.model_machine.specs.Replies.{most_ids}
+use Rattle.law_cancel.proofs.CancelCases.{cancel_at, cancel_kind, cancel_unseen, cancel_until, cancel_waiter, must_cancel_unless}
 use Rattle.law_cancel.proofs.Counting.{goes-counts}
 use Rattle.law_cancel.proofs.Trace.{goes-seen, with_row, within_row}
 use Rattle.law_changes.proofs.Balancing.{request_balances, uncancel_balances}

@@ -3,10 +3,11 @@ use Rattle.std.proofs.Common.{◌≡◌, ℕ, Bool, List, None, Option, Some, []
 use Rattle.std.proofs.Common.{◌||◌, ◌∙◌, ◌∷◌, ◌⊎◌, zero, suc, arith, is_none, Contains}
 use Rattle.model_loop.specs.Parts.{Future, FutureKind, Many, OfTask, Parts, Plain, Task}
 use Rattle.model_loop.specs.Tasks.{change_task, must_cancel_of, set_must_cancel, raise_count, waiter_of}
+use Rattle.law_cancel.proofs.CancelCases.{asked_where, must_cancel_unless}
 use Rattle.law_cancel.proofs.Effects.{asked_as, change_task-futures, change_task-there, done_as, settle-futures, settle-tasks}
 use Rattle.law_promises.specs.Reached.{RequestGoesOn, WasReached, asked_at, asked_in, was_asked, members_at, members_in, members_of}
 use Rattle.law_promises.specs.Reached.{ended as ended_row, visited as came_row, asked as asked_row}
-use Rattle.model_loop.specs.Cancel.{CancelRequest, answers, asked_where, cancel, has_seen, must_cancel_unless}
+use Rattle.model_loop.specs.Cancel.{CancelRequest, answers, cancel, has_seen}
 use Rattle.model_loop.specs.Futures.{asked_kind, future_outcome, is_pending, is_pending_at, made_before, mark_asked, outcome_at, settle, with_future}
 use Rattle.model_loop.specs.Owning.{OwnsFutures, own_future, owner_at, owner_in, owner_of}
 use Rattle.std.proofs.lemmas.Bool.{cases_eq, false≢true, or_cases, or_left}

@@ -9,8 +9,9 @@ use Rattle.model_loop.specs.Parts.{FutureKind, Plain, OfTask, Many, Future, Task
 use Rattle.model_loop.specs.Futures.{made_before, settle, mark_asked}
 use Rattle.model_loop.specs.Tasks.{set_must_cancel, raise_count, waiter_of}
 use Rattle.model_loop.specs.Spent.{is_spent}
-use Rattle.model_loop.specs.Cancel.{CancelRequest, Canceller, answers, has_seen, cancel_each, asked_where, must_cancel_unless, cancel_waiter, cancel_unseen}
-use Rattle.model_loop.specs.Cancel.{cancel_task, cancel_kind, cancel_until, cancel_at, cancel_below, cancel_within, cancel_with}
+use Rattle.model_loop.specs.Cancel.{CancelRequest, Canceller, answers, has_seen, cancel_each, cancel_below, cancel_within, cancel_with}
+use Rattle.law_cancel.proofs.CancelCases.{asked_where, must_cancel_unless, cancel_waiter, cancel_unseen, cancel_task_where, cancel_kind, cancel_until}
+use Rattle.law_cancel.proofs.CancelCases.{cancel_at}
 use Rattle.law_cancel.proofs.Counting.{change_task-kept}
 use Rattle.law_cancel.proofs.Answering.{below_still, below_answer}
 use Rattle.law_cancel.proofs.Seen.{left, left_le}
@@ -101,7 +102,7 @@ module _ (n : ℕ) (waiter : Canceller) (is : IsRow n waiter) (tells : Tells n w
       (waiter_row id task.waiter (s ++ id ∷ []) (raise_count id p) (omega arith) (raised-waiter id p task e task.waiter refl))
 
   task_row : (seen : Bool) (id : ℕ) (s : List ℕ) (p : Parts) → left (length p.tasks) s < suc n → has_seen s id ≡ seen
-      → Row s p (cancel_task waiter seen id s p)
+      → Row s p (cancel_task_where waiter seen id s p)
   task_row true id s p l e = begins
   task_row false id s p l e = unseen_row id (slice_get p.tasks id) s p l refl e
 

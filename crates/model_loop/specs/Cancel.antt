@@ -1,9 +1,8 @@
 -- Cancel requests. Source: `futures.py`, `Future.cancel`; `tasks.py`, `Task.cancel` and `_GatheringFuture.cancel`.
-use Rattle.std.specs.Prelude.{ℕ, zero, suc, Bool, true, false, ◌||◌, List, [], ◌∷◌, ◌++◌, Option, Some, None, length, nat_eq, slice_get}
+use Rattle.std.specs.Prelude.{ℕ, zero, suc, Bool, true, false, ◌||◌, List, [], ◌∷◌, ◌++◌, Some, None, length, nat_eq, slice_get, if◌then◌else◌}
 use Rattle.std.specs.List.{list_any}
 use Rattle.model_value.specs.declared.outcome.Outcome.TheVariants.{Cancelled}
-use Rattle.model_value.specs.Value.{Outcome}
-use Rattle.model_loop.specs.Parts.{FutureKind, Plain, OfTask, Many, Future, Task, Parts}
+use Rattle.model_loop.specs.Parts.{Plain, OfTask, Many, Parts}
 use Rattle.model_loop.specs.Futures.{made_before, settle, mark_asked}
 use Rattle.model_loop.specs.Tasks.{set_must_cancel, raise_count}
 
@@ -32,48 +31,42 @@ cancel_each cancel (id ∷ ids) seen p =
     record others { answer = first.answer || others.answer }
 
 -- where a member answered true, the future that stands for it keeps that it was asked
-abbrev pub asked_where : Bool → ℕ → CancelRequest → CancelRequest
-asked_where false id request = request
-asked_where true id request = record request { parts = mark_asked id request.parts }
+abbrev pub keep_asked : ℕ → CancelRequest → CancelRequest
+keep_asked id request = if request.answer then record request { parts = mark_asked id request.parts } else request
 
 -- where what the task waits for can't be cancelled, the cancel waits for the task's next step
-abbrev pub must_cancel_unless : Bool → ℕ → CancelRequest → CancelRequest
-must_cancel_unless true task request = request
-must_cancel_unless false task request = record request { parts = set_must_cancel task request.parts; answer = true }
+abbrev pub or_must_cancel : ℕ → CancelRequest → CancelRequest
+or_must_cancel task request =
+    if request.answer then request else record request { parts = set_must_cancel task request.parts; answer = true }
 
-abbrev pub cancel_waiter : Canceller → ℕ → Option ℕ → List ℕ → Parts → CancelRequest
-cancel_waiter cancel task None seen p = answers true seen (set_must_cancel task p)
-cancel_waiter cancel task (Some waiter) seen p =
-    let request = cancel waiter seen p in must_cancel_unless request.answer task request
+-- `Task.cancel`: a task that the request comes to first counts it, and the cancel goes on to what it waits for
+abbrev pub cancel_task : (waiter : Canceller) → Canceller
+cancel_task waiter id seen p =
+    elim (has_seen seen id) [
+      | true ↦ answers true seen p
+      | false ↦ elim (slice_get p.tasks id) [
+        | None ↦ answers true seen p
+        | Some task ↦
+            let visited = seen ++ id ∷ [] in
+            let counted = raise_count id p in
+            or_must_cancel id (elim task.waiter [ None ↦ answers false visited counted | Some on ↦ waiter on visited counted ])
+      ]
+    ]
 
--- a task that the request comes to first counts it, and the cancel goes on to what it waits for
-abbrev pub cancel_unseen : Canceller → ℕ → Option Task → List ℕ → Parts → CancelRequest
-cancel_unseen cancel id None seen p = answers true seen p
-cancel_unseen cancel id (Some task) seen p = cancel_waiter cancel id task.waiter (seen ++ id ∷ []) (raise_count id p)
-
-abbrev pub cancel_task : Canceller → Bool → ℕ → List ℕ → Parts → CancelRequest
-cancel_task cancel true id seen p = answers true seen p
-cancel_task cancel false id seen p = cancel_unseen cancel id (slice_get p.tasks id) seen p
-
--- A pending future. `member` cancels members, and `waiter` what a task waits for.
-abbrev pub cancel_kind : (member waiter : Canceller) → FutureKind → Canceller
-cancel_kind member waiter Plain id seen p = answers true seen (settle id Cancelled p)
-cancel_kind member waiter (OfTask task) id seen p = cancel_task waiter (has_seen seen task) task seen p
-cancel_kind member waiter (Many members asked) id seen p =
-    let request = cancel_each member (made_before id members) seen p in asked_where request.answer id request
-
--- a done future stays as it is
-abbrev pub cancel_until : (member waiter : Canceller) → Option Outcome → FutureKind → Canceller
-cancel_until member waiter (Some outcome) kind id seen p = answers false seen p
-cancel_until member waiter None kind id seen p = cancel_kind member waiter kind id seen p
-
-abbrev pub cancel_at : (member waiter : Canceller) → Option Future → Canceller
-cancel_at member waiter None id seen p = answers false seen p
-cancel_at member waiter (Some future) id seen p = cancel_until member waiter future.outcome future.kind id seen p
-
--- One future, with what cancels its members and what its task waits for.
+-- `Future.cancel`: a done one stays as it is. `member` cancels members, and `waiter` what a task waits for.
 abbrev pub cancel_by : (member waiter : Canceller) → Canceller
-cancel_by member waiter id seen p = cancel_at member waiter (slice_get p.futures id) id seen p
+cancel_by member waiter id seen p =
+    elim (slice_get p.futures id) [
+      | None ↦ answers false seen p
+      | Some future ↦ elim future.outcome [
+        | Some outcome ↦ answers false seen p
+        | None ↦ elim future.kind [
+          | Plain ↦ answers true seen (settle id Cancelled p)
+          | OfTask task ↦ cancel_task waiter task seen p
+          | Many members asked ↦ keep_asked id (cancel_each member (made_before id members) seen p)
+        ]
+      ]
+    ]
 
 -- of a future whose number is below a bound
 abbrev pub cancel_below : ℕ → (waiter : Canceller) → Canceller

@@ -5,7 +5,7 @@ use Rattle.model_value.specs.declared.outcome.Outcome.TheVariants.{Cancelled}
 use Rattle.model_loop.specs.Parts.{Plain, OfTask, Many, FutureKind, Future, Task, Parts}
 use Rattle.model_loop.specs.Futures.{is_pending, made_before, settle}
 use Rattle.model_loop.specs.Tasks.{raise_count}
-use Rattle.model_loop.specs.Cancel.{CancelRequest, answers, asked_where, has_seen, must_cancel_unless}
+use Rattle.model_loop.specs.Cancel.{CancelRequest, answers, has_seen, keep_asked, or_must_cancel}
 
 -- a pending future of this kind
 pub record IsPendingAs (p : Parts) (id : ℕ) (kind : FutureKind) : Type 0 where
@@ -24,7 +24,7 @@ mutual
     -- one that stands for several hands the request on to each, and keeps that one of them answered true
     many : {id : ℕ} {seen : List ℕ} {p : Parts} {members : List ℕ} {asked : Bool} {request : CancelRequest}
         → IsPendingAs p id (Many members asked) → CancelsEach (made_before id members) seen p request
-        → Cancels id seen p (asked_where request.answer id request)
+        → Cancels id seen p (keep_asked id request)
     -- a task that was visited answers true
     visited : {id : ℕ} {seen : List ℕ} {p : Parts} {task : ℕ} → IsPendingAs p id (OfTask task) → has_seen seen task ≡ true
         → Cancels id seen p (answers true seen p)
@@ -32,7 +32,7 @@ mutual
     task : {id : ℕ} {seen : List ℕ} {p : Parts} {task : ℕ} {it : Task} {request : CancelRequest} → IsPendingAs p id (OfTask task)
         → has_seen seen task ≡ false → slice_get p.tasks task ≡ Some it
         → CancelsWaiter it.waiter (seen ++ task ∷ []) (raise_count task p) request
-        → Cancels id seen p (must_cancel_unless request.answer task request)
+        → Cancels id seen p (or_must_cancel task request)
     -- a future whose task there is not, which no run has
     no_task : {id : ℕ} {seen : List ℕ} {p : Parts} {task : ℕ} → IsPendingAs p id (OfTask task)
         → has_seen seen task ≡ false → slice_get p.tasks task ≡ None → Cancels id seen p (answers true seen p)
