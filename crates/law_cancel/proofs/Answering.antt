@@ -7,8 +7,9 @@ use Rattle.model_value.specs.Value.{Outcome}
 use Rattle.model_loop.specs.Parts.{FutureKind, Plain, OfTask, Many, Future, Task, Parts}
 use Rattle.model_loop.specs.Futures.{made_before}
 use Rattle.model_loop.specs.Tasks.{raise_count}
-use Rattle.model_loop.specs.Spent.{spent_kind, spent_until, spent_by, spent_below, is_spent}
+use Rattle.model_loop.specs.Spent.{spent_by, spent_below, is_spent}
 use Rattle.model_loop.specs.Cancel.{CancelRequest, Canceller, answers, has_seen, cancel_each, cancel_below, cancel_within, cancel_with}
+use Rattle.law_cancel.proofs.SpentCases.{spent_kind, spent_until}
 use Rattle.law_cancel.proofs.CancelCases.{asked_where, must_cancel_unless, cancel_waiter, cancel_unseen, cancel_task_where, cancel_kind, cancel_until}
 use Rattle.law_cancel.proofs.CancelCases.{cancel_at}
 use Rattle.law_cancel.proofs.Total.{further}

@@ -7,5 +7,6 @@ pub mod Lookups
 pub mod Meeting
 pub mod Reach
 pub mod Seen
+pub mod SpentCases
 pub mod Total
 pub mod Trace

@@ -10,10 +10,11 @@ use Rattle.model_value.specs.Value.{Outcome}
 use Rattle.model_loop.specs.Parts.{FutureKind, Plain, OfTask, Many, Future, Task, Parts}
 use Rattle.model_loop.specs.Futures.{outcome_at, future_outcome, is_pending, is_pending_at, made_before, mark_asked, asked_kind, with_future}
 use Rattle.model_loop.specs.Tasks.{lives, waiter_of, future_of, change_task, must_cancel_of}
-use Rattle.model_loop.specs.Spent.{spent_kind, spent_until, spent_by, spent_below, is_spent}
+use Rattle.model_loop.specs.Spent.{spent_by, spent_below, is_spent}
 use Rattle.model_loop.specs.Ways.{one_if, resumes, wakes, IsReady, steps, steps_among, wakeups_on, is_running, wakeups_at, ways, HasOneWay}
 use Rattle.model_loop.specs.Totals.{callbacks_of, callbacks_at, pending_where}
 use Rattle.model_loop.specs.MustCancel.{MustCancelWaits, MayKeepMustCancel}
+use Rattle.law_cancel.proofs.SpentCases.{spent_kind, spent_until}
 use Rattle.law_cancel.proofs.Lookups.{get-set_kept}
 use Rattle.law_cancel.proofs.Effects.{asked_as, change_task-futures, length-change_task, mark_asked-futures, mark_asked-tasks}
 use Rattle.law_cancel.proofs.Counting.{change_task-kept}

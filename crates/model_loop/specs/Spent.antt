@@ -2,23 +2,23 @@
 -- answers true only where a child does.
 use Rattle.std.specs.Prelude.{ℕ, zero, suc, Bool, true, false, Option, Some, None, slice_get}
 use Rattle.std.specs.List.{list_all}
-use Rattle.model_value.specs.Value.{Outcome}
-use Rattle.model_loop.specs.Parts.{FutureKind, Plain, OfTask, Many, Future, Parts}
+use Rattle.model_loop.specs.Parts.{Plain, OfTask, Many, Future, Parts}
 use Rattle.model_loop.specs.Futures.{made_before}
-
-abbrev pub spent_kind : (ℕ → Bool) → FutureKind → ℕ → Bool
-spent_kind member_spent Plain id = false
-spent_kind member_spent (OfTask task) id = false
-spent_kind member_spent (Many members asked) id = list_all member_spent (made_before id members)
-
-abbrev pub spent_until : (ℕ → Bool) → Option Outcome → FutureKind → ℕ → Bool
-spent_until member_spent (Some outcome) kind id = true
-spent_until member_spent None kind id = spent_kind member_spent kind id
 
 -- A done future is spent, and one that stands for several is where all its members are.
 abbrev pub spent_by : (ℕ → Bool) → Option Future → ℕ → Bool
-spent_by member_spent None id = true
-spent_by member_spent (Some future) id = spent_until member_spent future.outcome future.kind id
+spent_by member_spent found id =
+    elim found [
+      | None ↦ true
+      | Some future ↦ elim future.outcome [
+        | Some outcome ↦ true
+        | None ↦ elim future.kind [
+          | Plain ↦ false
+          | OfTask task ↦ false
+          | Many members asked ↦ list_all member_spent (made_before id members)
+        ]
+      ]
+    ]
 
 -- of a future whose number is below a bound
 abbrev pub spent_below : ℕ → Parts → ℕ → Bool
