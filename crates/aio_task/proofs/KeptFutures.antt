@@ -9,11 +9,11 @@ use Rattle.model_value.specs.Value.{Outcome}
 use Rattle.model_loop.specs.Parts.{FutureKind, Future, Task, Parts}
 use Rattle.model_loop.specs.Handles.{soon}
 use Rattle.model_loop.specs.Futures.{is_pending_at, with_future, settle, settled, register, registered, registered_on, mark_asked}
-use Rattle.model_loop.specs.Cycles.{passes_at}
 use Rattle.model_loop.specs.Totals.{callbacks_of, callbacks_at}
 use Rattle.model_loop.specs.Owning.{owner_of, owner_at, owner_in, OwnsFutures}
 use Rattle.model_loop.specs.Ways.{steps}
 use Rattle.model_loop.specs.Sound.{HasNoCycle, ArePartsSound}
+use Rattle.law_cancel.proofs.PassCases.{passes_at}
 use Rattle.law_cancel.proofs.Cycling.{no_cycle_kept, passes-same, register-view}
 use Rattle.law_cancel.proofs.Effects.{register-tasks, mark_asked-tasks, asked_as}
 use Rattle.law_cancel.proofs.Lookups.{get_within}

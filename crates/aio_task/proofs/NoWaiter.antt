@@ -18,7 +18,8 @@ use Rattle.model_loop.specs.Tasks.{future_of, waiter_of, lives}
 use Rattle.model_loop.specs.Totals.{callbacks_of}
 use Rattle.model_loop.specs.Ways.{steps, wakeups_on, HasOneWay}
 use Rattle.model_loop.specs.Owning.{OwnsFutures, own_future, owner_at, owner_in}
-use Rattle.model_loop.specs.Cycles.{passes_of_kind, passes_until, passes_at, PassesTo, Leads, at_once, through, leads, cycle}
+use Rattle.model_loop.specs.Cycles.{PassesTo, Leads, at_once, through, leads, cycle}
+use Rattle.law_cancel.proofs.PassCases.{passes_of_kind, passes_until, passes_at}
 use Rattle.law_cancel.proofs.Reach.{leads_decides}
 use Rattle.algorithm_parts.specs.Shape.{members_of, members_at}
 use Rattle.aio_future.specs.Awaited.{is_step, IsUnawaited}

@@ -14,8 +14,9 @@ use Rattle.model_loop.specs.Owning.{owner_of, owner_at, is_no_callback}
 use Rattle.model_loop.specs.Ways.{steps, is_running, one_if}
 use Rattle.model_loop.specs.MustCancel.{MayKeepMustCancel}
 use Rattle.model_loop.specs.Spent.{spent_by}
-use Rattle.model_loop.specs.Cycles.{passes, passes_at}
+use Rattle.model_loop.specs.Cycles.{passes}
 use Rattle.model_loop.specs.Sound.{ArePartsSound, HasNoCycle}
+use Rattle.law_cancel.proofs.PassCases.{passes_at}
 use Rattle.law_cancel.proofs.Lookups.{get-set_kept, get-set_other, get-set_same, get_within}
 use Rattle.law_steps.proofs.Passing.{no_cycle_more}
 use Rattle.algorithm_parts.specs.Released.{released}

@@ -12,8 +12,9 @@ use Rattle.model_loop.specs.Parts.{FutureKind, Plain, OfTask, Many, Future, Task
 use Rattle.model_loop.specs.Futures.{made_before}
 use Rattle.model_loop.specs.Tasks.{change_task, waiter_of}
 use Rattle.model_loop.specs.Cancel.{has_seen}
-use Rattle.model_loop.specs.Cycles.{PassesTo, Leads, at_once, passes, passes_at, passes_until}
+use Rattle.model_loop.specs.Cycles.{PassesTo, Leads, at_once, passes}
 use Rattle.model_loop.specs.Sound.{HasNoCycle}
+use Rattle.law_cancel.proofs.PassCases.{passes_at, passes_until}
 use Rattle.law_cancel.proofs.Lookups.{get-set_kept, get_within}
 use Rattle.law_cancel.proofs.Effects.{settle-futures, settle-tasks, done_as, mark_asked-futures, mark_asked-tasks, asked_as, change_task-futures}
 use Rattle.law_cancel.proofs.Trace.{Goes, begins, settles, asks, raises, sets_must_cancel}

@@ -10,7 +10,8 @@ use Rattle.model_loop.specs.Parts.{FutureKind, Plain, OfTask, Many, Future, Task
 use Rattle.model_loop.specs.Futures.{made_before}
 use Rattle.model_loop.specs.Tasks.{waiter_of}
 use Rattle.model_loop.specs.Cancel.{has_seen}
-use Rattle.model_loop.specs.Cycles.{PassesTo, Leads, at_once, through, passes, passes_at, passes_until, leads}
+use Rattle.model_loop.specs.Cycles.{PassesTo, Leads, at_once, through, passes, leads}
+use Rattle.law_cancel.proofs.PassCases.{passes_at, passes_until}
 use Rattle.law_cancel.proofs.Seen.{has_seen-append, has_seen_last, has_seen_other}
 use Rattle.law_cancel.proofs.Reach.{leads_decides}
 use Rattle.algorithm_parts.specs.Shape.{stands_of, stands_at, members_at}

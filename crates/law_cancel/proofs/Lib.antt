@@ -5,6 +5,7 @@ pub mod Counting
 pub mod Effects
 pub mod Lookups
 pub mod Meeting
+pub mod PassCases
 pub mod Reach
 pub mod Seen
 pub mod SpentCases

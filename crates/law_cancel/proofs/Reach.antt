@@ -5,8 +5,9 @@ use Rattle.std.specs.List.{list_any}
 use Rattle.std.proofs.lemmas.Bool.{cases_Bool, eq-eqb, eqb-true, or_cases, or_left, or_right}
 use Rattle.std.proofs.lemmas.Option.{slice_get_within}
 use Rattle.model_loop.specs.Parts.{Future, Parts}
-use Rattle.model_loop.specs.Cycles.{passes_at, passes, PassesTo, Leads, at_once, through, leads_within, leads}
+use Rattle.model_loop.specs.Cycles.{passes, PassesTo, Leads, at_once, through, leads_within, leads}
 use Rattle.model_loop.specs.Cancel.{has_seen}
+use Rattle.law_cancel.proofs.PassCases.{passes_at}
 use Rattle.law_cancel.proofs.Seen.{left, left_le, left-cons}
 
 -- ---- a test of some element

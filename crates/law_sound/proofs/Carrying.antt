@@ -15,6 +15,7 @@ use Rattle.model_loop.specs.Groups.{begin_exit, child_done, create}
 use Rattle.model_loop.specs.Groups.{exit_begin, exit_woken, set_group}
 use Rattle.std.specs.Option.{option_map_or, option_to_list}
 use Rattle.model_loop.specs.Numbered.{IsNumbered}
+use Rattle.law_cancel.proofs.PassCases.{passes_at}
 use Rattle.law_cancel.proofs.Effects.{register-tasks}
 use Rattle.law_steps.proofs.CancelSound.{plain_within, settled_callbacks}
 use Rattle.model_loop.specs.Owning.{AreCallbacks, is_callback, is_no_callback, is_plain, is_plain_at}
@@ -24,7 +25,7 @@ use Rattle.law_changes.proofs.Numbering.{change_task_numbers, mark_asked_numbers
 use Rattle.model_loop.specs.Loop.{Group, Loop, book}
 use Rattle.model_loop.specs.Cancel.{cancel}
 use Rattle.model_value.specs.Action.{Action}
-use Rattle.model_loop.specs.Cycles.{passes, passes_at}
+use Rattle.model_loop.specs.Cycles.{passes}
 use Rattle.law_steps.proofs.Looks.{LooksSame, change_looks_same, same_callbacks, same_no_cycle}
 use Rattle.law_steps.proofs.Passing.{no_cycle_more, same_tasks_no_cycle, settle_no_cycle}
 use Rattle.law_cancel.proofs.Cycling.{no_cycle_kept, passes-same, register-view}

@@ -14,13 +14,13 @@ use Rattle.model_loop.specs.Spent.{spent_by, spent_below, is_spent}
 use Rattle.model_loop.specs.Ways.{one_if, resumes, wakes, IsReady, steps, steps_among, wakeups_on, is_running, wakeups_at, ways, HasOneWay}
 use Rattle.model_loop.specs.Totals.{callbacks_of, callbacks_at, pending_where}
 use Rattle.model_loop.specs.MustCancel.{MustCancelWaits, MayKeepMustCancel}
+use Rattle.law_cancel.proofs.PassCases.{passes_until, passes_at}
 use Rattle.law_cancel.proofs.SpentCases.{spent_kind, spent_until}
 use Rattle.law_cancel.proofs.Lookups.{get-set_kept}
 use Rattle.law_cancel.proofs.Effects.{asked_as, change_task-futures, length-change_task, mark_asked-futures, mark_asked-tasks}
 use Rattle.law_cancel.proofs.Counting.{change_task-kept}
 use Rattle.model_loop.specs.Owning.{owner_in, owner_at, owner_of, own_future, OwnsFutures, AreSettled, AreCallbacks, is_no_callback, is_plain_kind, is_plain_at}
 use Rattle.model_loop.specs.Owning.{is_plain}
-use Rattle.model_loop.specs.Cycles.{passes_until, passes_at}
 use Rattle.model_loop.specs.Sound.{HasNoCycle}
 use Rattle.model_loop.specs.Children.{tells}
 use Rattle.model_value.specs.declared.action.Action.TheVariants.{Step, StepInCycle, Wakeup, GroupDone}

@@ -8,8 +8,9 @@ use Rattle.model_value.specs.Value.{Outcome, Exc, Value}
 use Rattle.model_loop.specs.Parts.{FutureKind, Plain, OfTask, Many, Future, Task, Parts}
 use Rattle.model_loop.specs.Futures.{settle, is_pending, is_pending_at, made_before, make_future}
 use Rattle.model_loop.specs.Tasks.{waiter_of, set_waiter, begin_step, spawn, clear_must_cancel, finish, future_of}
-use Rattle.model_loop.specs.Cycles.{passes_of_kind, passes_until, passes_at, passes, PassesTo, Leads, through, at_once}
+use Rattle.model_loop.specs.Cycles.{passes, PassesTo, Leads, through, at_once}
 use Rattle.model_loop.specs.Sound.{HasNoCycle, ArePartsSound}
+use Rattle.law_cancel.proofs.PassCases.{passes_of_kind, passes_until, passes_at}
 use Rattle.law_cancel.proofs.Cycling.{leads_kept, no_cycle_kept, passes-same}
 use Rattle.law_cancel.proofs.Effects.{change_task-futures}
 use Rattle.law_cancel.proofs.Counting.{change_task-kept}

@@ -6,28 +6,26 @@ use Rattle.std.specs.Option.{option_to_list}
 use Rattle.model_value.specs.declared.kind.Kind.TheVariants.{RuntimeError}
 use Rattle.model_value.specs.Action.{CycleKind}
 use Rattle.model_value.specs.declared.action.CycleKind.TheVariants.{Itself, ItsWaiter}
-use Rattle.model_value.specs.Value.{Exc, exception_of, Outcome}
-use Rattle.model_loop.specs.Parts.{FutureKind, Plain, OfTask, Many, Future, Parts}
+use Rattle.model_value.specs.Value.{Exc, exception_of}
+use Rattle.model_loop.specs.Parts.{Plain, OfTask, Many, Parts}
 use Rattle.model_loop.specs.Futures.{made_before}
 use Rattle.model_loop.specs.Tasks.{future_of, waiter_of}
-
-abbrev pub passes_of_kind : FutureKind → ℕ → Parts → List ℕ
-passes_of_kind Plain id p = []
-passes_of_kind (OfTask task) id p = option_to_list (waiter_of p task)
-passes_of_kind (Many members asked) id p = made_before id members
-
-abbrev pub passes_until : Option Outcome → FutureKind → ℕ → Parts → List ℕ
-passes_until (Some outcome) kind id p = []
-passes_until None kind id p = passes_of_kind kind id p
-
-abbrev pub passes_at : Option Future → ℕ → Parts → List ℕ
-passes_at None id p = []
-passes_at (Some future) id p = passes_until future.outcome future.kind id p
 
 -- What a future passes to: a pending task to what it waits for, and a pending one that stands for several to its members.
 -- A done one passes nowhere.
 abbrev pub passes : Parts → ℕ → List ℕ
-passes p id = passes_at (slice_get p.futures id) id p
+passes p id =
+    elim (slice_get p.futures id) [
+      | None ↦ []
+      | Some future ↦ elim future.outcome [
+        | Some outcome ↦ []
+        | None ↦ elim future.kind [
+          | Plain ↦ []
+          | OfTask task ↦ option_to_list (waiter_of p task)
+          | Many members asked ↦ made_before id members
+        ]
+      ]
+    ]
 
 abbrev pub PassesTo : Parts → ℕ → ℕ → Type 0
 PassesTo p from to = list_any (λ next. next == to) (passes p from) ≡ true
