@@ -18,10 +18,11 @@ use Rattle.model_loop.specs.Handles.{later, revoke, soon, soon_all}
 use Rattle.model_loop.specs.Ledger.{Origin, request}
 use Rattle.model_loop.specs.Owning.{is_plain_at, owner_at, owner_of, is_main_done}
 use Rattle.model_loop.specs.Parts.{Future, FutureKind, Parts, Plain, Task}
-use Rattle.model_loop.specs.Suspend.{cancel_wait, suspend, suspend_unless, wait_on}
+use Rattle.model_loop.specs.Suspend.{cancel_wait, suspend, wait_on}
 use Rattle.model_loop.specs.Tasks.{begin_step, cancelling, change_task, finish, future_of, must_cancel_of, lives, next_task, one_more, pause, set_waiter}
 use Rattle.model_loop.specs.Tasks.{uncancel}
 use Rattle.model_loop.specs.Tasks.{clear_must_cancel, waiter_of}
+use Rattle.law_cancel.proofs.SuspendCases.{suspend_unless}
 use Rattle.law_cancel.proofs.Counting.{change_task-kept, goes-counts}
 use Rattle.law_cancel.proofs.Effects.{change_task-futures, length-change_task, register-tasks, settle-pending, settle-tasks}
 use Rattle.law_cancel.proofs.Lookups.{get-push_other, get-set_other, get-set_same, get_within}

@@ -15,7 +15,8 @@ use Rattle.model_loop.specs.Futures.{settle, register}
 use Rattle.model_loop.specs.Tasks.{future_of, set_waiter, clear_must_cancel, must_cancel_of, is_cancelled, finish, begin_step, pause}
 use Rattle.model_loop.specs.Cancel.{cancel}
 use Rattle.model_loop.specs.Cycles.{passes, leads_within, leads, cycle}
-use Rattle.model_loop.specs.Suspend.{wait_on, cancel_wait, suspend_unless, suspend}
+use Rattle.model_loop.specs.Suspend.{wait_on, cancel_wait, suspend}
+use Rattle.law_cancel.proofs.SuspendCases.{suspend_unless}
 use Rattle.law_cancel.proofs.PassCases.{passes_at, passes_until}
 use Rattle.aio_task.specs.Bare.{bare_future, bare}
 use Rattle.aio_task.proofs.BareLemmas.{bare_at, soon-bare, register-bare, change-bare, settle-bare, cancel-bare}

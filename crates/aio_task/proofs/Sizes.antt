@@ -14,8 +14,9 @@ use Rattle.model_loop.specs.Futures.{next_future, is_pending, is_pending_at, set
 use Rattle.model_loop.specs.Owning.{owner_in, owner_at, OwnsFutures}
 use Rattle.model_loop.specs.Tasks.{change_task, set_waiter, clear_must_cancel, must_cancel_of, is_cancelled, future_of, lives, begin_step, finish}
 use Rattle.model_loop.specs.Cycles.{cycle}
-use Rattle.model_loop.specs.Suspend.{wait_on, cancel_wait, suspend_unless, suspend}
+use Rattle.model_loop.specs.Suspend.{wait_on, cancel_wait, suspend}
 use Rattle.model_loop.specs.Cancel.{cancel}
+use Rattle.law_cancel.proofs.SuspendCases.{suspend_unless}
 use Rattle.law_cancel.proofs.Counting.{change_task-kept}
 use Rattle.law_cancel.proofs.Effects.{settle-tasks, register-tasks, length-change_task, change_task-futures}
 use Rattle.law_cancel.proofs.Lookups.{get_within}

@@ -14,7 +14,8 @@ use Rattle.model_loop.specs.Futures.{settle, register, registered, registered_on
 use Rattle.model_loop.specs.Tasks.{change_task, spawn, next_task, future_of, set_waiter, clear_must_cancel, must_cancel_of, is_cancelled, finish}
 use Rattle.model_loop.specs.Cancel.{cancel}
 use Rattle.model_loop.specs.Cycles.{passes, leads_within, leads, cycle}
-use Rattle.model_loop.specs.Suspend.{wait_on, cancel_wait, suspend_unless, suspend}
+use Rattle.model_loop.specs.Suspend.{wait_on, cancel_wait, suspend}
+use Rattle.law_cancel.proofs.SuspendCases.{suspend_unless}
 use Rattle.law_cancel.proofs.PassCases.{passes_at, passes_until}
 use Rattle.law_cancel.proofs.Lookups.{get-set_kept}
 use Rattle.law_cancel.proofs.Effects.{change_task-futures}

@@ -17,9 +17,10 @@ use Rattle.model_loop.specs.Futures.{next_future, settle, register, registered, 
 use Rattle.model_loop.specs.Tasks.{waiter_of, future_of, change_task, clear_must_cancel, must_cancel_of}
 use Rattle.model_loop.specs.Cancel.{cancel}
 use Rattle.model_loop.specs.Cycles.{passes, PassesTo, Leads, at_once, through, leads, cycle}
-use Rattle.model_loop.specs.Suspend.{wait_on, cancel_wait, suspend_unless, suspend}
+use Rattle.model_loop.specs.Suspend.{wait_on, cancel_wait, suspend}
 use Rattle.model_loop.specs.Owning.{OwnsFutures, own_future, owner_at, owner_in}
 use Rattle.model_loop.specs.Sound.{HasNoCycle}
+use Rattle.law_cancel.proofs.SuspendCases.{suspend_unless}
 use Rattle.law_cancel.proofs.PassCases.{passes_of_kind, passes_until, passes_at}
 use Rattle.law_cancel.proofs.Lookups.{get-set_same, get-set_other, get-set_kept}
 use Rattle.law_cancel.proofs.Effects.{settle-futures, settle-tasks, done_as, mark_asked-futures, mark_asked-tasks, asked_as, register-tasks, change_task-there}

@@ -9,5 +9,6 @@ pub mod PassCases
 pub mod Reach
 pub mod Seen
 pub mod SpentCases
+pub mod SuspendCases
 pub mod Total
 pub mod Trace

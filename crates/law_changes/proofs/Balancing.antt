@@ -15,8 +15,9 @@ use Rattle.model_loop.specs.Cancel.{has_seen, cancel}
 use Rattle.model_loop.specs.Ledger.{Origin, LedgerEntry, Asked, Raised, Took, raised_among, ask_cancel, request_where, request_each, uncancel_by, ByWait}
 use Rattle.model_loop.specs.Futures.{register}
 use Rattle.model_loop.specs.Cycles.{cycle}
-use Rattle.model_loop.specs.Suspend.{wait_on, cancel_wait, suspend_unless, suspend}
+use Rattle.model_loop.specs.Suspend.{wait_on, cancel_wait, suspend}
 use Rattle.model_loop.specs.Balance.{raises, lowers, Balances}
+use Rattle.law_cancel.proofs.SuspendCases.{suspend_unless}
 use Rattle.law_cancel.proofs.Counting.{goes-counts, goes-once, occurrences-unseen, change_task-kept}
 use Rattle.law_cancel.proofs.Effects.{register-tasks}
 use Rattle.law_cancel.proofs.Lookups.{get-set_same, get-set_other}

@@ -16,10 +16,11 @@ use Rattle.model_loop.specs.Parts.{Parts}
 use Rattle.model_loop.specs.Tasks.{future_of, must_cancel_of, next_task, clear_must_cancel}
 use Rattle.model_loop.specs.Cycles.{cycle}
 use Rattle.model_loop.specs.Handles.{soon}
-use Rattle.model_loop.specs.Suspend.{cancel_wait, suspend, suspend_unless, wait_on}
+use Rattle.model_loop.specs.Suspend.{cancel_wait, suspend, wait_on}
 use Rattle.model_loop.specs.Timeouts.{enter_timeout, exit_timeout, fire, is_active, leave_from, make_timeout, next_timeout, reschedule}
 use Rattle.model_loop.specs.Timeouts.{reschedule_where, schedule}
 use Rattle.model_loop.specs.Timeouts.{timeout_of, without_handle}
+use Rattle.law_cancel.proofs.SuspendCases.{suspend_unless}
 use Rattle.law_changes.specs.Blocks.{OfSchedule, gives_up, fires_soon, fires_later, tags, OfGroup, changes, aborts, waits, wakes, OfTold, in_told, requests}
 use Rattle.law_changes.specs.Blocks.{asks, OfTaking, in_taking, takes, OfEnding, in_ending, ends, OfCreating, in_creating, spawns, registers}
 use Rattle.law_changes.specs.Changes.{LoopChange, MayInLoop, CallsSoon, Registers, ClearsMustCancel, WaitsFor, OfParts, MakesTimeout}

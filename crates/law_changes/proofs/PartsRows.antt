@@ -11,8 +11,9 @@ use Rattle.model_loop.specs.Futures.{made_before}
 use Rattle.model_loop.specs.Ledger.{Origin, request_each, request_where}
 use Rattle.model_loop.specs.Parts.{Future, FutureKind, Plain, OfTask, Many, Parts, Task}
 use Rattle.model_loop.specs.Cycles.{cycle}
-use Rattle.model_loop.specs.Suspend.{cancel_wait, suspend, suspend_unless, wait_on}
+use Rattle.model_loop.specs.Suspend.{cancel_wait, suspend, wait_on}
 use Rattle.model_loop.specs.Tasks.{begin_step, finish, future_of, must_cancel_of, lives, clear_must_cancel}
+use Rattle.law_cancel.proofs.SuspendCases.{suspend_unless}
 use Rattle.law_cancel.proofs.CancelCases.{cancel_at, cancel_kind, cancel_task_where, cancel_unseen, cancel_until, cancel_waiter, asked_where}
 use Rattle.law_cancel.proofs.CancelCases.{must_cancel_unless}
 use Rattle.law_changes.specs.Blocks.{OfRequest, cancels, keeps_asked, counts, sets_must_cancel, OfWait, cycles, registers_step, begins_wait, in_wait}

@@ -11,7 +11,7 @@ use Rattle.model_loop.specs.Tasks.{must_cancel_of, cancelling}
 use Rattle.model_loop.specs.Loop.{Loop, book}
 use Rattle.model_loop.specs.Ledger.{Asked, Booked, ByAbort, ByWait, LedgerEntry, Origin, Raised, Took, ask_cancel, raised_among, request_each}
 use Rattle.model_loop.specs.Ledger.{uncancel_by}
-use Rattle.model_loop.specs.Suspend.{cancel_wait, suspend, suspend_unless, wait_on}
+use Rattle.model_loop.specs.Suspend.{cancel_wait, suspend, wait_on}
 use Rattle.std.specs.List.{count_by}
 use Rattle.model_loop.specs.Ways.{one_if}
 use Rattle.law_changes.specs.Blocks.{OfSchedule, gives_up, fires_soon, fires_later, tags, GroupStage, OfGroup, changes, aborts, waits, wakes, OfEnding}
@@ -29,6 +29,7 @@ use Rattle.model_loop.specs.Balance.{GroupBalances, is_by_timeout, takes, asks, 
 use Rattle.law_changes.proofs.Asked.{quiet_asked}
 use Rattle.law_changes.proofs.Counting.{count-append, count-no}
 use Rattle.model_value.specs.Input.{Input}
+use Rattle.law_cancel.proofs.SuspendCases.{suspend_unless}
 
 pub none_nil : BooksNone []
 none_nil = record {

@@ -2,7 +2,7 @@
 use Rattle.std.proofs.Common.{◌≡◌, ℕ, Bool, Err, List, None, Ok, Option, Result, Some, [], ap, cond, false, inl, inr, length, option_map, refl, slice_get}
 use Rattle.std.proofs.Common.{subst, sym, true, ◌∙◌, ◌∷◌, ◌⊎◌}
 use Rattle.model_loop.specs.Tasks.{begin_step, change_task, finish, future_of, must_cancel_of, pause, set_waiter, clear_must_cancel}
-use Rattle.model_loop.specs.Suspend.{cancel_wait, suspend, suspend_unless, wait_on}
+use Rattle.model_loop.specs.Suspend.{cancel_wait, suspend, wait_on}
 use Rattle.model_value.specs.Value.{Exc, Outcome, Value}
 use Rattle.model_loop.specs.Futures.{future_outcome, is_pending, outcome_at, settle}
 use Rattle.law_steps.proofs.Waiting.{IsWaiting, suspend_sound, task_there, wait_effect}
@@ -15,6 +15,7 @@ use Rattle.model_loop.specs.Parts.{Future, Handle, Parts, Task}
 use Rattle.law_steps.proofs.Spreading.{as_row, with_spread}
 use Rattle.model_loop.specs.Loop.{Group}
 use Rattle.law_steps.proofs.Ending.{pending_there, soon_step_sound}
+use Rattle.law_cancel.proofs.SuspendCases.{suspend_unless}
 use Rattle.law_cancel.proofs.Counting.{change_task-kept, goes-done}
 use Rattle.model_value.specs.declared.action.Action.TheVariants.{Step, StepInCycle}
 use Rattle.law_steps.proofs.Looks.{change_looks_same, future_of-same}

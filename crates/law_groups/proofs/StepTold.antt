@@ -13,11 +13,12 @@ use Rattle.model_loop.specs.Futures.{is_pending, is_pending_at}
 use Rattle.model_loop.specs.Tasks.{lives, future_of, change_task, set_waiter, clear_must_cancel, begin_step, must_cancel_of}
 use Rattle.model_loop.specs.Cancel.{cancel}
 use Rattle.model_loop.specs.Cycles.{cycle}
-use Rattle.model_loop.specs.Suspend.{wait_on, cancel_wait, suspend_unless, suspend}
+use Rattle.model_loop.specs.Suspend.{wait_on, cancel_wait, suspend}
 use Rattle.model_loop.specs.Children.{tells, IsTold}
 use Rattle.model_loop.specs.Numbered.{occurrences}
 use Rattle.model_loop.specs.Ways.{steps}
 use Rattle.model_loop.specs.Totals.{callbacks_of, callbacks_at, pending_where, total}
+use Rattle.law_cancel.proofs.SuspendCases.{suspend_unless}
 use Rattle.law_cancel.proofs.Counting.{change_task-kept}
 use Rattle.law_cancel.proofs.Effects.{length-change_task, change_task-futures}
 use Rattle.model_loop.specs.Owning.{own_future}

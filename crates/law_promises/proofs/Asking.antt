@@ -18,9 +18,10 @@ use Rattle.model_loop.specs.Ledger.{Origin, ByWait, LedgerEntry, Raised, Took, a
 use Rattle.model_loop.specs.Loop.{Loop, book}
 use Rattle.model_loop.specs.Owning.{OwnsFutures, owner_at, owner_in, owner_of, own_future}
 use Rattle.model_loop.specs.Parts.{FutureKind, Plain, OfTask, Many, Future, Parts, Task}
-use Rattle.model_loop.specs.Suspend.{cancel_wait, suspend, suspend_unless, wait_on}
+use Rattle.model_loop.specs.Suspend.{cancel_wait, suspend, wait_on}
 use Rattle.model_loop.specs.Tasks.{cancelling, future_of, must_cancel_of, lives, next_task, one_more, raise_count, uncancel}
 use Rattle.model_machine.specs.Replies.{most_ids}
+use Rattle.law_cancel.proofs.SuspendCases.{suspend_unless}
 use Rattle.law_cancel.proofs.CancelCases.{cancel_at, cancel_kind, cancel_unseen, cancel_until, cancel_waiter, must_cancel_unless}
 use Rattle.law_cancel.proofs.Counting.{goes-counts}
 use Rattle.law_cancel.proofs.Trace.{goes-seen, with_row, within_row}

@@ -1,10 +1,11 @@
 -- Where must_cancel falls: at the beginning of its task's step, at the task's return, and at a wait for what was cancelled.
 use Rattle.std.proofs.Common.{◌≡◌, ℕ, Bool, Err, List, None, Ok, Option, Result, Some, ap, cond, false, inl, inr, refl, slice_get, subst, sym, true, ◌∙◌, ◌⊎◌}
-use Rattle.model_loop.specs.Suspend.{cancel_wait, suspend, suspend_unless, wait_on}
+use Rattle.model_loop.specs.Suspend.{cancel_wait, suspend, wait_on}
 use Rattle.model_loop.specs.Tasks.{begin_step, cancelled_error, cancelling_input, change_task, finish, future_of, is_cancelled, must_cancel_of, lives}
 use Rattle.model_loop.specs.Tasks.{set_waiter}
 use Rattle.model_loop.specs.Tasks.{uncancel, clear_must_cancel}
 use Rattle.std.proofs.lemmas.Bool.{cases_eq, false≢true}
+use Rattle.law_cancel.proofs.SuspendCases.{suspend_unless}
 use Rattle.law_cancel.proofs.Effects.{change_task-futures, done_as, register-tasks, settle-futures, settle-tasks}
 use Rattle.model_value.specs.declared.outcome.Outcome.TheVariants.{Value as Returned, Failed, Cancelled}
 use Rattle.model_value.specs.Action.{Action, CycleKind}

@@ -15,10 +15,11 @@ use Rattle.model_loop.specs.Tasks.{lives, waiter_of, future_of, must_cancel_of, 
 use Rattle.model_loop.specs.Spent.{spent_by, is_spent}
 use Rattle.model_loop.specs.Cancel.{CancelRequest, cancel}
 use Rattle.model_loop.specs.Cycles.{cycle}
-use Rattle.model_loop.specs.Suspend.{wait_on, cancel_wait, suspend_unless, suspend}
+use Rattle.model_loop.specs.Suspend.{wait_on, cancel_wait, suspend}
 use Rattle.model_loop.specs.Ways.{steps, steps_among, wakeups_on, is_running, wakeups_at, ways, wanted, resumes, wakes}
 use Rattle.model_loop.specs.Totals.{callbacks_of, callbacks_at, pending_where}
 use Rattle.model_loop.specs.MustCancel.{MayKeepMustCancel}
+use Rattle.law_cancel.proofs.SuspendCases.{suspend_unless}
 use Rattle.law_cancel.proofs.Lookups.{get-set_same, get-set_other, get-set_kept}
 use Rattle.law_cancel.proofs.Counting.{change_task-kept}
 use Rattle.law_cancel.proofs.Effects.{change_task-there, change_task-futures, register-tasks, length-change_task}

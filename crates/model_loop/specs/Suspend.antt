@@ -1,6 +1,5 @@
 -- A task's step ends with the await of a future that isn't done. Source: `tasks.py`, `__step_run_and_handle_result`.
-use Rattle.std.specs.Prelude.{ℕ, Bool, true, false, Option, Some, None, if◌then◌else◌}
-use Rattle.model_value.specs.Action.{CycleKind}
+use Rattle.std.specs.Prelude.{ℕ, Bool, true, false, Some, None, if◌then◌else◌}
 use Rattle.model_value.specs.declared.action.Action.TheVariants.{StepInCycle, Wakeup}
 use Rattle.model_loop.specs.Parts.{Parts}
 use Rattle.model_loop.specs.Handles.{soon}
@@ -24,10 +23,10 @@ cancel_wait true task on p =
     let asked = request (ByWait task) on p in
     record (asked.booked) { parts = if asked.answer then clear_must_cancel task asked.booked.parts else asked.booked.parts }
 
-abbrev pub suspend_unless : Option CycleKind → ℕ → ℕ → Parts → Booked
-suspend_unless (Some cycle) task on p = unbooked (soon (StepInCycle task cycle) p)
-suspend_unless None task on p = cancel_wait (must_cancel_of p task) task on (wait_on task on p)
-
 -- A task awaits a pending future. An await in a cycle is refused by a step that throws.
 abbrev pub suspend : ℕ → ℕ → Parts → Booked
-suspend task on p = suspend_unless (cycle p task on) task on p
+suspend task on p =
+    elim (cycle p task on) [
+      | Some cycle ↦ unbooked (soon (StepInCycle task cycle) p)
+      | None ↦ cancel_wait (must_cancel_of p task) task on (wait_on task on p)
+    ]

@@ -13,7 +13,8 @@ use Rattle.model_loop.specs.Futures.{settle, register}
 use Rattle.model_loop.specs.Tasks.{future_of, set_waiter, clear_must_cancel, must_cancel_of, is_cancelled, begin_step, finish}
 use Rattle.model_loop.specs.Cancel.{cancel}
 use Rattle.model_loop.specs.Cycles.{passes, leads_within, leads, cycle}
-use Rattle.model_loop.specs.Suspend.{wait_on, cancel_wait, suspend_unless, suspend}
+use Rattle.model_loop.specs.Suspend.{wait_on, cancel_wait, suspend}
+use Rattle.law_cancel.proofs.SuspendCases.{suspend_unless}
 use Rattle.law_cancel.proofs.PassCases.{passes_at, passes_until}
 use Rattle.algorithm_parts.specs.Placed.{placed}
 use Rattle.algorithm_parts.proofs.PlacedLemmas.{soon-placed, settle-placed, register-placed, change-placed, cancel-placed}

@@ -15,7 +15,8 @@ use Rattle.model_loop.specs.Tasks.{waiter_of, change_task, spawn, set_waiter, cl
 use Rattle.model_loop.specs.Cancel.{cancel}
 use Rattle.model_loop.specs.Cycles.{cycle}
 use Rattle.model_loop.specs.Ledger.{Origin, request_where, request_each}
-use Rattle.model_loop.specs.Suspend.{wait_on, cancel_wait, suspend_unless, suspend}
+use Rattle.model_loop.specs.Suspend.{wait_on, cancel_wait, suspend}
+use Rattle.law_cancel.proofs.SuspendCases.{suspend_unless}
 use Rattle.law_cancel.proofs.Counting.{change_task-kept}
 use Rattle.law_cancel.proofs.Effects.{settle-tasks, mark_asked-tasks, register-tasks}
 use Rattle.law_cancel.proofs.Lookups.{get-set_same, get-set_other, get-push_last, get-push_other}

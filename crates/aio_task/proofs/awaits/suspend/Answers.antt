@@ -1,8 +1,9 @@
 use Rattle.std.proofs.Common.{[], ◌∷◌, ap, sym, subst, ◌∙◌}
 use Rattle.model_value.specs.declared.action.Action.TheVariants.{StepInCycle}
 use Rattle.model_loop.specs.Sound.{HasNoCycle}
-use Rattle.model_loop.specs.Suspend.{suspend_unless, cancel_wait, wait_on}
+use Rattle.model_loop.specs.Suspend.{cancel_wait, wait_on}
 use Rattle.model_loop.specs.Tasks.{must_cancel_of}
+use Rattle.law_cancel.proofs.SuspendCases.{suspend_unless}
 use Rattle.law_cancel.proofs.Cycling.{allowed, wait_makes_none}
 use Rattle.aio_cancel.specs.Awaitables.{Awaitables, parts}
 use Rattle.aio_cancel.proofs.PartsLemmas.{appended_on}
