@@ -4,13 +4,14 @@ use Rattle.std.proofs.Common.{sym, subst}
 use Rattle.model_value.specs.Action.{Action}
 use Rattle.model_value.specs.declared.action.Action.TheVariants.{Fires}
 use Rattle.model_value.specs.Value.{Exc}
+use Rattle.model_loop.proofs.TimeoutCases.{leave_from, reschedule_where}
 use Rattle.model_loop.specs.Handles.{deadline, later, soon}
 use Rattle.model_loop.specs.Ledger.{ByTimeout}
 use Rattle.model_loop.specs.Loop.{Group, Loop, TimeoutState, Created, Active, Expiring, Expired, Finished}
 use Rattle.model_loop.specs.Parts.{Parts}
 use Rattle.model_loop.specs.Tasks.{future_of, uncancel}
-use Rattle.model_loop.specs.Timeouts.{enter_timeout, exit_timeout, fire, fires_at, give_up, is_active, leave_from, make_timeout, moment, reschedule}
-use Rattle.model_loop.specs.Timeouts.{reschedule_where, schedule, timeout_of, without_handle}
+use Rattle.model_loop.specs.Timeouts.{enter_timeout, exit_timeout, fire, fires_at, give_up, is_active, make_timeout, moment, reschedule, schedule, timeout_of}
+use Rattle.model_loop.specs.Timeouts.{without_handle}
 use Rattle.model_machine.specs.State.{State, with_loop}
 use Rattle.aio_task.specs.View.{View}
 use Rattle.aio_timeout.specs.declared.timeout.Timeout.{Timeout}

@@ -11,9 +11,9 @@ use Rattle.model_value.specs.declared.request.Request.TheVariants as request
 use Rattle.model_value.specs.Value.{Value, Nothing, Truth, Timeout as Named, Exc}
 use Rattle.model_says.specs.Operations.{out_of_range}
 use Rattle.model_says.specs.Requests.{bad_argument}
+use Rattle.model_loop.proofs.TimeoutCases.{reschedule_where}
 use Rattle.model_loop.specs.Loop.{Loop, TimeoutState, Finished}
-use Rattle.model_loop.specs.Timeouts.{enter_timeout, has_expired, is_active, next_timeout, no_timeout, reschedule, reschedule_exception, reschedule_where}
-use Rattle.model_loop.specs.Timeouts.{timeout_of}
+use Rattle.model_loop.specs.Timeouts.{enter_timeout, has_expired, is_active, next_timeout, no_timeout, reschedule, reschedule_exception, timeout_of}
 use Rattle.model_machine.specs.Arguments.{as_delay, as_timeout}
 use Rattle.model_machine.specs.Extra.{Extra}
 use Rattle.model_machine.specs.Replies as plain

@@ -4,6 +4,7 @@ use Rattle.std.proofs.Common.{slice_set, slice_get, slice_index_or, refl, ap, sy
 use Rattle.std.specs.Option.{option_map_or}
 use Rattle.std.proofs.lemmas.Option.{slice_get_within, get_or_from_slice_get}
 use Rattle.model_value.specs.Value.{Exc}
+use Rattle.model_loop.proofs.TimeoutCases.{reschedule_where}
 use Rattle.model_loop.specs.Parts.{Task, Parts}
 use Rattle.model_loop.specs.Loop as loop
 use Rattle.model_loop.specs.Loop.{Loop}
@@ -11,8 +12,7 @@ use Rattle.model_loop.specs.Handles.{deadline}
 use Rattle.model_loop.specs.Cancel.{cancel}
 use Rattle.model_loop.specs.Ledger.{ByTimeout, request}
 use Rattle.model_loop.specs.Tasks.{cancelling, uncancel, future_of, is_cancelled}
-use Rattle.model_loop.specs.Timeouts.{no_timeout, timeout_of, give_up, enter_timeout, reschedule_where, reschedule, is_active, moment, schedule, fire}
-use Rattle.model_loop.specs.Timeouts.{exit_timeout, has_expired}
+use Rattle.model_loop.specs.Timeouts.{no_timeout, timeout_of, give_up, enter_timeout, reschedule, is_active, moment, schedule, fire, exit_timeout, has_expired}
 use Rattle.aio_task.specs.View.{View, parts}
 use Rattle.aio_task.specs.Keeps.{NameMap, Keeps, Kept, Extends, Becomes}
 use Rattle.aio_timeout.specs.declared.handler.TimeoutHandler.{TimeoutHandler}

@@ -8,12 +8,12 @@ use Rattle.std.proofs.lemmas.List.Elements.{filter-append}
 use Rattle.model_value.specs.Action.{Action}
 use Rattle.model_value.specs.declared.action.Action.TheVariants.{Fires}
 use Rattle.model_value.specs.Value.{Exc}
+use Rattle.model_loop.proofs.TimeoutCases.{leave_from}
 use Rattle.model_loop.specs.Parts.{Handle, Timer, Parts}
 use Rattle.model_loop.specs.Loop.{TimeoutState, Created, Active, Expiring, Expired, Finished, Timeout, Loop}
 use Rattle.model_loop.specs.Handles.{deadline, soon, later, revoke, cancelled_if}
 use Rattle.model_loop.specs.Tasks.{cancelling, uncancel, is_cancelled}
-use Rattle.model_loop.specs.Timeouts.{no_timeout, timeout_of, give_up, without_handle, fires_at, schedule, make_timeout, enter_timeout, leave_from}
-use Rattle.model_loop.specs.Timeouts.{exit_timeout}
+use Rattle.model_loop.specs.Timeouts.{no_timeout, timeout_of, give_up, without_handle, fires_at, schedule, make_timeout, enter_timeout, exit_timeout}
 use Rattle.aio_timeout.specs.States.{is_expiring}
 use Rattle.aio_timeout.specs.Scheduled.{fires_if, tag_if}
 

@@ -5,6 +5,7 @@ use Rattle.model_value.specs.declared.action.Action.TheVariants.{Fires}
 use Rattle.model_value.specs.declared.input.Input.TheVariants.{Send, Throw}
 use Rattle.model_value.specs.Input.{Input}
 use Rattle.model_value.specs.Value.{Exc}
+use Rattle.model_loop.proofs.TimeoutCases.{with_deadline}
 use Rattle.model_loop.specs.Groups.{Refusal, abort, abort_and_request_unless, abort_if_raised, abort_where, blame, child_done, create, create_unless}
 use Rattle.model_loop.specs.Groups.{end_exit, failure_of, group_of, hear, keep_and_abort_unless, refusal, set_group, take_back, take_back_where}
 use Rattle.model_loop.specs.Groups.{wait_or_end, wait_or_end_with, wake_exit, wake_if_last, without_child}
@@ -13,7 +14,7 @@ use Rattle.model_loop.specs.Ledger.{LedgerEntry, Origin, ByAbort, ByGroup, reque
 use Rattle.model_loop.specs.Loop.{Loop, book, in_parts}
 use Rattle.model_loop.specs.Parts.{Plain, Parts}
 use Rattle.model_loop.specs.Tasks.{cancelling, future_of, lives}
-use Rattle.model_loop.specs.Timeouts.{give_up, schedule, timeout_of, with_deadline, without_handle}
+use Rattle.model_loop.specs.Timeouts.{give_up, schedule, timeout_of, without_handle}
 use Rattle.law_changes.specs.Blocks.{OfSchedule, gives_up, fires_soon, fires_later, tags, OfGroup, changes, aborts, waits, wakes, OfTold, in_told, requests}
 use Rattle.law_changes.specs.Blocks.{asks, OfTaking, in_taking, takes, OfEnding, in_ending, ends, OfCreating, in_creating, spawns, registers}
 use Rattle.law_changes.specs.Changes.{LoopChange, CallsSoon, CallsLater, Revokes, MakesFuture, Settles, Registers, MakesTask, OfParts, ChangesTimeout}

@@ -1,8 +1,9 @@
 -- What timeouts and groups book themselves, and what the ledger then tells of them.
 use Rattle.std.proofs.Common.{◌≡◌, ℕ, Bool, List, None, Option, Some, [], ap, append_assoc, arith, cond, false, inl, inr, is_some, length, nat_eq, nat_lt, not}
 use Rattle.std.proofs.Common.{refl, subst, sym, true, ◌&&◌, ◌++◌, ◌+◌, ◌<◌, ◌==◌, ◌||◌, ◌∙◌, ◌∷◌, ◌⊎◌}
+use Rattle.model_loop.proofs.TimeoutCases.{leave_from}
 use Rattle.model_loop.specs.Ledger.{Asked, Began, ByGroup, ByTimeout, LedgerEntry, Took, raised_among, uncancel_by}
-use Rattle.model_loop.specs.Timeouts.{exit_timeout, fire, has_expired, is_active, leave_from, no_timeout, set_timeout, timeout_of, without_handle}
+use Rattle.model_loop.specs.Timeouts.{exit_timeout, fire, has_expired, is_active, no_timeout, set_timeout, timeout_of, without_handle}
 use Rattle.std.proofs.lemmas.Bool.{cases_eq, eq-eqb, false≢true, ne_eqb}
 use Rattle.model_loop.specs.Cancel.{cancel}
 use Rattle.law_changes.specs.Changes.{ChangesTimeout, ChangesGroup}

@@ -6,6 +6,7 @@ use Rattle.model_value.specs.Action.{CycleKind}
 use Rattle.model_value.specs.declared.action.Action.TheVariants as action
 use Rattle.model_value.specs.Input.{Input}
 use Rattle.model_value.specs.Value.{Exc}
+use Rattle.model_loop.proofs.TimeoutCases.{leave_from, reschedule_where}
 use Rattle.model_loop.specs.Ending.{cancel_everything}
 use Rattle.model_loop.specs.Groups.{begin_exit, child_done, create}
 use Rattle.model_loop.specs.Groups.{enter_group, exit_begin, exit_woken, make_group, next_group}
@@ -17,9 +18,8 @@ use Rattle.model_loop.specs.Tasks.{future_of, must_cancel_of, next_task, clear_m
 use Rattle.model_loop.specs.Cycles.{cycle}
 use Rattle.model_loop.specs.Handles.{soon}
 use Rattle.model_loop.specs.Suspend.{cancel_wait, suspend, wait_on}
-use Rattle.model_loop.specs.Timeouts.{enter_timeout, exit_timeout, fire, is_active, leave_from, make_timeout, next_timeout, reschedule}
-use Rattle.model_loop.specs.Timeouts.{reschedule_where, schedule}
-use Rattle.model_loop.specs.Timeouts.{timeout_of, without_handle}
+use Rattle.model_loop.specs.Timeouts.{enter_timeout, exit_timeout, fire, is_active, make_timeout, next_timeout, reschedule, schedule, timeout_of}
+use Rattle.model_loop.specs.Timeouts.{without_handle}
 use Rattle.law_cancel.proofs.SuspendCases.{suspend_unless}
 use Rattle.law_changes.specs.Blocks.{OfSchedule, gives_up, fires_soon, fires_later, tags, OfGroup, changes, aborts, waits, wakes, OfTold, in_told, requests}
 use Rattle.law_changes.specs.Blocks.{asks, OfTaking, in_taking, takes, OfEnding, in_ending, ends, OfCreating, in_creating, spawns, registers}

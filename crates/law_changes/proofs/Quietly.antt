@@ -1,12 +1,13 @@
 -- Steps that are no timeout's and no group's book nothing of them.
 use Rattle.std.proofs.Common.{◌≡◌, ℕ, Bool, List, None, Option, Some, [], ap, append-nil, arith, false, map, option_map, refl}
 use Rattle.std.proofs.Common.{slice_index_or, slice_set, subst, suc, sym, true, zero, ℤ, ◌++◌, ◌∙◌, ◌∷◌, nat_lt}
+use Rattle.model_loop.proofs.TimeoutCases.{reschedule_where}
 use Rattle.model_loop.specs.Handles.{deadline}
 use Rattle.model_loop.specs.Groups.{abort, create, exit_woken, group_of, new_group}
 use Rattle.model_loop.specs.Groups.{wait_or_end, wake_exit}
 use Rattle.model_loop.specs.Cycles.{cycle}
-use Rattle.model_loop.specs.Timeouts.{enter_timeout, is_active, make_timeout, moment, next_timeout, no_timeout, reschedule}
-use Rattle.model_loop.specs.Timeouts.{reschedule_where, schedule, timeout_of, without_handle}
+use Rattle.model_loop.specs.Timeouts.{enter_timeout, is_active, make_timeout, moment, next_timeout, no_timeout, reschedule, schedule, timeout_of}
+use Rattle.model_loop.specs.Timeouts.{without_handle}
 use Rattle.model_loop.specs.Tasks.{must_cancel_of, cancelling}
 use Rattle.model_loop.specs.Loop.{Loop, book}
 use Rattle.model_loop.specs.Ledger.{Asked, Booked, ByAbort, ByWait, LedgerEntry, Origin, Raised, Took, ask_cancel, raised_among, request_each}

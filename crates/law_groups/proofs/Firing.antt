@@ -2,8 +2,9 @@
 use Rattle.std.proofs.Common.{◌≡◌, ℕ, Bool, List, None, Option, Some, [], ap, arith, cond, false, inl, inr, length, length-append, not, option_map, refl}
 use Rattle.std.proofs.Common.{slice_index_or, subst, suc, sym, true, zero, ℤ, ◌&&◌, ◌++◌, ◌+◌, ◌<◌, ◌==◌, ◌∙◌, ◌∷◌, ◌≤◌, ◌⊎◌}
 use Rattle.law_changes.proofs.Numbering.{change_task_numbers, taken_numbers}
-use Rattle.model_loop.specs.Timeouts.{enter_timeout, exit_timeout, fire, give_up, is_active, leave_from, make_timeout, next_timeout, no_timeout, set_timeout}
-use Rattle.model_loop.specs.Timeouts.{timeout_of, without_handle}
+use Rattle.model_loop.proofs.TimeoutCases.{leave_from}
+use Rattle.model_loop.specs.Timeouts.{enter_timeout, exit_timeout, fire, give_up, is_active, make_timeout, next_timeout, no_timeout, set_timeout, timeout_of}
+use Rattle.model_loop.specs.Timeouts.{without_handle}
 use Rattle.model_loop.specs.Ledger.{ByTimeout, LedgerEntry, uncancel_by}
 use Rattle.model_loop.specs.Sound.{ArePartsSound}
 use Rattle.law_groups.proofs.Tagging.{given_up, schedule_tags, timeout_other, timeout_same}

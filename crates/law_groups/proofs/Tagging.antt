@@ -7,11 +7,11 @@ use Rattle.std.proofs.lemmas.List.{get_or-set_same, get_or-set_other, get_or_pas
 use Rattle.std.proofs.lemmas.Option.{same_Some, none-some}
 use Rattle.model_value.specs.Action.{Action}
 use Rattle.model_value.specs.declared.action.Action.TheVariants.{Fires}
+use Rattle.model_loop.proofs.TimeoutCases.{with_deadline, reschedule_where}
 use Rattle.model_loop.specs.Parts.{Parts}
 use Rattle.model_loop.specs.Loop.{Timeout, Loop, in_parts}
 use Rattle.model_loop.specs.Handles.{soon, later, revoke}
-use Rattle.model_loop.specs.Timeouts.{no_timeout, timeout_of, set_timeout, give_up, without_handle, with_deadline, schedule, is_active, reschedule_where}
-use Rattle.model_loop.specs.Timeouts.{reschedule, moment}
+use Rattle.model_loop.specs.Timeouts.{no_timeout, timeout_of, set_timeout, give_up, without_handle, schedule, is_active, reschedule, moment}
 use Rattle.model_loop.specs.Deadlines.{fires, fires_any, fires_as, others_as, entries_at, HasTag}
 use Rattle.model_loop.specs.Numbered.{IsNumbered}
 use Rattle.law_changes.proofs.Numbering.{soon_numbers, later_numbers, revoke_numbers}

@@ -6,6 +6,7 @@ use Rattle.std.specs.List.{count_by, range_with_len}
 use Rattle.std.proofs.lemmas.List.Sums.{sum_by_push}
 use Rattle.model_value.specs.Value.{Value, Exc, Outcome}
 use Rattle.model_value.specs.declared.action.Action.TheVariants.{Fires, Extra as Added}
+use Rattle.model_loop.proofs.TimeoutCases.{leave_from, reschedule_where}
 use Rattle.model_loop.specs.Ending.{cancel_everything}
 use Rattle.model_loop.specs.Groups.{group_of}
 use Rattle.model_loop.specs.Futures.{settle}
@@ -16,8 +17,8 @@ use Rattle.model_loop.specs.Owning.{OwnsFutures}
 use Rattle.model_loop.specs.Parts.{Parts, Plain, Many}
 use Rattle.model_loop.specs.Suspend.{suspend}
 use Rattle.model_loop.specs.Tasks.{cancelling, finish, future_of, lives, next_task, spawn}
-use Rattle.model_loop.specs.Timeouts.{enter_timeout, exit_timeout, fire, give_up, is_active, leave_from, make_timeout, moment, next_timeout}
-use Rattle.model_loop.specs.Timeouts.{no_timeout, reschedule, reschedule_where, schedule, set_timeout, timeout_of, without_handle}
+use Rattle.model_loop.specs.Timeouts.{enter_timeout, exit_timeout, fire, give_up, is_active, make_timeout, moment, next_timeout, no_timeout, reschedule}
+use Rattle.model_loop.specs.Timeouts.{schedule, set_timeout, timeout_of, without_handle}
 use Rattle.model_machine.specs.Extra.{ExtraStep, MakesPlain, MakesMany, Settles, Releases, Registers, CallsSoon, CallsLater, Revokes, Cancels, Uncancels}
 use Rattle.model_machine.specs.Extra.{made_by, made_by_all}
 use Rattle.model_machine.specs.Replies.{most_ids}

@@ -1,6 +1,7 @@
 -- Each step of a timeout keeps a sound state sound.
 use Rattle.std.proofs.Common.{◌≡◌, ℕ, Bool, List, None, Option, Some, ap, arith, cond, false, length, nat_le, not, option_map, refl, slice_get, slice_index_or}
 use Rattle.std.proofs.Common.{subst, sym, true, ℤ, ◌&&◌, ◌<◌, ◌==◌, ◌∙◌, ◌∷◌}
+use Rattle.model_loop.proofs.TimeoutCases.{leave_from, reschedule_where, with_deadline}
 use Rattle.model_loop.specs.Parts.{Handle, Parts, Task, Timer}
 use Rattle.law_changes.proofs.LoopBalance.{enter_timeout_keeps, exit_timeout_keeps, fire_keeps, reschedule_keeps}
 use Rattle.law_steps.specs.Frames.{Follows, taken}
@@ -9,8 +10,8 @@ use Rattle.std.proofs.lemmas.List.Sums.{sum_by_push}
 use Rattle.law_groups.proofs.Quiet.{change_task_quiet, handles-first, refl_quiet, timed_kept, times_on}
 use Rattle.model_loop.specs.Deadlines.{fires, others_as}
 use Rattle.model_loop.specs.Loop.{Active, Created, Expired, Expiring, Finished, Group, Loop, TimeoutState, in_parts}
-use Rattle.model_loop.specs.Timeouts.{enter_timeout, exit_timeout, fire, give_up, is_active, leave_from, make_timeout, moment, next_timeout, reschedule}
-use Rattle.model_loop.specs.Timeouts.{reschedule_where, schedule, set_timeout, timeout_of, with_deadline, without_handle}
+use Rattle.model_loop.specs.Timeouts.{enter_timeout, exit_timeout, fire, give_up, is_active, make_timeout, moment, next_timeout, reschedule, schedule}
+use Rattle.model_loop.specs.Timeouts.{set_timeout, timeout_of, without_handle}
 use Rattle.model_loop.specs.Groups.{group_of, new_group}
 use Rattle.law_steps.proofs.Looks.{LooksSame, handles_look_same, looks_on, refl_looks, same_no_cycle}
 use Rattle.std.proofs.lemmas.Bool.{and_from, and_parts, false≢true}

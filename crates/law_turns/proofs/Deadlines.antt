@@ -5,14 +5,14 @@ use Rattle.std.proofs.lemmas.Bool.{eq-eqb, false≢true}
 use Rattle.model_value.specs.Action.{Action}
 use Rattle.model_value.specs.declared.action.Action.TheVariants.{Fires}
 use Rattle.model_value.specs.Value.{Value, Nothing, Exc}
+use Rattle.model_loop.proofs.TimeoutCases.{leave_from, reschedule_where, with_deadline}
 use Rattle.model_loop.specs.Deadlines.{fires, others_as}
 use Rattle.model_loop.specs.Entries.{entries}
 use Rattle.model_loop.specs.Handles.{later, soon}
 use Rattle.model_loop.specs.Ledger.{ByTimeout, uncancel_by}
 use Rattle.model_loop.specs.Loop.{TimeoutState, Created, Active, Expiring, Expired, Finished, Timeout, Loop, book, in_parts}
 use Rattle.model_loop.specs.Tasks.{future_of}
-use Rattle.model_loop.specs.Timeouts.{exit_timeout, fire, give_up, is_active, leave_from, moment, reschedule, reschedule_where, schedule}
-use Rattle.model_loop.specs.Timeouts.{timeout_of, with_deadline, without_handle}
+use Rattle.model_loop.specs.Timeouts.{exit_timeout, fire, give_up, is_active, moment, reschedule, schedule, timeout_of, without_handle}
 use Rattle.model_machine.specs.Sound.{is_open}
 use Rattle.law_groups.proofs.Entries.{entries-fewer, of_tag}
 use Rattle.law_groups.proofs.Tagging.{timeout_same}

@@ -4,6 +4,7 @@ use Rattle.std.specs.List.{range_with_len}
 use Rattle.model_value.specs.declared.action.Action.TheVariants as action
 use Rattle.model_value.specs.Input.{Input}
 use Rattle.model_value.specs.Value.{Value, Exc}
+use Rattle.model_loop.proofs.TimeoutCases.{leave_from, reschedule_where}
 use Rattle.model_loop.specs.Cancel.{cancel}
 use Rattle.model_loop.specs.Ending.{cancel_everything}
 use Rattle.model_loop.specs.Groups.{begin_exit, child_done, create, enter_group, exit_begin, exit_woken, make_group, next_group}
@@ -12,8 +13,7 @@ use Rattle.model_loop.specs.Loop.{Loop, TimeoutState, Created, Active, Expiring,
 use Rattle.model_loop.specs.Parts.{Parts, Plain, Many}
 use Rattle.model_loop.specs.Suspend.{suspend}
 use Rattle.model_loop.specs.Tasks.{begin_step, finish, future_of, next_task}
-use Rattle.model_loop.specs.Timeouts.{enter_timeout, exit_timeout, fire, is_active, leave_from, make_timeout, next_timeout, reschedule, reschedule_where}
-use Rattle.model_loop.specs.Timeouts.{timeout_of, without_handle}
+use Rattle.model_loop.specs.Timeouts.{enter_timeout, exit_timeout, fire, is_active, make_timeout, next_timeout, reschedule, timeout_of, without_handle}
 use Rattle.model_machine.specs.Extra.{ExtraStep, MakesPlain, MakesMany, Settles as ExtraSettles, Releases, Registers as ExtraRegisters, made_by, made_by_all}
 use Rattle.model_machine.specs.Extra.{CallsSoon as ExtraSoon, CallsLater as ExtraLater, Revokes as ExtraRevokes, Cancels, Uncancels}
 use Rattle.law_changes.specs.Blocks.{OfRequest, cancels, keeps_asked, counts, sets_must_cancel, OfWait, cycles, registers_step, begins_wait, in_wait}

@@ -36,14 +36,16 @@ without_handle id l =
 abbrev pub fires_at : ℕ → ℕ → Parts → Parts
 fires_at id when p = if nat_le when p.time then soon (Fires id) p else later when (Fires id) p
 
-abbrev pub with_deadline : ℕ → Option ℕ → Loop → Loop
-with_deadline id None l = l
-with_deadline id (Some when) l =
-    set_timeout id (record (timeout_of l id) { tag = Some l.parts.next_tag }) (in_parts (fires_at id when) l)
-
 -- the old handle is given up, and a new one waits for the deadline, if there is one
 abbrev pub schedule : ℕ → Option ℕ → Loop → Loop
-schedule id when l = with_deadline id when (without_handle id l)
+schedule id when l =
+    let without = without_handle id l in
+    elim when [
+      | None ↦ without
+      | Some deadline ↦
+          set_timeout id (record (timeout_of without id) { tag = Some without.parts.next_tag })
+          (in_parts (fires_at id deadline) without)
+    ]
 
 -- the number of the timeout that is made next
 abbrev pub next_timeout : Loop → ℕ
@@ -69,13 +71,9 @@ abbrev pub moment : ℤ → ℕ
 moment (pos when) = when
 moment (negsuc before) = 0
 
-abbrev pub reschedule_where : Bool → ℕ → Option ℤ → Loop → Loop
-reschedule_where true id when l = schedule id (option_map moment when) l
-reschedule_where false id when l = l
-
 -- a new deadline, or none; refused unless the timeout is active
 abbrev pub reschedule : ℕ → Option ℤ → Loop → Loop
-reschedule id when l = reschedule_where (is_active (timeout_of l id).state) id when l
+reschedule id when l = if is_active (timeout_of l id).state then schedule id (option_map moment when) l else l
 
 abbrev pub state_name : TimeoutState → List ℕ
 state_name Created = codes "created"
@@ -100,31 +98,31 @@ pub record Left : Type 0 where
   pub loop : Loop
   pub timed_out : Bool
 
--- A timeout whose time was over takes its cancel back. It raises TimeoutError in place of a CancelledError, but only where
--- the task's count is then no greater than it was as the block was entered. A cancel that the task swallowed before stands
--- in both counts. One that somebody else asked for inside the block stands in the later one alone, so of two nested timeouts
--- whose time is over in one turn the outer one raises, once the inner one has passed its CancelledError on.
+-- The block is left, by an exception or by none. A timeout whose time was over takes its cancel back. It raises
+-- TimeoutError in place of a CancelledError, but only where the task's count is then no greater than it was as the block was
+-- entered. A cancel that the task swallowed before stands in both counts. One that somebody else asked for inside the block
+-- stands in the later one alone, so of two nested timeouts whose time is over in one turn the outer one raises, once the
+-- inner one has passed its CancelledError on.
 --
 --     with timeout(10) as outer
 --       with timeout(10) as inner
 --         yield from sleep(100)
 --       end
 --     end
-abbrev pub leave_from : TimeoutState → Option Exc → ℕ → Loop → Left
-leave_from Expiring raised id l =
-    let timeout = timeout_of l id in
-    let taken = book (uncancel_by (ByTimeout id) timeout.task) l in
-    record {
-      loop = set_timeout id (record timeout { state = Expired }) taken;
-      timed_out =
-          nat_le (cancelling taken.parts timeout.task) timeout.stored && option_map_or is_cancelled raised false;
-    }
-leave_from _ raised id l =
-    record { loop = set_timeout id (record (timeout_of l id) { state = Finished }) l; timed_out = false }
-
--- the block is left, by an exception or by none
 abbrev pub exit_timeout : Option Exc → ℕ → Loop → Left
-exit_timeout raised id l = leave_from (timeout_of l id).state raised id (without_handle id l)
+exit_timeout raised id l =
+    let left = without_handle id l in
+    let timeout = timeout_of left id in
+    elim (timeout_of l id).state [
+      | Expiring ↦
+          let taken = book (uncancel_by (ByTimeout id) timeout.task) left in
+          record {
+            loop = set_timeout id (record timeout { state = Expired }) taken;
+            timed_out =
+                nat_le (cancelling taken.parts timeout.task) timeout.stored && option_map_or is_cancelled raised false;
+          }
+      | _ ↦ record { loop = set_timeout id (record timeout { state = Finished }) left; timed_out = false }
+    ]
 
 -- what is then raised
 abbrev pub timeout_exception : Exc
