@@ -4,8 +4,9 @@ use Rattle.std.proofs.Common.{slice_set, refl, ap, sym, subst, ◌∙◌, arith,
 use Rattle.std.proofs.lemmas.Bool.{false≢true}
 use Rattle.std.proofs.lemmas.Result.{IfOk-weaker, on_err_weaker}
 use Rattle.std.specs.Prelude.{OnErr, slice_index_or}
+use Rattle.model_loop.proofs.GroupCases.{create_unless}
 use Rattle.model_loop.specs.Cancel.{has_seen}
-use Rattle.model_loop.specs.Groups.{Exited, Refusal, NotEntered, IsFinished, IsShuttingDown, new_group, group_of, refusal, create, create_unless}
+use Rattle.model_loop.specs.Groups.{Exited, Refusal, NotEntered, IsFinished, IsShuttingDown, new_group, group_of, refusal, create}
 use Rattle.model_loop.specs.Loop.{Loop}
 use Rattle.model_loop.specs.Tasks.{next_task}
 use Rattle.aio_task.specs.View.{View}

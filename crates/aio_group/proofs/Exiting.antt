@@ -5,10 +5,10 @@ use Rattle.std.specs.Option.{option_map_or}
 use Rattle.std.proofs.lemmas.Bool.{false≢true}
 use Rattle.std.specs.List.{AllByRecursion as Each, filter_map, cons_option}
 use Rattle.model_value.specs.Value.{Exc}
+use Rattle.model_loop.proofs.GroupCases.{wait_or_end_with}
 use Rattle.model_loop.specs.Children.{failures}
 use Rattle.model_loop.specs.Futures.{new_plain, next_future}
-use Rattle.model_loop.specs.Groups.{Exited, Waits, group_of, set_group, is_empty, failure_of, body_failure, raised_of, end_exit, wait_for_children}
-use Rattle.model_loop.specs.Groups.{wait_or_end_with, wait_or_end}
+use Rattle.model_loop.specs.Groups.{Exited, Waits, group_of, set_group, is_empty, failure_of, body_failure, raised_of, end_exit, wait_for_children, wait_or_end}
 use Rattle.model_loop.specs.Loop.{Group, Loop, in_parts}
 use Rattle.model_loop.specs.Owning.{owner_at}
 use Rattle.model_loop.specs.Parts.{Plain, Future, Task, Parts}

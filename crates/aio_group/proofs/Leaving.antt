@@ -6,8 +6,8 @@ use Rattle.std.proofs.lemmas.Bool.{eq-eqb, ne_eqb}
 use Rattle.model_value.specs.declared.input.Input.TheVariants.{Send, Throw}
 use Rattle.model_value.specs.Input.{Input}
 use Rattle.model_value.specs.Value.{Exc}
-use Rattle.model_loop.specs.Groups.{group_of, set_group, only_cancelled, abort, take_back, take_back_where, begin_exit, abort_if_raised, hear}
-use Rattle.model_loop.specs.Groups.{keep_and_abort_unless}
+use Rattle.model_loop.proofs.GroupCases.{take_back_where, keep_and_abort_unless}
+use Rattle.model_loop.specs.Groups.{group_of, set_group, only_cancelled, abort, take_back, begin_exit, abort_if_raised, hear}
 use Rattle.model_loop.specs.Ledger.{ByGroup, uncancel_by}
 use Rattle.model_loop.specs.Loop.{Loop, book}
 use Rattle.model_loop.specs.Parts.{Task, Parts}

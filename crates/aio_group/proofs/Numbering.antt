@@ -3,8 +3,9 @@ use Rattle.std.proofs.Common.{◌≡◌, ℕ, zero, suc, ◌⊎◌, true, false,
 use Rattle.std.proofs.Common.{◌∙◌, inl, inr, arith, length-append}
 use Rattle.std.proofs.lemmas.Bool.{cases_Bool, false≢true}
 use Rattle.model_value.specs.declared.action.Action.TheVariants.{GroupDone}
+use Rattle.model_loop.proofs.GroupCases.{create_unless}
 use Rattle.model_loop.specs.Futures.{next_future}
-use Rattle.model_loop.specs.Groups.{Refusal, new_group, group_of, set_group, make_group, enter_group, refusal, with_child, create, create_unless}
+use Rattle.model_loop.specs.Groups.{Refusal, new_group, group_of, set_group, make_group, enter_group, refusal, with_child, create}
 use Rattle.model_loop.specs.Loop.{Group, Loop, in_parts}
 use Rattle.model_loop.specs.Parts as plain
 use Rattle.model_loop.specs.Parts.{Parts}

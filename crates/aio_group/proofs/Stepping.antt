@@ -6,12 +6,12 @@ use Rattle.std.proofs.lemmas.Bool.{cases_eq, ne_eqb}
 use Rattle.std.specs.List.{AllByRecursion as Each}
 use Rattle.model_value.specs.declared.outcome.Outcome.TheVariants.{Value as Returned}
 use Rattle.model_value.specs.Value.{Exc, Nothing}
+use Rattle.model_loop.proofs.GroupCases.{abort_and_request_unless}
 use Rattle.model_loop.specs.Cancel.{cancel, has_seen}
 use Rattle.model_loop.specs.Futures.{future_outcome, settle}
-use Rattle.model_loop.specs.Groups.{group_of, set_group, is_empty, failure_in, failure_of, abort, request_parent, wake_if_last, wake_exit}
-use Rattle.model_loop.specs.Groups.{abort_and_request_unless, child_done}
+use Rattle.model_loop.specs.Groups.{group_of, set_group, is_empty, failure_in, failure_of, abort, request_parent, wake_if_last, wake_exit, without_child, blame, child_done}
 use Rattle.model_loop.specs.Ledger.{Origin, ByAbort, ByGroup, ask_cancel, request_each}
-use Rattle.model_loop.specs.Loop.{Group, Loop, book}
+use Rattle.model_loop.specs.Loop.{Group, Loop, in_parts, book}
 use Rattle.model_loop.specs.Parts.{Parts}
 use Rattle.model_loop.specs.Tasks.{future_of}
 use Rattle.aio_ready.specs.Queue.{soon_all}
@@ -222,13 +222,35 @@ module _ (a : Held) (v : View) (child : ℕ) (is_child : has_seen a.children chi
   done_with : (id : ℕ) (l : Loop) (fault : Exc) → failure_of l.parts child ≡ Some fault → slice_get l.groups id ≡ Some (group_of l id)
       → blamed id (wake_exit id (hears child id l)) ≡ child_done id child l
   done_with id l fault e at =
-      rw (e) (
-      let g = group_of l id in
-      let one = told child None g in
-      let two = told child (Some fault) g in
-      let first : group_of (set_group id one l) id ≡ one = group_same id one l at in
-      let second : group_of (set_group id two l) id ≡ two = group_same id two l at in
-      rw (first, second, set-set l.groups id one two) refl)
+      ap (λ (o : Option Exc). blamed id (wake_exit id (set_group id (told child o (group_of l id)) l))) e
+      ∙ ap woken (group_same id two l at)
+      ∙ ap after (sym (set-set l.groups id one two))
+      ∙ sym (ap noted (group_same id one l at))
+      ∙ sym (ap (λ (o : Option Exc). blame o id (wake_exit id (without_child id child l))) e)
+    where
+      one : Group
+      one = told child None (group_of l id)
+
+      two : Group
+      two = told child (Some fault) (group_of l id)
+
+      -- the group wakes its exit and is blamed, told of the failure before and after
+      woken : Group → Loop
+      woken g =
+          abort_and_request_unless (g.aborting || g.requested) id
+          (in_parts (wake_if_last g.children g.exit_future) (set_group id two l))
+
+      noted : Group → Loop
+      noted g =
+          abort_and_request_unless (g.aborting || g.requested) id
+          (set_group id (record g { errors = g.errors ++ fault ∷ [] })
+          (in_parts (wake_if_last g.children g.exit_future) (set_group id one l)))
+
+      after : List Group → Loop
+      after groups =
+          abort_and_request_unless ((group_of l id).aborting || (group_of l id).requested) id
+          (in_parts (wake_if_last (without child (group_of l id).children) (group_of l id).exit_future)
+          (record l { groups = groups }))
 
   pub done_steps : (failed : Bool) → failed ≡ is_some (failure_of (parts v) child) → (w : View)
       → GroupSteps (heard_child failed) v (heard_child failed) w wake_exit → failed ≡ false

@@ -11,10 +11,10 @@ use Rattle.model_value.specs.declared.input.Input.TheVariants.{Send, Throw}
 use Rattle.model_value.specs.declared.outcome.Outcome.TheVariants.{Cancelled}
 use Rattle.model_value.specs.Input.{Input}
 use Rattle.model_value.specs.Value.{Outcome, Exc}
+use Rattle.model_loop.proofs.GroupCases.{abort_where, take_back_where, keep_and_abort_unless}
 use Rattle.model_loop.specs.Cancel.{CancelRequest, Canceller, answers, has_seen, cancel_each, cancel_by, cancel_below, cancel_within, cancel}
 use Rattle.model_loop.specs.Futures.{is_pending_at, is_pending, made_before, mark_asked, new_plain, next_future, settle, settled, settled_as, with_future}
-use Rattle.model_loop.specs.Groups.{group_of, set_group, only_cancelled, abort, abort_where, take_back, take_back_where, begin_exit, abort_if_raised}
-use Rattle.model_loop.specs.Groups.{keep_and_abort_unless}
+use Rattle.model_loop.specs.Groups.{group_of, set_group, only_cancelled, abort, take_back, begin_exit, abort_if_raised}
 use Rattle.model_loop.specs.Handles.{soon, soon_all}
 use Rattle.model_loop.specs.Ledger.{Origin, ByAbort, ByGroup, Asked, Raised, Booked, raised_among, request_where, request_each, uncancel_by}
 use Rattle.model_loop.specs.Loop.{Group, Loop, in_parts, book}

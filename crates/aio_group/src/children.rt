@@ -1,5 +1,6 @@
 //! Tasks of a group: they are made, and done.
 ghost use Rattle.std.specs.Prelude.{◌≡◌, ◌<◌, ◌++◌, ◌||◌, ◌∷◌, [], true, None, Some, IfOk, OnOk, OnErr, is_some, length};
+ghost use Rattle.std.specs.Prelude.{if◌then◌else◌};
 ghost use Rattle.model_loop.specs.Cancel.{has_seen};
 ghost use Rattle.model_loop.specs.Parts.{Parts as PlainParts};
 ghost use Rattle.model_loop.specs.Groups as plain;
@@ -86,8 +87,8 @@ fn blame(group: &mut Group, parts: &mut Parts)
     } }
     ensures moves { Moves parts.old parts.new }
     ensures steps { GroupSteps group.old parts.old group.new parts.new
-        (λ id l. plain.abort_and_request_unless
-        ((plain.group_of l id).aborting || (plain.group_of l id).requested) id l) }
+        (λ id l. if (plain.group_of l id).aborting || (plain.group_of l id).requested then l
+        else plain.request_parent id (plain.abort id l)) }
 {
     if group.is_blamed() {
         return;

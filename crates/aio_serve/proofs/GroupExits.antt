@@ -2,9 +2,10 @@
 use Rattle.std.proofs.Common.{◌≡◌, ℕ, ◌<◌, ◌≤◌, true, List, [], ◌∷◌, ◌++◌, Option, Some, None, slice_get, ◌∙◌, refl, sym, ap, subst, arith}
 use Rattle.model_value.specs.Input.{Input}
 use Rattle.model_value.specs.Value.{Exc}
+use Rattle.model_loop.proofs.GroupCases.{wait_or_end_with}
 use Rattle.model_loop.specs.Futures.{is_pending, is_pending_at, new_plain, next_future}
 use Rattle.model_loop.specs.Groups as plain
-use Rattle.model_loop.specs.Groups.{Exited, Waits, end_exit, exit_begin, exit_woken, group_of, raised_of, set_group, wait_or_end, wait_or_end_with}
+use Rattle.model_loop.specs.Groups.{Exited, Waits, end_exit, exit_begin, exit_woken, group_of, raised_of, set_group, wait_or_end}
 use Rattle.model_loop.specs.Loop.{Loop, book}
 use Rattle.model_loop.specs.Parts.{Plain, Parts}
 use Rattle.model_loop.specs.Suspend.{suspend}

@@ -6,11 +6,11 @@ use Rattle.model_value.specs.Input.{Input}
 use Rattle.model_value.specs.declared.input.Input.TheVariants.{Send, Throw}
 use Rattle.model_value.specs.declared.outcome.Outcome.TheVariants.{Value as Returned}
 use Rattle.model_value.specs.Value.{Nothing, Exc}
+use Rattle.model_loop.proofs.GroupCases.{abort_and_request_unless, abort_where, keep_and_abort_unless, take_back_where, wait_or_end_with}
 use Rattle.model_loop.specs.Children.{HasPlainExit}
 use Rattle.model_loop.specs.Futures.{new_plain, settle}
-use Rattle.model_loop.specs.Groups.{abort, abort_and_request_unless, abort_if_raised, abort_where, begin_exit, blame, child_done, end_exit, exit_begin}
-use Rattle.model_loop.specs.Groups.{exit_woken, failure_of, group_of, hear, keep_and_abort_unless, new_group, request_parent, set_group, take_back}
-use Rattle.model_loop.specs.Groups.{take_back_where, wait_for_children, wait_or_end, wait_or_end_with, wake_exit, wake_if_last, without_child}
+use Rattle.model_loop.specs.Groups.{abort, abort_if_raised, begin_exit, blame, child_done, end_exit, exit_begin, exit_woken, failure_of, group_of, hear}
+use Rattle.model_loop.specs.Groups.{new_group, request_parent, set_group, take_back, wait_for_children, wait_or_end, wake_exit, wake_if_last, without_child}
 use Rattle.model_loop.specs.Ledger.{ByAbort, ByGroup, Origin, request, request_each, request_where, uncancel_by}
 use Rattle.model_loop.specs.Loop.{Group, Loop, book}
 use Rattle.model_loop.specs.Loop as loop

@@ -5,10 +5,10 @@ use Rattle.model_value.specs.declared.action.Action.TheVariants.{Fires}
 use Rattle.model_value.specs.declared.input.Input.TheVariants.{Send, Throw}
 use Rattle.model_value.specs.Input.{Input}
 use Rattle.model_value.specs.Value.{Exc}
+use Rattle.model_loop.proofs.GroupCases.{abort_and_request_unless, abort_where, create_unless, keep_and_abort_unless, take_back_where, wait_or_end_with}
 use Rattle.model_loop.proofs.TimeoutCases.{with_deadline}
-use Rattle.model_loop.specs.Groups.{Refusal, abort, abort_and_request_unless, abort_if_raised, abort_where, blame, child_done, create, create_unless}
-use Rattle.model_loop.specs.Groups.{end_exit, failure_of, group_of, hear, keep_and_abort_unless, refusal, set_group, take_back, take_back_where}
-use Rattle.model_loop.specs.Groups.{wait_or_end, wait_or_end_with, wake_exit, wake_if_last, without_child}
+use Rattle.model_loop.specs.Groups.{Refusal, abort, abort_if_raised, blame, child_done, create, end_exit, failure_of, group_of, hear, refusal, set_group}
+use Rattle.model_loop.specs.Groups.{take_back, wait_or_end, wake_exit, wake_if_last, without_child}
 use Rattle.model_loop.specs.Handles.{later, soon}
 use Rattle.model_loop.specs.Ledger.{LedgerEntry, Origin, ByAbort, ByGroup, request_each, request_where, uncancel_by}
 use Rattle.model_loop.specs.Loop.{Loop, book, in_parts}

@@ -1,6 +1,7 @@
 -- What timeouts and groups book themselves, and what the ledger then tells of them.
 use Rattle.std.proofs.Common.{◌≡◌, ℕ, Bool, List, None, Option, Some, [], ap, append_assoc, arith, cond, false, inl, inr, is_some, length, nat_eq, nat_lt, not}
 use Rattle.std.proofs.Common.{refl, subst, sym, true, ◌&&◌, ◌++◌, ◌+◌, ◌<◌, ◌==◌, ◌||◌, ◌∙◌, ◌∷◌, ◌⊎◌}
+use Rattle.model_loop.proofs.GroupCases.{abort_and_request_unless, abort_where, take_back_where}
 use Rattle.model_loop.proofs.TimeoutCases.{leave_from}
 use Rattle.model_loop.specs.Ledger.{Asked, Began, ByGroup, ByTimeout, LedgerEntry, Took, raised_among, uncancel_by}
 use Rattle.model_loop.specs.Timeouts.{exit_timeout, fire, has_expired, is_active, no_timeout, set_timeout, timeout_of, without_handle}
@@ -12,8 +13,8 @@ use Rattle.law_changes.proofs.Quietly.{wait_or_end_tells, wake_tells, without_te
 use Rattle.law_changes.proofs.Counting.{count-append, count-cons}
 use Rattle.std.proofs.lemmas.List.{get_or-set_other, get_or-set_same}
 use Rattle.model_loop.specs.Tasks.{cancelling, future_of}
-use Rattle.model_loop.specs.Groups.{abort, abort_and_request_unless, abort_if_raised, abort_where, begin_exit, blame, child_done, exit_begin, failure_of}
-use Rattle.model_loop.specs.Groups.{group_of, new_group, only_cancelled, request_parent, set_group, take_back, take_back_where, wake_exit, without_child}
+use Rattle.model_loop.specs.Groups.{abort, abort_if_raised, begin_exit, blame, child_done, exit_begin, failure_of, group_of, new_group, only_cancelled}
+use Rattle.model_loop.specs.Groups.{request_parent, set_group, take_back, wake_exit, without_child}
 use Rattle.model_value.specs.Value.{Exc}
 use Rattle.model_loop.specs.Balance.{GroupBalances, TimeoutBalances, asks, begins, is_by_group, is_by_timeout, is_expired, takes}
 use Rattle.law_changes.proofs.Asked.{ask_asked, begin_asked, quiet_asked}

@@ -9,13 +9,14 @@ use Rattle.std.specs.List.{cons_option}
 use Rattle.model_value.specs.declared.outcome.Outcome.TheVariants.{Value as Returned}
 use Rattle.model_value.specs.declared.action.Action.TheVariants.{GroupDone}
 use Rattle.model_value.specs.Value.{Exc, Nothing}
+use Rattle.model_loop.proofs.GroupCases.{abort_and_request_unless}
 use Rattle.model_loop.specs.Parts.{Handle, Parts}
 use Rattle.model_loop.specs.Loop.{Group, Loop, in_parts}
 use Rattle.model_loop.specs.Futures.{outcome_at, future_outcome, is_pending}
 use Rattle.model_loop.specs.Tasks.{lives, future_of}
 use Rattle.model_loop.specs.Ledger.{ByAbort}
 use Rattle.model_loop.specs.Groups.{new_group, group_of, set_group, failure_in, failure_of, without_child, wake_if_last, wake_exit, abort, request_parent}
-use Rattle.model_loop.specs.Groups.{abort_and_request_unless, blame, child_done}
+use Rattle.model_loop.specs.Groups.{blame, child_done}
 use Rattle.model_loop.specs.Children.{failures, tells, IsTold, IsKeptGroup, HasErrors, HasPlainExit, body_at_end, told_more}
 use Rattle.model_loop.specs.Numbered.{occurrences}
 use Rattle.model_loop.specs.Totals.{pending_where, registered_at}

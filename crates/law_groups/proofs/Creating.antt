@@ -8,12 +8,12 @@ use Rattle.std.proofs.lemmas.List.Sums.{sum_by_push}
 use Rattle.std.specs.List.{count_by}
 use Rattle.std.specs.Option.{option_map_or}
 use Rattle.model_value.specs.declared.action.Action.TheVariants.{GroupDone}
+use Rattle.model_loop.proofs.GroupCases.{create_unless}
 use Rattle.model_loop.specs.Parts.{OfTask, Future, Task, Parts}
 use Rattle.model_loop.specs.Loop.{Group, Loop, in_parts}
 use Rattle.model_loop.specs.Futures.{outcome_at, future_outcome, with_future, registered, next_future}
 use Rattle.model_loop.specs.Tasks.{next_task, lives, future_of, spawn}
-use Rattle.model_loop.specs.Groups.{new_group, group_of, set_group, Refusal, NotEntered, IsFinished, refusal, with_child, create_unless, create, failure_in}
-use Rattle.model_loop.specs.Groups.{failure_of}
+use Rattle.model_loop.specs.Groups.{new_group, group_of, set_group, Refusal, NotEntered, IsFinished, refusal, with_child, create, failure_in, failure_of}
 use Rattle.model_loop.specs.Children.{tells, IsTold, HasErrors, body_at_end, HasPlainExit}
 use Rattle.model_loop.specs.Numbered.{occurrences}
 use Rattle.model_loop.specs.Totals.{callbacks_of, callbacks_at, pending_where, registered_at, total, IsAtHome}

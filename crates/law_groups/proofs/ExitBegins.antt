@@ -2,8 +2,8 @@
 use Rattle.std.proofs.Common.{◌≡◌, ℕ, Bool, List, None, Option, Some, [], ap, cond, false, inl, inr, is_some, length, not, refl, subst, sym, true, ◌&&◌, ◌++◌}
 use Rattle.std.proofs.Common.{◌<◌, ◌==◌, ◌∙◌, ◌∷◌, ◌⊎◌}
 use Rattle.law_groups.proofs.ChildDone.{fits_again, flag_fits}
-use Rattle.model_loop.specs.Groups.{abort_if_raised, abort_where, begin_exit, body_failure, exit_begin, group_of, only_cancelled, set_group, take_back}
-use Rattle.model_loop.specs.Groups.{take_back_where}
+use Rattle.model_loop.proofs.GroupCases.{abort_where, take_back_where}
+use Rattle.model_loop.specs.Groups.{abort_if_raised, begin_exit, body_failure, exit_begin, group_of, only_cancelled, set_group, take_back}
 use Rattle.law_groups.proofs.Exits.{AllOrderly, OthersOrderly, abort_open, wait_or_end_well, IsOpen, IsWell, open_orderly}
 use Rattle.law_groups.proofs.Holding.{Fits, fits_at, group_other, group_same, looks_holds, set_holds}
 use Rattle.model_loop.specs.Loop.{Group, Loop, book}

@@ -7,12 +7,12 @@ use Rattle.std.proofs.lemmas.Option.{same_Some, none-some}
 use Rattle.model_value.specs.declared.input.Input.TheVariants.{Send, Throw}
 use Rattle.model_value.specs.Input.{Input}
 use Rattle.model_value.specs.Value.{Exc}
+use Rattle.model_loop.proofs.GroupCases.{wait_or_end_with, keep_and_abort_unless}
 use Rattle.model_loop.specs.Parts.{Plain}
 use Rattle.model_loop.specs.Loop.{Group, Loop, in_parts}
 use Rattle.model_loop.specs.Futures.{next_future, new_plain}
 use Rattle.model_loop.specs.Ledger.{ByAbort}
-use Rattle.model_loop.specs.Groups.{group_of, set_group, abort, body_failure, end_exit, wait_for_children, wait_or_end_with, wait_or_end, keep_and_abort_unless}
-use Rattle.model_loop.specs.Groups.{hear, exit_woken}
+use Rattle.model_loop.specs.Groups.{group_of, set_group, abort, body_failure, end_exit, wait_for_children, wait_or_end, hear, exit_woken}
 use Rattle.law_steps.specs.Frames.{Covers}
 use Rattle.law_groups.specs.Holds.{Holds}
 use Rattle.model_loop.specs.Children.{HasPlainExit, IsOrderly, body_at_end, failures}

@@ -1,7 +1,8 @@
 -- The flags of groups rise in order, also where a task is made in one or one is told of a child.
 use Rattle.std.proofs.Common.{◌≡◌, ℕ, Bool, None, Option, Some, [], ap, false, inl, inr, length, refl, subst, sym, true, ◌++◌, ◌<◌, ◌||◌, ◌∙◌, ◌∷◌, ◌≤◌, ◌⊎◌}
-use Rattle.model_loop.specs.Groups.{NotEntered, Refusal, abort, abort_and_request_unless, blame, body_failure, child_done, create, create_unless, failure_of}
-use Rattle.model_loop.specs.Groups.{group_of, new_group, refusal, set_group, wake_exit, with_child, without_child}
+use Rattle.model_loop.proofs.GroupCases.{abort_and_request_unless, create_unless}
+use Rattle.model_loop.specs.Groups.{NotEntered, Refusal, abort, blame, body_failure, child_done, create, failure_of, group_of, new_group, refusal, set_group}
+use Rattle.model_loop.specs.Groups.{wake_exit, with_child, without_child}
 use Rattle.model_loop.specs.Children.{IsOrderly}
 use Rattle.model_value.specs.Value.{Exc}
 use Rattle.model_loop.specs.Loop.{Group, Loop, in_parts}

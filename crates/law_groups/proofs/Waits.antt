@@ -1,10 +1,11 @@
 -- An exit that waits does so for a future that isn't done.
 use Rattle.std.proofs.Common.{◌≡◌, ℕ, List, [], ◌∷◌, ◌++◌, Option, Some, None, length, true, refl, ap, sym, subst, ◌∙◌}
 use Rattle.model_value.specs.Value.{Exc}
+use Rattle.model_loop.proofs.GroupCases.{wait_or_end_with}
 use Rattle.model_loop.specs.Loop.{Loop}
 use Rattle.model_loop.specs.Futures.{is_pending, is_pending_at}
-use Rattle.model_loop.specs.Groups.{GroupExit, Waits, raised_of, body_failure, end_exit, wait_or_end_with, wait_or_end, group_of, abort_if_raised, take_back}
-use Rattle.model_loop.specs.Groups.{begin_exit, exit_begin}
+use Rattle.model_loop.specs.Groups.{GroupExit, Waits, raised_of, body_failure, end_exit, wait_or_end, group_of, abort_if_raised, take_back, begin_exit}
+use Rattle.model_loop.specs.Groups.{exit_begin}
 use Rattle.std.proofs.lemmas.Option.{none-some, same_Some}
 use Rattle.law_cancel.proofs.Lookups.{get-push_last}
 

@@ -8,10 +8,10 @@ use Rattle.model_value.specs.Input.{Input}
 use Rattle.model_value.specs.Value.{Nothing, Exc}
 use Rattle.model_value.specs.declared.action.Action.TheVariants.{GroupDone}
 use Rattle.model_value.specs.declared.outcome.Outcome.TheVariants.{Value as Returned, Cancelled}
-use Rattle.model_loop.specs.Groups.{abort, abort_and_request_unless, abort_where, begin_exit, blame, child_done, create}
-use Rattle.model_loop.specs.Groups.{enter_group, exit_begin, exit_woken, failure_of, group_of, make_group, new_group, next_group}
-use Rattle.model_loop.specs.Groups.{only_cancelled, request_parent, set_group, take_back, take_back_where, wait_or_end, wake_exit}
-use Rattle.model_loop.specs.Groups.{wake_if_last, without_child}
+use Rattle.model_loop.proofs.GroupCases.{abort_and_request_unless, abort_where, take_back_where}
+use Rattle.model_loop.specs.Groups.{abort, begin_exit, blame, child_done, create, enter_group, exit_begin, exit_woken, failure_of, group_of, make_group}
+use Rattle.model_loop.specs.Groups.{new_group, next_group, only_cancelled, request_parent, set_group, take_back, wait_or_end, wake_exit, wake_if_last}
+use Rattle.model_loop.specs.Groups.{without_child}
 use Rattle.model_loop.specs.Ledger.{Began, ByAbort, ByGroup, Origin, request_each, uncancel_by}
 use Rattle.model_loop.specs.Loop.{Group, Loop, book}
 use Rattle.model_loop.specs.Owning.{OwnsFutures}

@@ -5,9 +5,9 @@ use Rattle.std.proofs.Math.ListN.{length-set}
 use Rattle.model_value.specs.declared.input.Input.TheVariants.{Send, Throw}
 use Rattle.model_value.specs.Input.{Input}
 use Rattle.model_value.specs.Value.{Exc}
-use Rattle.model_loop.specs.Groups.{GroupExit, Waits, Passes, Raises, Exited, abort, abort_if_raised, abort_where, begin_exit, body_failure, end_exit}
-use Rattle.model_loop.specs.Groups.{exit_begin, exit_woken, group_of, hear, keep_and_abort_unless, only_cancelled, raised_of, set_group, take_back}
-use Rattle.model_loop.specs.Groups.{take_back_where, wait_or_end, wait_or_end_with}
+use Rattle.model_loop.proofs.GroupCases.{abort_where, keep_and_abort_unless, take_back_where, wait_or_end_with}
+use Rattle.model_loop.specs.Groups.{GroupExit, Waits, Passes, Raises, Exited, abort, abort_if_raised, begin_exit, body_failure, end_exit, exit_begin}
+use Rattle.model_loop.specs.Groups.{exit_woken, group_of, hear, only_cancelled, raised_of, set_group, take_back, wait_or_end}
 use Rattle.model_loop.specs.Ledger.{ByGroup, uncancel_by}
 use Rattle.model_loop.specs.Loop.{Group, Loop, book}
 use Rattle.model_loop.specs.Sound.{IsSound}

@@ -12,8 +12,8 @@ use Rattle.model_value.specs.Value.{Value, Task, Group, Timeout}
 use Rattle.model_says.specs.Blocks.{open_with}
 use Rattle.model_says.specs.Endings.{Asks}
 use Rattle.model_says.specs.Says.{step_limit}
-use Rattle.model_loop.specs.Groups.{Refusal, create, group_of, new_group, refusal, create_unless}
-use Rattle.model_loop.specs.Groups.{with_child}
+use Rattle.model_loop.proofs.GroupCases.{create_unless}
+use Rattle.model_loop.specs.Groups.{Refusal, create, group_of, new_group, refusal, with_child}
 use Rattle.model_loop.specs.Futures.{next_future}
 use Rattle.model_loop.specs.Handles.{deadline}
 use Rattle.model_loop.specs.Loop.{Group as GroupFields, Loop, in_parts}

@@ -3,9 +3,10 @@ use Rattle.std.proofs.Common.{◌≡◌, ℕ, ◌<◌, Bool, true, List, [], ◌
 use Rattle.std.proofs.lemmas.Bool.{eq-eqb, false≢true}
 use Rattle.model_value.specs.Input.{Input}
 use Rattle.model_value.specs.Value.{Value, Nothing, Exc}
+use Rattle.model_loop.proofs.GroupCases.{wait_or_end_with}
 use Rattle.model_loop.specs.Futures.{new_plain, next_future}
 use Rattle.model_loop.specs.Groups.{GroupExit, Waits, Passes, Raises, body_failure, end_exit, exit_begin, exit_woken, group_of, raised_of, set_group}
-use Rattle.model_loop.specs.Groups.{wait_or_end, wait_or_end_with}
+use Rattle.model_loop.specs.Groups.{wait_or_end}
 use Rattle.model_loop.specs.Loop.{Group, Loop, in_parts}
 use Rattle.model_loop.specs.Parts.{Plain}
 use Rattle.model_loop.specs.Ways.{is_running}

@@ -1,1 +1,2 @@
+pub mod GroupCases
 pub mod TimeoutCases

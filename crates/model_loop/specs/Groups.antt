@@ -80,27 +80,23 @@ refusal_exception cause = exception_of RuntimeError (refusal_text cause)
 abbrev pub with_child : ℕ → Parts → Parts
 with_child id p = register (next_future p) (GroupDone id (next_task p)) (spawn p)
 
-abbrev pub create_unless : Option Refusal → ℕ → Loop → Loop
-create_unless (Some cause) id l = l
-create_unless None id l =
-    let group = group_of l id in
-    let task = next_task l.parts in
-    set_group id (record group { children = group.children ++ task ∷ []; made = group.made ++ task ∷ [] })
-    (in_parts (with_child id) l)
-
 -- the next task is made in a group, unless that is refused
 abbrev pub create : ℕ → Loop → Loop
-create id l = create_unless (refusal (group_of l id)) id l
+create id l =
+    elim (refusal (group_of l id)) [
+      | Some cause ↦ l
+      | None ↦
+          let group = group_of l id in
+          let task = next_task l.parts in
+          set_group id (record group { children = group.children ++ task ∷ []; made = group.made ++ task ∷ [] })
+          (in_parts (with_child id) l)
+    ]
 
 -- The group cancels each of its tasks that lives, in order of creation.
 abbrev pub abort : ℕ → Loop → Loop
 abort id l =
     let group = group_of l id in
     book (request_each (ByAbort id) group.children) (set_group id (record group { aborting = true }) l)
-
-abbrev pub abort_where : Bool → ℕ → Loop → Loop
-abort_where true id l = abort id l
-abort_where false id l = l
 
 -- ---- a child is done
 abbrev pub failure_in : Option Outcome → Option Exc
@@ -130,17 +126,13 @@ request_parent id l =
     let group = group_of l id in
     book (ask_cancel (ByGroup id) (future_of l.parts group.parent)) (set_group id (record group { requested = true }) l)
 
-abbrev pub abort_and_request_unless : Bool → ℕ → Loop → Loop
-abort_and_request_unless true id l = l
-abort_and_request_unless false id l = request_parent id (abort id l)
-
 -- The first failure aborts the group and asks for its parent's cancel, unless the group aborts already.
 abbrev pub blame : Option Exc → ℕ → Loop → Loop
 blame None id l = l
 blame (Some exception) id l =
     let group = group_of l id in
-    abort_and_request_unless (group.aborting || group.requested) id
-    (set_group id (record group { errors = group.errors ++ exception ∷ [] }) l)
+    let noted = set_group id (record group { errors = group.errors ++ exception ∷ [] }) l in
+    if group.aborting || group.requested then noted else request_parent id (abort id noted)
 
 abbrev pub child_done : ℕ → ℕ → Loop → Loop
 child_done id task l = blame (failure_of l.parts task) id (wake_exit id (without_child id task l))
@@ -197,13 +189,14 @@ wait_for_children id l =
       answer = Waits future;
     }
 
-abbrev pub wait_or_end_with : List ℕ → ℕ → Loop → Exited
-wait_or_end_with [] id l = let group = group_of l id in end_exit group.kept group.errors id l
-wait_or_end_with (child ∷ children) id l = wait_for_children id l
-
 -- while children are left the exit waits for a new future
 abbrev pub wait_or_end : ℕ → Loop → Exited
-wait_or_end id l = wait_or_end_with (group_of l id).children id l
+wait_or_end id l =
+    let group = group_of l id in
+    elim group.children [
+      | [] ↦ end_exit group.kept group.errors id l
+      | child ∷ children ↦ wait_for_children id l
+    ]
 
 abbrev pub only_cancelled : Option Exc → Option Exc
 only_cancelled None = None
@@ -215,32 +208,28 @@ begin_exit raised id l =
     (record l { ledger = l.ledger ++ Began id ∷ [] })
 
 -- The group's own request is taken back. Where no other cancel of the parent is left, nothing is kept.
-abbrev pub take_back_where : Bool → ℕ → Loop → Loop
-take_back_where false id l = l
-take_back_where true id l =
-    let group = group_of l id in
-    let taken = book (uncancel_by (ByGroup id) group.parent) l in
-    if cancelling taken.parts group.parent == 0 then set_group id (record group { kept = None }) taken else taken
-
 abbrev pub take_back : ℕ → Loop → Loop
-take_back id l = take_back_where (group_of l id).requested id l
+take_back id l =
+    let group = group_of l id in
+    if group.requested then
+      (let taken = book (uncancel_by (ByGroup id) group.parent) l in
+      if cancelling taken.parts group.parent == 0 then set_group id (record group { kept = None }) taken else taken)
+    else l
 
 -- a body that raised aborts the group
 abbrev pub abort_if_raised : Option Exc → ℕ → Loop → Loop
-abort_if_raised raised id l = abort_where (is_some raised && not (group_of l id).aborting) id l
+abort_if_raised raised id l = if is_some raised && not (group_of l id).aborting then abort id l else l
 
 -- the block ends, by an exception or by none
 abbrev pub exit_begin : Option Exc → ℕ → Loop → Exited
 exit_begin raised id l = wait_or_end id (abort_if_raised raised id (take_back id (begin_exit raised id l)))
 
-abbrev pub keep_and_abort_unless : Bool → Exc → ℕ → Loop → Loop
-keep_and_abort_unless true exception id l = l
-keep_and_abort_unless false exception id l = abort id (set_group id (record (group_of l id) { kept = Some exception }) l)
-
 -- A cancel of the parent while the exit waits is kept and aborts the group; while the group aborts it is dropped.
 abbrev pub hear : Input → ℕ → Loop → Loop
 hear (Send value) id l = l
-hear (Throw exception) id l = keep_and_abort_unless (group_of l id).aborting exception id l
+hear (Throw exception) id l =
+    if (group_of l id).aborting then l
+    else abort id (set_group id (record (group_of l id) { kept = Some exception }) l)
 
 -- the exit goes on after its wait, with a value or with CancelledError
 abbrev pub exit_woken : Input → ℕ → Loop → Exited
