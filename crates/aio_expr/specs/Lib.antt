@@ -3,8 +3,5 @@ pub mod Rounding
 pub mod Places
 pub mod BindingCode
 pub mod Values
-pub mod FlatExpr
-pub mod FlatExprFalls
-pub mod FlatExprCase
 pub mod Raises
 pub mod Ordered

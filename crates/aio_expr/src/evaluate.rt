@@ -9,7 +9,7 @@ ghost use Rattle.aio_syntax.specs.Constant.{constant_of};
 ghost use Rattle.aio_expr.specs.Gives.{Gives, Fails, AllFail};
 
 use crate::env::Env;
-use crate::flat_expr::{FlatExpr, FlatExprCase};
+use crate::flat_expr::FlatExpr;
 use crate::functions::{applied, error_made};
 use crate::items::{indexed, list_of};
 use crate::local::Local;
@@ -19,7 +19,7 @@ use crate::operators::{
 };
 use crate::plain::number_at;
 use aio_base::{Kind, Value, ValueCase};
-use aio_syntax::{Comparison, Constant, Function, Operator};
+use aio_syntax::{Comparison, Constant, ExprCase, Function, Operator};
 use std::alloc::Global;
 
 /// The value of an expression. Each case is a function of its own, so that an expression in an
@@ -29,22 +29,22 @@ pub fn evaluate(alloc: Global, expr: &FlatExpr, env: &Env) -> Result<Value, Oper
     ensures { Gives (value_of expr.now env.now) result }
 {
     match expr.case() {
-        FlatExprCase::Or(left, right) => evaluate_or(alloc, left, right, env),
-        FlatExprCase::And(left, right) => evaluate_and(alloc, left, right, env),
-        FlatExprCase::Not(operand) => evaluate_not(alloc, operand, env),
-        FlatExprCase::Compare(comparison, left, right) => {
+        ExprCase::Or(left, right) => evaluate_or(alloc, left, right, env),
+        ExprCase::And(left, right) => evaluate_and(alloc, left, right, env),
+        ExprCase::Not(operand) => evaluate_not(alloc, operand, env),
+        ExprCase::Compare(comparison, left, right) => {
             evaluate_compare(alloc, comparison, left, right, env)
         }
-        FlatExprCase::Calculate(operator, left, right) => {
+        ExprCase::Calculate(operator, left, right) => {
             evaluate_calculate(alloc, operator, left, right, env)
         }
-        FlatExprCase::Negate(operand) => evaluate_negate(alloc, operand, env),
-        FlatExprCase::Index(sequence, index) => evaluate_index(alloc, sequence, index, env),
-        FlatExprCase::Literal(constant) => constant_value(constant),
-        FlatExprCase::Variable(local) => variable_value(local, env),
-        FlatExprCase::List(items) => evaluate_list(alloc, items.items(), env),
-        FlatExprCase::Apply(function, argument) => evaluate_apply(alloc, function, argument, env),
-        FlatExprCase::MakeError(kind, message) => evaluate_error(alloc, kind, message, env),
+        ExprCase::Negate(operand) => evaluate_negate(alloc, operand, env),
+        ExprCase::Index(sequence, index) => evaluate_index(alloc, sequence, index, env),
+        ExprCase::Literal(constant) => constant_value(constant),
+        ExprCase::Variable(local) => variable_value(*local, env),
+        ExprCase::List(items) => evaluate_list(alloc, items.items(), env),
+        ExprCase::Apply(function, argument) => evaluate_apply(alloc, function, argument, env),
+        ExprCase::MakeError(kind, message) => evaluate_error(alloc, kind, message, env),
     }
 }
 

@@ -18,7 +18,7 @@ mod plain;
 mod value;
 
 pub use env::Env;
-pub use flat_expr::{FlatExpr, FlatExprCase, FlatExprList};
+pub use flat_expr::{FlatExpr, FlatExprList};
 pub use local::Local;
 pub use plain::{number_of, truth_of};
 pub use value::{ExprFault, value_of};

@@ -6,9 +6,9 @@ ghost use Rattle.model_says.specs.Expressions.{value_of, constant_value};
 ghost use Rattle.aio_syntax.specs.Constant.{constant_of};
 
 use crate::env::Env;
-use crate::flat_expr::{FlatExpr, FlatExprCase};
+use crate::flat_expr::FlatExpr;
 use crate::operators::compared_numbers;
-use aio_syntax::{Constant, Operator};
+use aio_syntax::{Constant, ExprCase, Operator};
 
 /// The number that an expression is, where it is a literal, a variable, or a sum, a difference or a
 /// product of such. None tells nothing.
@@ -16,7 +16,7 @@ pub fn number_of(expr: &FlatExpr, env: &Env) -> Option<i64>
     ensures { IfSome result (λ number. value_of expr.now env.now ≡ Ok (Int number)) }
 {
     match expr.case() {
-        FlatExprCase::Calculate(operator, left, right) => {
+        ExprCase::Calculate(operator, left, right) => {
             match (number_at(left, env), number_at(right, env)) {
                 (Some(a), Some(b)) => number_calculated(operator, a, b),
                 _ => None,
@@ -33,18 +33,18 @@ pub fn truth_of(expr: &FlatExpr, env: &Env) -> Option<bool>
     ensures { IfSome result (λ t. value_of expr.now env.now ≡ Ok (Truth t)) }
 {
     match expr.case() {
-        FlatExprCase::Compare(comparison, left, right) => {
+        ExprCase::Compare(comparison, left, right) => {
             match (number_at(left, env), number_at(right, env)) {
                 (Some(a), Some(b)) => Some(compared_numbers(comparison, a, b)),
                 _ => None,
             }
         }
-        FlatExprCase::And(left, right) => match truth_of(left, env) {
+        ExprCase::And(left, right) => match truth_of(left, env) {
             Some(true) => truth_of(right, env),
             Some(false) => Some(false),
             None => None,
         },
-        FlatExprCase::Or(left, right) => match truth_of(left, env) {
+        ExprCase::Or(left, right) => match truth_of(left, env) {
             Some(true) => Some(true),
             Some(false) => truth_of(right, env),
             None => None,
@@ -58,18 +58,18 @@ pub fn number_at(expr: &FlatExpr, env: &Env) -> Option<i64>
     ensures { IfSome result (λ number. value_of expr.now env.now ≡ Ok (Int number)) }
 {
     match expr.case() {
-        FlatExprCase::Variable(local) => env.number(local),
-        FlatExprCase::Literal(constant) => number_in(constant),
-        FlatExprCase::Or(_, _)
-        | FlatExprCase::And(_, _)
-        | FlatExprCase::Not(_)
-        | FlatExprCase::Compare(_, _, _)
-        | FlatExprCase::Calculate(_, _, _)
-        | FlatExprCase::Negate(_)
-        | FlatExprCase::Index(_, _)
-        | FlatExprCase::List(_)
-        | FlatExprCase::Apply(_, _)
-        | FlatExprCase::MakeError(_, _) => None,
+        ExprCase::Variable(local) => env.number(*local),
+        ExprCase::Literal(constant) => number_in(constant),
+        ExprCase::Or(_, _)
+        | ExprCase::And(_, _)
+        | ExprCase::Not(_)
+        | ExprCase::Compare(_, _, _)
+        | ExprCase::Calculate(_, _, _)
+        | ExprCase::Negate(_)
+        | ExprCase::Index(_, _)
+        | ExprCase::List(_)
+        | ExprCase::Apply(_, _)
+        | ExprCase::MakeError(_, _) => None,
     }
 }
 

@@ -40,7 +40,9 @@ pub fn flat_expr(alloc: Global, numbers: &Numbers, expr: &Expr) -> Result<FlatEx
             Ok(FlatExpr::index(sequence, index))
         }
         ExprCase::Literal(constant) => Ok(FlatExpr::literal(constant_copy(constant)?)),
-        ExprCase::Variable(name) => Ok(FlatExpr::variable(numbers.local_of(name.as_str()))),
+        ExprCase::Variable(name) => {
+            Ok(FlatExpr::variable(numbers.local_of(name.text().as_str())))
+        }
         ExprCase::List(items) => {
             let items = flat_exprs(alloc, numbers, items.items())?;
             Ok(FlatExpr::list(items))

@@ -180,7 +180,7 @@ mutual
       λ i. handler_then kind (name_again name i) (statements_again body i) (handlers_again others i)
 
 abbrev pub coded_statement : Coded Statement
-coded_statement = code_by Expr coded_expr statement_expr statement_from statement_again
+coded_statement = code_by Expr (coded_expr (coded_list coded_ℕ)) statement_expr statement_from statement_again
 
 -- ---- clauses, coroutines and programs
 abbrev handler_expr : Handler → Expr
@@ -195,7 +195,7 @@ pub handler_again : (handler : Handler) → handler_from (handler_expr handler) 
 handler_again handler = λ i. record { kind = handler.kind; name = name_again handler.name i; body = statements_again handler.body i }
 
 abbrev pub coded_handler : Coded Handler
-coded_handler = code_by Expr coded_expr handler_expr handler_from handler_again
+coded_handler = code_by Expr (coded_expr (coded_list coded_ℕ)) handler_expr handler_from handler_again
 
 abbrev body_expr : Statements → Expr
 body_expr body = ListOf (statements_exprs body)
@@ -217,7 +217,8 @@ coroutine_again coroutine =
 abbrev pub coded_coroutine : Coded Coroutine
 coded_coroutine =
     code_by (Name × (List Name × Expr))
-    (coded× (coded_list coded_ℕ) (coded× (coded_list (coded_list coded_ℕ)) coded_expr)) coroutine_parts coroutine_from coroutine_again
+    (coded× (coded_list coded_ℕ) (coded× (coded_list (coded_list coded_ℕ)) (coded_expr (coded_list coded_ℕ))))
+    coroutine_parts coroutine_from coroutine_again
 
 abbrev program_parts : Program → ℕ × List Coroutine
 program_parts program = (program.profile, program.coroutines)

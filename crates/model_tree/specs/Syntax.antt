@@ -22,28 +22,35 @@ pub data Constant : Type 0 where
   BytesConstant : (bytes : List ℕ) → Constant
 
 mutual
-  -- one case for each level of operators, from the loosest, and for each primary
-  pub data Expr : Type 0 where
-    Or : (left right : Expr) → Expr
-    And : (left right : Expr) → Expr
-    Not : (operand : Expr) → Expr
-    Compare : (comparison : Comparison) (left right : Expr) → Expr
-    Calculate : (operator : Operator) (left right : Expr) → Expr
-    Negate : (operand : Expr) → Expr
-    Index : (sequence index : Expr) → Expr
-    Literal : (constant : Constant) → Expr
-    Variable : (name : Name) → Expr
+  -- one case for each level of operators, from the loosest, and for each primary; over what a variable is
+  pub data ExprOver (V : Type 0) : Type 0 where
+    Or : (left right : ExprOver V) → ExprOver V
+    And : (left right : ExprOver V) → ExprOver V
+    Not : (operand : ExprOver V) → ExprOver V
+    Compare : (comparison : Comparison) (left right : ExprOver V) → ExprOver V
+    Calculate : (operator : Operator) (left right : ExprOver V) → ExprOver V
+    Negate : (operand : ExprOver V) → ExprOver V
+    Index : (sequence index : ExprOver V) → ExprOver V
+    Literal : (constant : Constant) → ExprOver V
+    Variable : (name : V) → ExprOver V
     -- `[a, b]`
-    ListOf : (items : Exprs) → Expr
+    ListOf : (items : ExprsOver V) → ExprOver V
     -- `len(x)`
-    Apply : (function : Function) (argument : Expr) → Expr
+    Apply : (function : Function) (argument : ExprOver V) → ExprOver V
     -- `error(KIND, t)`
-    MakeError : (kind : Kind) (message : Expr) → Expr
+    MakeError : (kind : Kind) (message : ExprOver V) → ExprOver V
 
   -- expressions in order: the items of a list, the arguments of a call
-  pub data Exprs : Type 0 where
-    no_exprs : Exprs
-    expr_then : (first : Expr) (others : Exprs) → Exprs
+  pub data ExprsOver (V : Type 0) : Type 0 where
+    no_exprs : ExprsOver V
+    expr_then : (first : ExprOver V) (others : ExprsOver V) → ExprsOver V
+
+-- those of a script
+abbrev pub Expr : Type 0
+Expr = ExprOver Name
+
+abbrev pub Exprs : Type 0
+Exprs = ExprsOver Name
 
 -- what `yield from` hands over to
 pub data Target : Type 0 where
@@ -110,11 +117,11 @@ pub record Program : Type 0 where
   pub coroutines : List Coroutine
 
 -- ---- rows as lists, and back
-abbrev pub exprs_of : Exprs → List Expr
+abbrev pub exprs_of : {V : Type 0} → ExprsOver V → List (ExprOver V)
 exprs_of no_exprs = []
 exprs_of (expr_then first others) = first ∷ exprs_of others
 
-abbrev pub exprs : List Expr → Exprs
+abbrev pub exprs : {V : Type 0} → List (ExprOver V) → ExprsOver V
 exprs [] = no_exprs
 exprs (first ∷ others) = expr_then first (exprs others)
 

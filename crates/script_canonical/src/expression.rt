@@ -32,7 +32,7 @@ pub fn push_expr(alloc: Global, expr: &Expr, out: &mut Vec<u8>) -> Result<(), Me
             out.push(b']')?;
         }
         ExprCase::Literal(constant) => push_constant(alloc, constant, out)?,
-        ExprCase::Variable(name) => push_name(name, out)?,
+        ExprCase::Variable(name) => push_name(name.text(), out)?,
         ExprCase::List(items) => {
             out.push(b'[')?;
             push_exprs(alloc, items.items(), out)?;

@@ -10,7 +10,7 @@ ghost use Rattle.script_naming.specs.Gives.{Gives, Fails};
 use crate::both::both;
 use crate::known::{is_made_by_error, kind_of_name};
 use crate::scope::Scope;
-use aio_syntax::{Constant, Expr, ExprList, function_of};
+use aio_syntax::{Constant, Expr, ExprList, VariableName, function_of};
 use model_text::Cause;
 use script_fault::LineFault;
 use script_term::{Term, TermCase};
@@ -211,7 +211,7 @@ fn variable(scope: &Scope<'_, '_>, name: &RcStr) -> Result<Expr, LineFault>
         result }
 {
     if scope.is_variable(name.as_str()) {
-        Ok(Expr::variable(name.clone()?))
+        Ok(Expr::variable(VariableName::of(name.clone()?)))
     } else {
         Err(LineFault::Refused(Cause::Name))
     }

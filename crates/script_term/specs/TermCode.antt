@@ -4,7 +4,7 @@
 -- Source: the code of expressions (aio_syntax, specs/ExprCode.antt).
 use Rattle.std.specs.Prelude.{◌≡◌, Option, Some, None}
 use Rattle.std.proofs.Common.{refl, ap}
-use Rattle.std.specs.Coded.{Coded, code_by}
+use Rattle.std.specs.Coded.{Coded, code_by, coded_ℕ, coded_list}
 use Rattle.model_tree.specs.declared.function.Function.TheVariants as function
 use Rattle.model_tree.specs.Syntax as syntax
 use Rattle.model_tree.specs.Syntax.{Name, NoneConstant}
@@ -86,4 +86,4 @@ mutual
   terms_again (term_then first others) = λ i. term_then (term_again first i) (terms_again others i)
 
 abbrev pub coded_term : Coded Term
-coded_term = code_by syntax.Expr coded_expr expr_of term_from term_again
+coded_term = code_by syntax.Expr (coded_expr (coded_list coded_ℕ)) expr_of term_from term_again
