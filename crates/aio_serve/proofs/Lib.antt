@@ -1,4 +1,5 @@
 mod Saying
+mod Serving
 mod Meaning
 mod Reading
 mod Changing

@@ -1,25 +1,23 @@
-use Rattle.std.proofs.Common.{◌≡◌, ap, sym, subst, ◌∙◌}
+use Rattle.std.proofs.Common.{ap, sym, ◌∙◌}
 use Rattle.std.proofs.lemmas.Bool.{true≢false}
 use Rattle.model_value.specs.Value.{Task}
 use Rattle.model_machine.specs.Replies.{reply}
-use Rattle.aio_body.proofs.May.{going_of, some_of}
-use Rattle.aio_body.specs.Asked.{IsAskingFor}
-use Rattle.aio_body.specs.Stands.{Possible}
 use Rattle.aio_body.specs.declared.reply.RequestReply.TheVariants.{Answers}
 use Rattle.aio_serve.proofs.Meaning.{current_means}
 use Rattle.aio_serve.proofs.Owning.{isnt_lent}
 use Rattle.aio_serve.proofs.Saying.{answers_so}
+use Rattle.aio_serve.proofs.Serving.{asks, goes, some_goes}
 use Rattle.aio_serve.proofs.table.serve_lent.Goals as goal
 
 pub pause-requires : goal.pause-requires
-pause-requires g c = going_of c.args.task c.args.request.now c.args.body.now c.requires.asked
+pause-requires g c = goes c.requires.asked
 
 pub returns-in-Pause : goal.returns-in-Pause
 unfolding reply
 returns-in-Pause g c = rw c.in-Pause.is (λ at s h. c.pause.ensures at s h.going)
 
 pub await_value-requires : goal.await_value-requires
-await_value-requires g c = subst (λ r. Possible g.X.Extra.added (IsAskingFor c.args.task r) c.args.body.now) c.in-Await.is c.requires.asked
+await_value-requires g c = asks c.in-Await.is c.requires.asked
 
 pub returns-in-Await : goal.returns-in-Await
 returns-in-Await g c = rw c.in-Await.is c.await_value.ensures
@@ -28,13 +26,13 @@ pub returns-in-Print : goal.returns-in-Print
 returns-in-Print g c = rw c.in-Print.is c.print.ensures
 
 pub make_future-requires : goal.make_future-requires
-make_future-requires g c = some_of c.args.task c.args.body.now (going_of c.args.task c.args.request.now c.args.body.now c.requires.asked)
+make_future-requires g c = some_goes c.requires.asked
 
 pub returns-in-MakeFuture : goal.returns-in-MakeFuture
 returns-in-MakeFuture g c = rw c.in-MakeFuture.is (c.make_future.ensures c.args.task)
 
 pub fail-requires : goal.fail-requires
-fail-requires g c = some_of c.args.task c.args.body.now (going_of c.args.task c.args.request.now c.args.body.now c.requires.asked)
+fail-requires g c = some_goes c.requires.asked
 
 pub returns-in-Fail : goal.returns-in-Fail
 returns-in-Fail g c = rw c.in-Fail.is (c.fail.ensures c.args.task)
@@ -49,49 +47,49 @@ pub returns-in-ResultOf : goal.returns-in-ResultOf
 returns-in-ResultOf g c = rw c.in-ResultOf.is (c.result_of.ensures c.args.task)
 
 pub cancel-requires : goal.cancel-requires
-cancel-requires g c = some_of c.args.task c.args.body.now (going_of c.args.task c.args.request.now c.args.body.now c.requires.asked)
+cancel-requires g c = some_goes c.requires.asked
 
 pub returns-in-Cancel : goal.returns-in-Cancel
 returns-in-Cancel g c = rw c.in-Cancel.is (c.cancel.ensures c.args.task)
 
 pub cancelling-requires : goal.cancelling-requires
-cancelling-requires g c = some_of c.args.task c.args.body.now (going_of c.args.task c.args.request.now c.args.body.now c.requires.asked)
+cancelling-requires g c = some_goes c.requires.asked
 
 pub returns-in-Cancelling : goal.returns-in-Cancelling
 returns-in-Cancelling g c = rw c.in-Cancelling.is (c.cancelling.ensures c.args.task)
 
 pub uncancel-requires : goal.uncancel-requires
-uncancel-requires g c = some_of c.args.task c.args.body.now (going_of c.args.task c.args.request.now c.args.body.now c.requires.asked)
+uncancel-requires g c = some_goes c.requires.asked
 
 pub returns-in-Uncancel : goal.returns-in-Uncancel
 returns-in-Uncancel g c = rw c.in-Uncancel.is (c.uncancel.ensures c.args.task)
 
 pub time_now-requires : goal.time_now-requires
-time_now-requires g c = some_of c.args.task c.args.body.now (going_of c.args.task c.args.request.now c.args.body.now c.requires.asked)
+time_now-requires g c = some_goes c.requires.asked
 
 pub returns-in-Time : goal.returns-in-Time
 returns-in-Time g c = rw c.in-Time.is (c.time_now.ensures c.args.task)
 
 pub spawn-requires : goal.spawn-requires
-spawn-requires g c = some_of c.args.task c.args.body.now (going_of c.args.task c.args.request.now c.args.body.now c.requires.asked)
+spawn-requires g c = some_goes c.requires.asked
 
 pub returns-in-Spawn : goal.returns-in-Spawn
 returns-in-Spawn g c = rw c.in-Spawn.is (c.spawn.ensures c.args.task)
 
 pub sleep-requires : goal.sleep-requires
-sleep-requires g c = going_of c.args.task c.args.request.now c.args.body.now c.requires.asked
+sleep-requires g c = goes c.requires.asked
 
 pub returns-in-Sleep : goal.returns-in-Sleep
 returns-in-Sleep g c = rw c.in-Sleep.is c.sleep.ensures
 
 pub enter_timeout-requires : goal.enter_timeout-requires
-enter_timeout-requires g c = going_of c.args.task c.args.request.now c.args.body.now c.requires.asked
+enter_timeout-requires g c = goes c.requires.asked
 
 pub returns-in-TimeoutEnter : goal.returns-in-TimeoutEnter
 returns-in-TimeoutEnter g c = rw c.in-TimeoutEnter.is c.enter_timeout.ensures
 
 pub reschedule-requires : goal.reschedule-requires
-reschedule-requires g c = some_of c.args.task c.args.body.now (going_of c.args.task c.args.request.now c.args.body.now c.requires.asked)
+reschedule-requires g c = some_goes c.requires.asked
 
 pub returns-in-Reschedule : goal.returns-in-Reschedule
 returns-in-Reschedule g c = rw c.in-Reschedule.is (c.reschedule.ensures c.args.task)
@@ -100,13 +98,13 @@ pub returns-in-Expired : goal.returns-in-Expired
 returns-in-Expired g c = rw c.in-Expired.is (c.expired.ensures c.args.task)
 
 pub enter_group-requires : goal.enter_group-requires
-enter_group-requires g c = going_of c.args.task c.args.request.now c.args.body.now c.requires.asked
+enter_group-requires g c = goes c.requires.asked
 
 pub returns-in-GroupEnter : goal.returns-in-GroupEnter
 returns-in-GroupEnter g c = rw c.in-GroupEnter.is c.enter_group.ensures
 
 pub create-requires : goal.create-requires
-create-requires g c = some_of c.args.task c.args.body.now (going_of c.args.task c.args.request.now c.args.body.now c.requires.asked)
+create-requires g c = some_goes c.requires.asked
 
 pub returns-in-Create : goal.returns-in-Create
 returns-in-Create g c = rw c.in-Create.is (c.create.ensures c.args.task)
