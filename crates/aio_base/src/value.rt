@@ -15,6 +15,9 @@ use std::marker::Model;
 use std::mem::size_of;
 use std::rc::{Rc, RcSlice, RcStr};
 
+/// From so many values on a list is long: some 96 KiB. A power of two.
+const A_LONG_LIST: usize = 4_096;
+
 /// A value of a script. Contracts see it as plain data.
 #[cycle(value)]
 #[derive(Drop)]
@@ -365,7 +368,7 @@ impl ValueList {
         ensures { IfOk result (λ list. list ≡ front.now ++ back.now) }
     {
         let count = front.items.len().saturating_add(back.items.len());
-        let mut items = Vec::with_capacity(alloc, count)?;
+        let mut items = Vec::with_capacity(alloc, room_for(count))?;
         push_copies(&mut items, front.items.as_slice())?;
         push_copies(&mut items, back.items.as_slice())?;
         Ok(ValueList {
@@ -381,6 +384,12 @@ impl ValueList {
     {
         self.items.as_slice()
     }
+}
+
+// The room of a list of so many values. A long one gets a little more, so that a list that is joined to one that is hardly shorter
+// takes memory of the size that was let go last: the system gives and takes back other sizes page by page.
+fn room_for(count: usize) -> usize {
+    if count < A_LONG_LIST { count } else { count | (A_LONG_LIST - 1) }
 }
 
 fn push_copies(items: &mut Vec<Value>, from: &[Value]) -> Result<(), AllocError>
