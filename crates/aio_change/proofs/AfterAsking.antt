@@ -1,7 +1,7 @@
 -- An ask, and what follows it that asks nothing.
-use Rattle.std.proofs.Common.{◌≡◌, Result, Ok, Err, sym, subst}
+use Rattle.std.proofs.Common.{◌≡◌, Result, Ok, Err, subst}
 use Rattle.model_wire.specs.Call.{Call, Answer}
-use Rattle.model_stream.specs.Doing.{Doing, Asks, and_then}
+use Rattle.model_stream.specs.Doing.{Doing, Asks}
 use Rattle.aio_wire.specs.Outside.{Outside}
 use Rattle.aio_wire.specs.declared.stop.Stop.{Stop}
 use Rattle.aio_wire.specs.declared.stop.Stop.TheVariants as stop

@@ -1,12 +1,12 @@
 -- A part of a whole changes, by a tree of its own.
-use Rattle.std.proofs.Common.{◌≡◌, Result, Ok, Err, refl, ap}
+use Rattle.std.proofs.Common.{Result, Ok, Err}
 use Rattle.model_stream.specs.Doing.{Doing, Ends, Part, asked_on, on}
 use Rattle.aio_wire.specs.Outside.{Outside}
 use Rattle.aio_wire.specs.declared.stop.Stop.{Stop}
 use Rattle.aio_exchange.specs.Follows.{Follows, Reach, after_of, with_after}
 use Rattle.aio_exchange.specs.Tells.{Tells}
 use Rattle.aio_exchange.proofs.Following.{follows_ends, follows_stopped, follows_then}
-use Rattle.aio_exchange.proofs.Telling.{tells_end, tells_ends, tells_then}
+use Rattle.aio_exchange.proofs.Telling.{tells_ends, tells_then}
 use Rattle.aio_task.specs.View.{View}
 use Rattle.aio_change.specs.Seen.{seen_changed}
 

@@ -2,7 +2,7 @@
 use Rattle.std.proofs.Common.{◌≡◌, ℕ, ◌+◌, ◌<◌, List, [], ◌∷◌, ◌++◌, Result, length, take, get_or, ◌∙◌, refl, sym, ap, subst}
 use Rattle.std.proofs.lemmas.List.{take_more}
 use Rattle.model_value.specs.Value.{Outcome}
-use Rattle.model_stream.specs.Doing.{Change, Doing, Settle, settles}
+use Rattle.model_stream.specs.Doing.{Doing, Settle, settles}
 use Rattle.aio_wire.specs.Outside.{Outside}
 use Rattle.aio_wire.specs.declared.stop.Stop.{Stop}
 use Rattle.aio_exchange.specs.Follows.{Follows, Reach}

@@ -1,5 +1,5 @@
 -- Futures stay no task's along every way, and no change calls a step.
-use Rattle.std.proofs.Common.{◌≡◌, ◌≢◌, ◌⊎◌, inl, inr, ℕ, List, [], ◌∷◌, ◌++◌, Option, Some, None, Ok, length, slice_get, ◌∙◌, refl, sym, ap, subst}
+use Rattle.std.proofs.Common.{◌≡◌, ◌⊎◌, inl, inr, ℕ, List, [], ◌∷◌, ◌++◌, Option, Some, None, Ok, length, slice_get, ◌∙◌, refl, sym, ap, subst}
 use Rattle.std.proofs.lemmas.Bool.{cases_eq}
 use Rattle.law_cancel.proofs.Lookups.{get-set_kept, get-push_last, get-push_other}
 use Rattle.model_loop.specs.Owning.{owner_at}

@@ -1,12 +1,11 @@
 -- What a connection's calls come to, by the tree.
-use Rattle.std.proofs.Common.{◌≡◌, ℕ, Bool, true, false, not, ◌&&◌, ◌||◌, if◌then◌else◌, List, [], Option}
-use Rattle.std.proofs.Common.{Some, None, Result, Ok, Err, is_some, ◌∙◌, refl, sym, ap, subst}
-use Rattle.model_value.specs.Action.{Action}
-use Rattle.model_value.specs.Value.{Conn as ConnValue, Exc, Outcome}
+use Rattle.std.proofs.Common.{◌≡◌, ℕ, Bool, true, false, not, ◌&&◌, ◌||◌, if◌then◌else◌, Option}
+use Rattle.std.proofs.Common.{Some, None, Result, Ok, Err, is_some, refl, ap, subst}
+use Rattle.model_value.specs.Value.{Conn as ConnValue, Exc}
 use Rattle.model_value.specs.declared.action.Action.TheVariants.{Made, StartRead}
 use Rattle.model_value.specs.declared.outcome.Outcome.TheVariants.{Value as Returned, Failed}
 use Rattle.model_wire.specs.declared.call.Call.TheVariants as call
-use Rattle.model_wire.specs.Call.{Call, Answer}
+use Rattle.model_wire.specs.Call.{Call}
 use Rattle.model_stream.specs.declared.answers.Drain.TheVariants as drain_as
 use Rattle.model_stream.specs.Connections.{Connection, its_receiver, its_sender, outlet, reads, received, readable, lose, flushed, writable, stand_up, up}
 use Rattle.model_stream.specs.Connections.{unmade, connect_refused, down, close, handler_done, drop_connect, write_eof, drain_of}
@@ -16,14 +15,12 @@ use Rattle.model_stream.specs.Senders.{Drain, drain_sender, has_unsent, is_closi
 use Rattle.model_stream.specs.Sending.{set_eof}
 use Rattle.aio_wire.specs.Outside.{Outside}
 use Rattle.aio_wire.specs.declared.stop.Stop.{Stop}
-use Rattle.aio_exchange.specs.Exchanged.{AsksOne}
 use Rattle.aio_exchange.specs.Follows.{Follows, Reach}
 use Rattle.aio_exchange.specs.Tells.{Tells}
 use Rattle.aio_exchange.proofs.Following.{follows_changed, follows_end, follows_ends, follows_stopped, follows_then, follows_unless, follows_where}
 use Rattle.aio_exchange.proofs.Telling.{tells_changed, tells_end, tells_ends, tells_follow, tells_unless, tells_where}
 use Rattle.aio_task.specs.View.{View}
 use Rattle.aio_change.specs.Seen.{seen_changed}
-use Rattle.aio_change.proofs.AfterAsking.{asks_met, asks_on, asks_starved, asks_told}
 
 open_still : (began closing eof paused : Bool) → (began && not closing && (not eof && not paused)) ≡ true → eof ≡ false
 open_still began closing false paused e = refl

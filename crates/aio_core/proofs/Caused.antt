@@ -17,7 +17,7 @@ use Rattle.aio_wire.specs.declared.stop.Stop.{Stop}
 use Rattle.aio_wire.specs.declared.stop.Stop.TheVariants as stop
 use Rattle.aio_wire.specs.declared.wire.Reply.{Reply}
 use Rattle.aio_wire.specs.declared.wire.Reply.TheVariants as reply
-use Rattle.aio_exchange.specs.Exchanged.{EndsSo, Exchange, IsFitting, Last, All, Met, Starved, StopsAs, entries_of}
+use Rattle.aio_exchange.specs.Exchanged.{EndsSo, IsFitting, Last, All, Met, Starved, StopsAs, entries_of}
 use Rattle.aio_extra.specs.Added.{Added}
 use Rattle.aio_body.specs.declared.run_state.RunState.{RunState}
 use Rattle.aio_body.specs.Asking.{Comes, ComesBy}

@@ -25,7 +25,7 @@ use Rattle.aio_core.specs.declared.kernel.Kernel.{Kernel}
 use Rattle.aio_core.specs.declared.went.Went as code
 use Rattle.aio_core.specs.declared.went.Went.TheVariants as went
 use Rattle.model_commands.specs.Recorded.{Records, recorded}
-use Rattle.aio_drive.specs.Drive.{Driven, IsUntold, MayDrive, Undisturbed, driven_over, wire_until}
+use Rattle.aio_drive.specs.Drive.{Driven, IsUntold, MayDrive, driven_over, wire_until}
 use Rattle.aio_drive.specs.Ending.{EndedSo}
 use Rattle.aio_drive.specs.Outcome.{EndsEarly}
 use Rattle.aio_drive.specs.Recording.{Recording}

@@ -36,10 +36,10 @@ use Rattle.aio_drive.specs.declared.driver.Manner.{Manner}
 use Rattle.aio_drive.specs.declared.halt.Halt.{Halt}
 use Rattle.aio_drive.specs.declared.halt.Halt.TheVariants.{Memory}
 use Rattle.aio_drive.proofs.Causes.{ended_caused, limit_caused}
-use Rattle.aio_drive.proofs.Driving.{EndsHere, FailsHere, GoesOnHere, IsDriven, asked_all, ended, ends_last, fails, goes_further, goes_on_here, rose_earlier}
+use Rattle.aio_drive.proofs.Driving.{EndsHere, FailsHere, IsDriven, asked_all, ended, ends_last, fails, goes_further, rose_earlier}
 use Rattle.aio_drive.proofs.Driving.{running_first, turned_on}
 use Rattle.aio_drive.proofs.Exits.{alive, ended-quiet, ended-told, refused, said_as}
-use Rattle.aio_drive.proofs.Fronts.{append-nil, took-nil}
+use Rattle.aio_drive.proofs.Fronts.{append-nil}
 use Rattle.aio_drive.proofs.Telling.{records_events, records_none, stops_after}
 use Rattle.aio_drive.proofs.Written.{ends_early, ends_whole, fails_early, fails_whole, goes_cut}
 

@@ -1,12 +1,12 @@
 -- A run of which nothing is recorded is one that may be recorded.
-use Rattle.std.proofs.Common.{◌≡◌, ℕ, List, ◌++◌, None, inl, inr, subst}
+use Rattle.std.proofs.Common.{◌≡◌, ℕ, List, None, inl, inr, subst}
 use Rattle.model_tree.specs.Syntax.{Program}
 use Rattle.model_wire.specs.Event.{Event}
 use Rattle.model_wire.specs.Told.{ShelfSeen, SinkSeen, WireSeen}
 use Rattle.model_wire.specs.Trace.{End}
 use Rattle.model_program.specs.Written.{MayBegin, ProgramOutput, WritesWhole}
 use Rattle.model_commands.specs.Causes.{IsCaused}
-use Rattle.aio_drive.specs.Drive.{AsksUntil, CutsShort, Driven, DrivenWire, IsUnbegun, IsUntold, MayDrive, MayTell, StopsRecording}
+use Rattle.aio_drive.specs.Drive.{AsksUntil, CutsShort, Driven, IsUnbegun, IsUntold, MayDrive, MayTell, StopsRecording}
 use Rattle.aio_drive.specs.Drive.{TellsAll, TellsUntil, Undisturbed, driven_over, over_all, over_front, wire_by, wire_until}
 use Rattle.aio_drive.specs.Outcome.{EndsEarly}
 use Rattle.aio_drive.specs.declared.cut.Cut.{Cut}

@@ -1,10 +1,10 @@
 -- What is written of a run that ends, that fails, or that is cut short.
-use Rattle.std.proofs.Common.{◌≡◌, ℕ, ◌≤◌, List, [], ◌++◌, Option, inl, inr}
+use Rattle.std.proofs.Common.{◌≡◌, ℕ, ◌≤◌, List, [], ◌++◌, inl, inr}
 use Rattle.std.proofs.Common.{refl, ap, sym, ◌∙◌, subst, append_assoc, arith}
 use Rattle.model_tree.specs.Syntax.{Program}
 use Rattle.model_wire.specs.Event.{Event}
 use Rattle.model_wire.specs.Journal.{Entry}
-use Rattle.model_wire.specs.Told.{Agrees, Rose, ShelfSeen, SinkSeen, WireSeen, took}
+use Rattle.model_wire.specs.Told.{Agrees, Rose, ShelfSeen, SinkSeen, took}
 use Rattle.model_wire.specs.Trace.{End, end_text, line, lines_of_events}
 use Rattle.model_program.specs.Program.{output_of}
 use Rattle.model_machine.specs.Run.{Run}

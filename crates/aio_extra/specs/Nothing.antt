@@ -1,5 +1,5 @@
 -- Nothing is added.
-use Rattle.std.specs.Prelude.{refl, Option, Some, None}
+use Rattle.std.specs.Prelude.{Option, Some, None}
 use Rattle.std.proofs.Common.{subst}
 use Rattle.model_machine.specs.Extra.{WakesFall, no_extra}
 use Rattle.law_runs.specs.Allowed.{MakesAllowedSteps}

@@ -1,5 +1,5 @@
 -- One pass over the children that run is the taking in of each child.
-use Rattle.std.proofs.Common.{◌≡◌, ℕ, zero, suc, ◌+◌, ◌<◌, ◌≤◌, ◌==◌, Bool, true, false, cond, ◌&&◌, List, [], ◌∷◌, ◌++◌, Option, Some, length}
+use Rattle.std.proofs.Common.{◌≡◌, ℕ, ◌+◌, ◌<◌, ◌≤◌, ◌==◌, Bool, true, false, cond, ◌&&◌, List, [], ◌∷◌, ◌++◌, Option, Some, length}
 use Rattle.std.proofs.Common.{map, refl, sym, ap, ◌∙◌, subst, append-nil, append_assoc, length-append, eq-eqb, arith}
 use Rattle.std.specs.Prelude.{slice_get, slice_set}
 use Rattle.std.specs.List.{flat_map}
@@ -11,9 +11,8 @@ use Rattle.model_hub.specs.declared.child.Child.{Child}
 use Rattle.model_hub.specs.declared.child.Seats.{Seats}
 use Rattle.model_hub.specs.declared.child.Stay.TheVariants.{Holding, Gone}
 use Rattle.model_hub.specs.Children.{runs, is_over}
-use Rattle.model_hub.specs.Hub.{Hub}
 use Rattle.model_hub.specs.Others.{Back}
-use Rattle.model_hub.specs.Select.{is_taken_in, are_home, after_report, seats_back, take_in}
+use Rattle.model_hub.specs.Select.{is_taken_in, are_home, after_report, seats_back}
 use Rattle.aio_lanes.specs.declared.child_lanes.ChildLanes.{ChildLanes}
 use Rattle.aio_roster.specs.Rosters.{Numbered, running_of}
 use Rattle.aio_roster.proofs.Seated.{some_is}

@@ -1,11 +1,11 @@
 -- Posters that come home, as the definitions have it, and the seats in hand.
 use Rattle.std.proofs.Common.{◌≡◌, ℕ, ◌==◌, Bool, true, false, cond, ◌&&◌, ◌||◌, List, [], ◌∷◌, ◌++◌, Option, Some, None, length}
-use Rattle.std.proofs.Common.{map, refl, sym, ap, ◌∙◌, subst, append-nil}
+use Rattle.std.proofs.Common.{refl, sym, ap, ◌∙◌, subst, append-nil}
 use Rattle.std.specs.Prelude.{is_some, nat_lt, option_to_list, slice_get, slice_set}
 use Rattle.std.proofs.lemmas.List.{map-append}
-use Rattle.std.specs.List.{list_any, AllByRecursion as Each}
+use Rattle.std.specs.List.{AllByRecursion as Each}
 use Rattle.std.proofs.lemmas.Bool.{false≢true, eqb-true}
-use Rattle.model_pump.specs.Posts.{Post, posts_of}
+use Rattle.model_pump.specs.Posts.{posts_of}
 use Rattle.model_hub.specs.declared.child.Child.{Child}
 use Rattle.model_hub.specs.declared.child.Seats.{Seats}
 use Rattle.model_hub.specs.declared.child.Stay.{Stay}

@@ -1,5 +1,5 @@
 -- Whether the posters of a child come home.
-use Rattle.std.specs.Prelude.{◌≡◌, ℕ, Bool, ◌&&◌, List, [], ◌∷◌, length, if◌then◌else◌}
+use Rattle.std.specs.Prelude.{◌≡◌, Bool, ◌&&◌, List, [], ◌∷◌, length, if◌then◌else◌}
 use Rattle.std.specs.List.{AllByRecursion as Each}
 use Rattle.model_hub.specs.declared.child.Seats.{Seats}
 use Rattle.model_hub.specs.Others.{Back}

@@ -1,5 +1,5 @@
 -- What a select did is what the record of a call says.
-use Rattle.std.proofs.Common.{◌≡◌, ℕ, ◌<◌, ◌≤◌, ◌^◌, Bool, true, false, cond, ◌||◌, List, [], ◌∷◌, ◌++◌, Option, Some, None, map, length}
+use Rattle.std.proofs.Common.{◌≡◌, ℕ, Bool, true, false, cond, ◌||◌, List, [], ◌∷◌, Option, Some, None, length}
 use Rattle.std.proofs.Common.{refl, sym, ap, ◌∙◌, subst, arith}
 use Rattle.std.specs.Prelude.{slice_get}
 use Rattle.std.proofs.lemmas.Bool.{false≢true}
@@ -10,23 +10,20 @@ use Rattle.model_pump.specs.Posts.{Post}
 use Rattle.model_hub.specs.declared.child.Child.{Child}
 use Rattle.model_hub.specs.declared.child.Seats.{Seats}
 use Rattle.model_hub.specs.declared.child.Stay.TheVariants.{Holding, Gone}
-use Rattle.model_hub.specs.declared.giving.Giving.TheVariants.{Full, Spent}
 use Rattle.model_hub.specs.declared.halt.Halt.{Halt}
 use Rattle.model_hub.specs.declared.halt.Halt.TheVariants.{Going, Faulted, Starving}
-use Rattle.model_hub.specs.declared.pump.Pump.{Pump}
 use Rattle.model_hub.specs.Children.{runs}
-use Rattle.model_hub.specs.Hub.{Hub, of_child}
-use Rattle.model_hub.specs.Others.{Offer, Lanes, Others, Polled, Ready, PollFailed, PollStarved, Back, Said, Got, Failed, Memory, NotStarted}
+use Rattle.model_hub.specs.Hub.{Hub}
+use Rattle.model_hub.specs.Others.{Lanes, Others, Polled, Ready, PollFailed, PollStarved, Back, Said, Failed, Memory, NotStarted}
 use Rattle.model_hub.specs.Lanes.{serve, serve_child}
-use Rattle.model_hub.specs.Gathering.{Gathering, begin, gather}
-use Rattle.model_hub.specs.Select.{polled_wait, polled_watch, kept_at_end, said_at, starves, is_taken_in, are_home, after_report, take_in, end_select, after_poll, select}
-use Rattle.model_hub.specs.Calls.{ask, commands_to}
+use Rattle.model_hub.specs.Gathering.{begin, gather}
+use Rattle.model_hub.specs.Select.{polled_wait, polled_watch, kept_at_end, said_at, starves, is_taken_in, are_home, after_report, take_in, after_poll, select}
+use Rattle.model_hub.specs.Calls.{ask}
 use Rattle.model_hub.specs.Told.{PollerSeen, LauncherSeen, told_with}
-use Rattle.model_hub.specs.Asked.{Asks, is_running, lane_of, TakesPolled, polls_of, answers_of}
+use Rattle.model_hub.specs.Asked.{is_running, lane_of, TakesPolled}
 use Rattle.aio_hub.specs.Launches.{StartsNone}
 use Rattle.aio_serving.proofs.Same.{serve_same}
-use Rattle.aio_lanes.specs.Given.{lanes_at, given_at, fulls_at, seen_of}
-use Rattle.aio_roster.specs.Rosters.{Numbered}
+use Rattle.aio_lanes.specs.Given.{lanes_at, given_at, fulls_at}
 use Rattle.aio_roster.proofs.Running.{kth_of}
 use Rattle.aio_commands.specs.Commands.{Commands}
 use Rattle.aio_commands.proofs.Together.{plain_commands}
@@ -34,10 +31,9 @@ use Rattle.aio_polling.specs.declared.ending.Selected.{Selected}
 use Rattle.aio_polling.specs.declared.ending.Selected.TheVariants as selected
 use Rattle.aio_polling.specs.Selects.{hub_of, hub_after, is_starved, said_of, selected_at, EndsSo, SelectsPolled}
 use Rattle.aio_live.specs.States.{StateSeen, Plainly, heads_of, with_children}
-use Rattle.aio_live.specs.Seen.{hub_seen}
 use Rattle.aio_live.specs.Selecting.{SelectsItems, TakesOver, TakesAfter, SelectAsks}
 use Rattle.aio_live.proofs.Asking.{running_at}
-use Rattle.aio_live.proofs.Noting.{ran_map, ran_noted, numbered_noted}
+use Rattle.aio_live.proofs.Noting.{ran_map, ran_noted}
 
 -- ---- what the others did
 abbrev the_reports : {Run : Type 0} (said : Selected) (old new : StateSeen Run) → TakesAfter said old new → ℕ → List Back

@@ -1,5 +1,5 @@
 -- A select's answer fits its call, and nothing that posts told is lost.
-use Rattle.std.proofs.Common.{◌≡◌, ℕ, Bool, true, cond, List, [], ◌∷◌, ◌++◌, Option, map, refl, sym, ap, ◌∙◌, subst, append-nil}
+use Rattle.std.proofs.Common.{◌≡◌, ℕ, true, cond, List, ◌++◌, Option, refl, sym, ap, ◌∙◌, subst, append-nil}
 use Rattle.std.specs.List.{filter}
 use Rattle.model_wire.specs.Call.{Item}
 use Rattle.model_wire.specs.declared.watch.Watch.{Watch}
@@ -12,19 +12,19 @@ use Rattle.model_hub.specs.declared.pump.Pump.{Pump}
 use Rattle.model_hub.specs.Hub.{Hub}
 use Rattle.model_hub.specs.Others.{Lanes, Polled, Ready, PollFailed, PollStarved}
 use Rattle.model_hub.specs.Lanes.{serve_child}
-use Rattle.model_hub.specs.Gathering.{Gathering, begin, gather, is_halted}
+use Rattle.model_hub.specs.Gathering.{begin, gather, is_halted}
 use Rattle.model_hub.specs.Select.{is_childs, kept_at_end, polled_watch}
 use Rattle.model_hub.specs.Asked.{TakesPolled, PollKeeps}
 use Rattle.model_hub.specs.Told.{PollerSeen}
 use Rattle.law_hub.specs.Seats.{is_teller, items_of, told_all}
 use Rattle.law_hub.proofs.Fitting.{select_fits}
-use Rattle.law_hub.proofs.Kept.{Same, select_line, failed_select_line}
+use Rattle.law_hub.proofs.Kept.{select_line, failed_select_line}
 use Rattle.aio_serving.proofs.Same.{serve_same}
 use Rattle.aio_polling.specs.declared.ending.Selected.{Selected}
 use Rattle.aio_polling.specs.declared.ending.Selected.TheVariants as selected
 use Rattle.aio_polling.specs.Selects.{hub_of, hub_after, selected_at, SelectsPolled}
 use Rattle.aio_live.specs.States.{StateSeen, Plainly}
-use Rattle.aio_live.specs.Selecting.{SelectsItems, TakesOver, TakesAfter, AnswerFits, told_in, NothingIsLost}
+use Rattle.aio_live.specs.Selecting.{SelectsItems, TakesAfter, AnswerFits, told_in, NothingIsLost}
 use Rattle.aio_live.proofs.Noting.{NotingKeeps, told_all_map}
 
 -- ---- it fits

@@ -1,5 +1,5 @@
 -- What the stages of a select leave of what a hub keeps.
-use Rattle.std.specs.Prelude.{◌≡◌, ℕ, Bool, true, ◌||◌, List, [], ◌++◌, Option}
+use Rattle.std.specs.Prelude.{◌≡◌, ℕ, true, ◌||◌, List, [], ◌++◌, Option}
 use Rattle.model_wire.specs.Call.{Item}
 use Rattle.model_wire.specs.declared.call.Call.TheVariants as call
 use Rattle.model_wire.specs.declared.watch.Watch.{Watch}
@@ -15,7 +15,7 @@ use Rattle.aio_intake.specs.Taken.{TakesIn, KeepsLanes}
 use Rattle.aio_polling.specs.declared.ending.Selected.{Selected}
 use Rattle.aio_polling.specs.declared.ending.Selected.TheVariants as selected
 use Rattle.aio_polling.specs.Selects.{hub_of, hub_after, is_starved, said_of, Selects}
-use Rattle.aio_live.specs.States.{StateSeen, Rests}
+use Rattle.aio_live.specs.States.{StateSeen}
 use Rattle.aio_live.specs.Seen.{hub_seen}
 
 -- posts were taken, and none was given back

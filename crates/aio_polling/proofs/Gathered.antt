@@ -1,8 +1,8 @@
 -- The stages of a select together are the definition's gathering.
-use Rattle.std.proofs.Common.{◌≡◌, ℕ, ◌+◌, ◌≤◌, Bool, true, false, cond, ◌&&◌, List, [], ◌∷◌, ◌++◌, map, sum, length, refl, sym, ap, ◌∙◌, subst, append-nil, arith}
+use Rattle.std.proofs.Common.{◌≡◌, ℕ, ◌≤◌, Bool, true, false, ◌&&◌, List, [], ◌∷◌, map, sum, length, refl, sym, ap, ◌∙◌, subst, append-nil, arith}
 use Rattle.std.proofs.Common.{Option, Result, Ok, Err}
 use Rattle.std.specs.Prelude.{nat_le, IfOk}
-use Rattle.std.specs.List.{filter, flat_map}
+use Rattle.std.specs.List.{flat_map}
 use Rattle.std.proofs.lemmas.Bool.Decides.{nat_tests}
 use Rattle.model_value.specs.Number.{most}
 use Rattle.model_wire.specs.Call.{Item}
@@ -16,7 +16,7 @@ use Rattle.model_hub.specs.declared.halt.Halt.TheVariants.{Going, Faulted, Starv
 use Rattle.model_hub.specs.Hub.{Hub}
 use Rattle.model_hub.specs.Gathering.{Gathering, add_all, begin, gather, are_taken, stdin_items}
 use Rattle.model_hub.specs.Others.{Ready, PollFailed}
-use Rattle.model_hub.specs.Select.{is_childs, kept_at_end, starves, polled_wait, polled_watch}
+use Rattle.model_hub.specs.Select.{kept_at_end, starves, polled_wait, polled_watch}
 use Rattle.model_hub.specs.Asked.{nones_with}
 use Rattle.model_hub.specs.Told.{PollerSeen, told_with}
 use Rattle.aio_hub.specs.declared.poller.Polled.{Polled as Answered}

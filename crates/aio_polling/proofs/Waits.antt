@@ -1,16 +1,13 @@
 -- How long a poll waits, whatever posts were taken before.
-use Rattle.std.proofs.Common.{◌≡◌, ℕ, ◌≤◌, Bool, true, false, cond, ◌&&◌, not, List, [], ◌∷◌, ◌++◌, Option, Some, None, length, map, sum, take, refl, sym, ap, ◌∙◌, subst, append-nil, arith}
-use Rattle.std.specs.Prelude.{nat_le, get_or}
-use Rattle.std.specs.List.{filter, flat_map}
-use Rattle.std.proofs.lemmas.Bool.{false≢true}
+use Rattle.std.proofs.Common.{◌≡◌, ℕ, Bool, true, false, cond, List, [], ◌∷◌, ◌++◌, Option, Some, refl, sym, ap, ◌∙◌}
+use Rattle.std.specs.List.{flat_map}
 use Rattle.model_wire.specs.Call.{Item}
 use Rattle.model_wire.specs.declared.watch.Watch.{Watch}
 use Rattle.model_wire.specs.Fits.{turn_fits}
 use Rattle.model_pump.specs.Posts.{Post}
 use Rattle.model_hub.specs.declared.child.Child.{Child}
-use Rattle.model_hub.specs.Hub.{Hub}
 use Rattle.model_hub.specs.Gathering.{Gathering, goes_in, offer, offer_all, add, add_all, kept_of, stdin_items, begin, start}
-use Rattle.model_hub.specs.Select.{wait_for, polled_wait, polled_watch}
+use Rattle.model_hub.specs.Select.{wait_for, polled_wait}
 use Rattle.aio_select.specs.Answered.{first_items, has_any}
 use Rattle.aio_polling.specs.Selects.{hub_of}
 

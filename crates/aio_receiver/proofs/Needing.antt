@@ -4,8 +4,8 @@ use Rattle.std.specs.Prelude.{nat_eq, nat_le, nat_lt}
 use Rattle.std.specs.Fmt.{decimal}
 use Rattle.model_value.specs.Value.{Exc}
 use Rattle.model_stream.specs.declared.read_op.ReadOp.TheVariants.{UpTo, Exactly, Until, Line}
-use Rattle.model_stream.specs.declared.read_op.Taken.TheVariants.{Bytes, Raises, Needs}
-use Rattle.model_stream.specs.Reading.{Reading, ReadOp, Take, gives, raises, needs, removes, unless_failed, incomplete, first_at, take_up_to, take_exactly}
+use Rattle.model_stream.specs.declared.read_op.Taken.TheVariants.{Needs}
+use Rattle.model_stream.specs.Reading.{Reading, ReadOp, Take, gives, raises, needs, removes, incomplete, first_at, take_up_to, take_exactly}
 use Rattle.model_stream.specs.Reading.{take_until, take_line, take_read, until_found, until_unfound, line_at, unended_line, newline, after_take}
 use Rattle.model_stream.specs.Sending.{is_nothing}
 

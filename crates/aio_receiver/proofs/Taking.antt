@@ -1,5 +1,5 @@
 -- What a read comes to, by the tree.
-use Rattle.std.proofs.Common.{◌≡◌, ℕ, true, false, if◌then◌else◌, List, [], Option, Some, None, length, is_some, ◌∙◌, refl, sym, ap, subst}
+use Rattle.std.proofs.Common.{◌≡◌, ℕ, true, false, if◌then◌else◌, List, [], Option, Some, None, length, is_some, ◌∙◌, sym, ap, subst}
 use Rattle.model_value.specs.Value.{Exc}
 use Rattle.model_stream.specs.declared.answers.StreamGot.TheVariants as got_as
 use Rattle.model_stream.specs.declared.read_op.Taken.TheVariants as taken
@@ -7,7 +7,7 @@ use Rattle.model_stream.specs.Doing.{Doing, Ends, Changes, MakeFuture, and_then}
 use Rattle.model_stream.specs.Reading.{ReadOp, Taken, after_take, resume, take_read}
 use Rattle.model_stream.specs.Receivers.{Receiver, StreamGot, AllGot, all_taken, read, read_all, read_as, second_waiter, wait_for_data}
 use Rattle.aio_exchange.specs.Tells.{Tells}
-use Rattle.aio_exchange.proofs.Telling.{tells_changed, tells_end, tells_ends, tells_then, tells_unless, tells_where}
+use Rattle.aio_exchange.proofs.Telling.{tells_changed, tells_end, tells_then, tells_unless, tells_where}
 use Rattle.aio_task.specs.View.{View}
 use Rattle.aio_change.specs.Owned.{IsOwnIfAny}
 use Rattle.aio_change.specs.Seen.{seen_changed}

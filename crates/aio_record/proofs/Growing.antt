@@ -2,7 +2,7 @@
 use Rattle.std.proofs.Common.{◌≡◌, ℕ, ◌-◌, List, [], ◌∷◌, ◌++◌, Option, Some, None, length, take, drop, refl, ap, sym, ◌∙◌, subst, append_assoc}
 use Rattle.std.proofs.lemmas.List.{take_rest, take-append-drop}
 use Rattle.model_wire.specs.Event.{Event}
-use Rattle.model_wire.specs.Told.{FileFailed, Rose, ShelfSeen, grown}
+use Rattle.model_wire.specs.Told.{Rose, ShelfSeen, grown}
 use Rattle.model_commands.specs.Recorded.{Grew, GrewAndFailed, bytes_told, entry_line, recorded}
 use Rattle.aio_wire.specs.Files.{Appends, with_piece}
 use Rattle.aio_wire.specs.declared.sink.SinkTook.TheVariants.{Took, Failed}

@@ -1,5 +1,5 @@
 -- What a sender's calls come to that ask, by the tree.
-use Rattle.std.proofs.Common.{◌≡◌, ℕ, ◌≤◌, Bool, true, List, [], Result, Ok, Err, length, ◌∙◌, refl, sym, ap, subst}
+use Rattle.std.proofs.Common.{◌≡◌, ℕ, ◌≤◌, Bool, true, List, [], Result, Ok, Err, length, sym, ap, subst}
 use Rattle.model_wire.specs.declared.answer.Answer.TheVariants as answer
 use Rattle.model_wire.specs.declared.event.Handed.{Handed}
 use Rattle.model_wire.specs.Call.{Call, Answer}
@@ -11,9 +11,9 @@ use Rattle.model_stream.specs.declared.put.Put.{Put}
 use Rattle.model_stream.specs.declared.put.Put.TheVariants as put_as
 use Rattle.model_stream.specs.declared.phase.Phase.TheVariants as phase
 use Rattle.model_stream.specs.Answers.{sent_by}
-use Rattle.model_stream.specs.Doing.{Doing, Ends, Asks, and_then}
+use Rattle.model_stream.specs.Doing.{Ends, Asks}
 use Rattle.model_stream.specs.Senders.{Sender, Outlet, with_writer, ended_sender, lose_sender, loss_of, outcome_of, waiting_for_loss, write, write_as}
-use Rattle.model_stream.specs.Sending.{offer, put, put_answer}
+use Rattle.model_stream.specs.Sending.{put, put_answer}
 use Rattle.aio_wire.specs.Outside.{Outside}
 use Rattle.aio_wire.specs.Port.{Ported}
 use Rattle.aio_wire.specs.declared.stop.Stop.{Stop}

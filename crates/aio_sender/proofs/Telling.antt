@@ -1,7 +1,7 @@
 -- What a sender's calls come to that ask nothing, by the tree.
 use Rattle.std.proofs.Common.{◌≡◌, ◌⊎◌, inl, inr, ℕ, Bool, true, false, not, ◌&&◌, length, if◌then◌else◌, List, [], ◌∷◌, ◌++◌, ◌∙◌, refl, sym, ap, subst}
 use Rattle.model_value.specs.Action.{Action}
-use Rattle.model_value.specs.Value.{Nothing, Outcome, exception_of}
+use Rattle.model_value.specs.Value.{Nothing, exception_of}
 use Rattle.model_value.specs.declared.kind.Kind.TheVariants.{ConnectionResetError}
 use Rattle.model_value.specs.declared.outcome.Outcome.TheVariants.{Value as Returned}
 use Rattle.model_wire.specs.Call.{Answer}

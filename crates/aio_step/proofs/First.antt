@@ -26,7 +26,7 @@ use Rattle.aio_body.specs.declared.reply.RequestReply.{RequestReply}
 use Rattle.aio_body.specs.declared.reply.RequestReply.TheVariants as said
 use Rattle.aio_body.specs.declared.resume_point.ResumePoint.{ResumePoint}
 use Rattle.aio_body.specs.declared.resume_point.ResumePoint.TheVariants.{Asked, Sleeping, Leaving, Serving, Connecting, Yielding, Reading, ReadingAll}
-use Rattle.aio_body.specs.Asked.{IsInStep, HasSuspended, IsDeciding, Says}
+use Rattle.aio_body.specs.Asked.{IsInStep, HasSuspended, Says}
 use Rattle.aio_body.specs.Outcomes.{reply_of}
 use Rattle.aio_body.specs.Stands.{Context, holding}
 use Rattle.aio_step.specs.declared.steps.Started.{Started}

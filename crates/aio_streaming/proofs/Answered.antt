@@ -1,5 +1,5 @@
 -- A request whose call has an answer that is a value or an exception.
-use Rattle.std.proofs.Common.{◌≡◌, ℕ, length, Result, Ok, Err, ◌⊎◌, inl, inr, refl, sym, ap, subst, ◌∙◌}
+use Rattle.std.proofs.Common.{◌≡◌, ℕ, length, Result, Ok, Err, inl, inr, refl, sym, ap, subst, ◌∙◌}
 use Rattle.model_value.specs.Request.{Request}
 use Rattle.model_loop.specs.Futures.{next_future}
 use Rattle.model_loop.specs.Owning.{is_plain}

@@ -12,7 +12,7 @@ use Rattle.model_wire.specs.Journal.{Entry}
 use Rattle.model_loop.specs.Futures.{is_pending_at, next_future}
 use Rattle.model_loop.specs.Owning.{is_plain}
 use Rattle.model_stream.specs.Answers.{is_conn}
-use Rattle.model_stream.specs.Doing.{Doing, Asks, Changes, Ends, MakeFuture}
+use Rattle.model_stream.specs.Doing.{Doing, Changes, Ends, MakeFuture}
 use Rattle.model_stream.specs.Kept.{child_times, connection_asked, one_time, times_asked}
 use Rattle.model_stream.specs.Streams.{Streams, add_connection, connect}
 use Rattle.model_machine.specs.Replies as plain

@@ -1,5 +1,5 @@
 -- Ports as listen and connect name them.
-use Rattle.std.proofs.Common.{◌≡◌, ℕ, ℤ, pos, negsuc, Bool, true, false, ◌&&◌, Option, Some, None, nat_lt, if◌then◌else◌, refl, ap, sym, subst, ◌∙◌}
+use Rattle.std.proofs.Common.{◌≡◌, ℕ, ℤ, pos, negsuc, Bool, true, false, ◌&&◌, Some, None, nat_lt, if◌then◌else◌, refl, ap, subst, ◌∙◌}
 use Rattle.model_value.specs.Value.{Value}
 use Rattle.model_value.specs.declared.request.Request.TheVariants as request
 use Rattle.model_stream.specs.Streams.{may_connect, may_listen}

@@ -1,6 +1,6 @@
 -- A run under way that is counted, and each way out.
 use Rattle.std.proofs.Common.{◌≡◌, ◌⊎◌, inl, inr, ℕ, zero, suc, ◌+◌, ◌^◌, ◌<◌, ◌≤◌, Bool, true, false, List, [], ◌∷◌, ◌++◌, Option, Some, None}
-use Rattle.std.proofs.Common.{Result, Ok, Err, map, cond, refl, ap, sym, ◌∙◌, subst, append_assoc, append-nil, arith}
+use Rattle.std.proofs.Common.{Result, Ok, map, cond, refl, ap, sym, ◌∙◌, subst, append_assoc, append-nil, arith}
 use Rattle.std.proofs.lemmas.List.Sums.{sum_by-append}
 use Rattle.std.specs.List.{count_by}
 use Rattle.std.specs.Prelude.{if◌then◌else◌}
@@ -9,7 +9,6 @@ use Rattle.model_value.specs.Value.{Outcome}
 use Rattle.model_tree.specs.Syntax.{Program}
 use Rattle.model_says.specs.Says.{step_limit}
 use Rattle.model_wire.specs.declared.event.End.TheVariants as ends
-use Rattle.model_wire.specs.Call.{Answer}
 use Rattle.model_wire.specs.Event.{Event}
 use Rattle.model_wire.specs.Journal.{Entry, Answered}
 use Rattle.model_wire.specs.Told.{Agrees, WireSeen}

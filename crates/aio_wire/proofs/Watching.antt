@@ -1,17 +1,15 @@
 -- An item is awaited where the one entry awaits it that is about the same.
 use denote.Enum.Bare.{sameb, same_true}
-use Rattle.std.proofs.Common.{◌≡◌, ℕ, Bool, true, false, cond, eqb, ◌&&◌, ◌||◌, List, [], ◌∷◌, Option, Some, None, map, refl, sym, ap, ◌∙◌}
+use Rattle.std.proofs.Common.{◌≡◌, Bool, true, false, cond, eqb, ◌||◌, List, [], ◌∷◌, Option, Some, None, map, refl, sym, ap, ◌∙◌}
 use Rattle.std.proofs.lemmas.Bool.{false≢true, eqb-true, and_parts, or_from}
-use Rattle.std.specs.List.{list_any, AllByRecursion, IsDistinct}
+use Rattle.std.specs.List.{AllByRecursion, IsDistinct}
 use Rattle.std.specs.Map.{keys_of, lookup}
 use Rattle.model_wire.specs.declared.item.Item.TheVariants as item
-use Rattle.model_wire.specs.declared.item.Readiness.{Readiness}
 use Rattle.model_wire.specs.declared.watch.Watch.{Watch}
 use Rattle.model_wire.specs.declared.watch.Watch.TheVariants as watch
 use Rattle.model_wire.specs.Call.{Item}
 use Rattle.model_wire.specs.Fits.{is_ready_for, is_told, is_watched, is_watched_by}
 use Rattle.aio_wire.specs.contracts.awaited.Subject.{the_type}
-use Rattle.aio_wire.specs.declared.awaited.Subject.{Subject}
 use Rattle.aio_wire.specs.Places.{Place, is_same_place, place_of, place_of_item, placed}
 
 -- ---- an entry that awaits an item is about the same

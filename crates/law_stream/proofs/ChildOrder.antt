@@ -13,8 +13,8 @@ use Rattle.model_stream.specs.declared.answers.Wrote.{Wrote}
 use Rattle.model_stream.specs.declared.answers.Wrote.TheVariants as wrote
 use Rattle.model_stream.specs.declared.put.Limited.{Limited}
 use Rattle.model_stream.specs.Children.{Child, inlet, its_stdin, its_pipe, lose_child, fed, feed_more, break_stdin, told_pipe, exit_with, tell_child}
-use Rattle.model_stream.specs.Children.{close_child, write_child, drain_child, limits_child, wait_child, kill}
-use Rattle.model_stream.specs.Doing.{Doing, Ends, Changes, Asks, MakeFuture, Settle, and_then, asks, asked_on, on, settles}
+use Rattle.model_stream.specs.Children.{write_child, drain_child, limits_child, wait_child, kill}
+use Rattle.model_stream.specs.Doing.{Doing, Ends, Changes, MakeFuture, Settle, and_then, asks, asked_on, on, settles}
 use Rattle.model_stream.specs.Receivers.{Receiver, takes_more, receive, receive_end}
 use Rattle.model_stream.specs.Senders.{Sender, Drain, has_unsent, is_closing, is_flushed, schedule_loss, send_more, write, close_sender}
 use Rattle.model_stream.specs.Senders.{drain_sender, limits_sender, lose_sender}

@@ -1,5 +1,5 @@
 -- What any row of steps of a connection keeps of its sender.
-use Rattle.std.proofs.Common.{ℕ, List, [], refl}
+use Rattle.std.proofs.Common.{ℕ, List, []}
 use Rattle.model_wire.specs.declared.event.Handed.TheVariants as to
 use Rattle.model_stream.specs.declared.answers.Wrote.{Wrote}
 use Rattle.model_stream.specs.declared.put.Limited.{Limited}

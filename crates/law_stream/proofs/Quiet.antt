@@ -1,5 +1,5 @@
 -- What a receiver does is no matter of the sender beside it.
-use Rattle.std.proofs.Common.{ℕ, Bool, true, false, cond, List, [], ◌∷◌, Option, Some, None, refl}
+use Rattle.std.proofs.Common.{ℕ, Bool, true, false, cond, [], ◌∷◌, Option, Some, None}
 use Rattle.model_value.specs.Value.{Exc}
 use Rattle.model_wire.specs.declared.event.Handed.{Handed}
 use Rattle.model_stream.specs.declared.answers.StreamGot.TheVariants as got_as

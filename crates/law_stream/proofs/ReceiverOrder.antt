@@ -4,7 +4,7 @@ use Rattle.std.proofs.lemmas.List.{append_assoc, append-nil, take-append-drop, d
 use Rattle.model_value.specs.Value.{Exc}
 use Rattle.model_stream.specs.declared.answers.StreamGot.TheVariants as got_as
 use Rattle.model_stream.specs.declared.read_op.Taken.TheVariants as taken
-use Rattle.model_stream.specs.Doing.{Doing, Ends, Changes, MakeFuture, and_then}
+use Rattle.model_stream.specs.Doing.{Ends, Changes, MakeFuture, and_then}
 use Rattle.model_stream.specs.Reading.{Reading, ReadOp, Take, Taken, take_read, needs, feed, feed_eof, fail}
 use Rattle.model_stream.specs.Receivers.{Receiver, StreamGot, AllGot, wakes, second_waiter, wait_for_data, read, read_as, read_all, all_taken, give_up_read}
 use Rattle.law_stream.specs.ReaderSteps.{TakesFront, Gives as GivesFront, taken_away}
@@ -13,7 +13,7 @@ use Rattle.law_stream.specs.Ways.{Move, Always}
 use Rattle.law_stream.proofs.Along.{always_into}
 use Rattle.law_stream.proofs.SenderRuns.{along}
 use Rattle.law_stream.specs.SoundReceivers.{ReceiverStep, Receives, ReceivesEnd, IsLost, Reads, ReadsAll, GivesUp}
-use Rattle.law_stream.specs.ReceiverOrder.{received_in, went, looked, with_none, gives_in, InOrder, ReceiverGives, Still, Gives}
+use Rattle.law_stream.specs.ReceiverOrder.{received_in, looked, with_none, gives_in, InOrder, ReceiverGives, Still, Gives}
 
 -- bytes that an operation gives are the front of what was held
 given_order : (held : List ℕ) (t : Take) (bytes : List ℕ) → t.answer ≡ taken.Bytes bytes → TakesFront t held → held ≡ bytes ++ t.rest

@@ -1,6 +1,5 @@
 -- What each operation of a connection and of a child keeps of its sender.
-use Rattle.std.proofs.Common.{◌≡◌, ℕ, ◌+◌, ℤ, Bool, true, false, cond, eqb, not, ◌&&◌, ◌||◌, List, [], ◌∷◌, ◌++◌, Option, Some, None, refl, ap, sym, ◌∙◌, arith}
-use Rattle.std.proofs.lemmas.List.{append-nil}
+use Rattle.std.proofs.Common.{◌≡◌, ℕ, ◌+◌, ℤ, Bool, true, false, cond, not, ◌&&◌, ◌||◌, List, [], ◌∷◌, ◌++◌, Option, Some, None, refl, ap, arith}
 use Rattle.model_value.specs.Value.{Exc, Outcome}
 use Rattle.model_wire.specs.declared.event.Handed.{Handed}
 use Rattle.model_wire.specs.declared.event.Handed.TheVariants as to
@@ -12,17 +11,17 @@ use Rattle.model_stream.specs.declared.answers.Wrote.{Wrote}
 use Rattle.model_stream.specs.declared.put.Limited.{Limited}
 use Rattle.model_stream.specs.declared.answers.Drain.TheVariants as drain_as
 use Rattle.model_stream.specs.Connections.{Connection, outlet, its_sender, its_receiver, fail, received, readable}
-use Rattle.model_stream.specs.Connections.{lose, flushed, writable, up, down, stand_up, unmade, close}
-use Rattle.model_stream.specs.Connections.{handler_done, drop_connect, write_to, write_eof, drain_of, limits_of, reads, connect_refused}
-use Rattle.model_stream.specs.Doing.{Doing, Ends, Changes, Asks, Change, Settle, MakeFuture, CallSoon, and_then, asks, on, asked_on}
-use Rattle.model_stream.specs.Receivers.{Receiver, receive, receive_end, receive_loss, wakes}
+use Rattle.model_stream.specs.Connections.{lose, flushed, writable, close}
+use Rattle.model_stream.specs.Connections.{handler_done, write_to, write_eof, drain_of, limits_of, reads}
+use Rattle.model_stream.specs.Doing.{Doing, Ends, Asks, Settle, and_then, asks, on, asked_on}
+use Rattle.model_stream.specs.Receivers.{receive_loss, wakes}
 use Rattle.model_stream.specs.Reading.{Reading}
 use Rattle.model_stream.specs.Senders.{Sender, Drain, has_unsent, is_closing, is_lost, with_writer}
 use Rattle.model_stream.specs.Senders.{write, send_more, close_sender, fail_sender, lose_sender, drain_sender}
 use Rattle.model_stream.specs.Senders.{limits_sender, is_flushed, loss_of}
 use Rattle.model_stream.specs.Sending.{put_answer, set_eof, written_of}
-use Rattle.law_stream.specs.Ways.{Move, Did, Heard, Always, handed_in, losses, offers, closes, is_close, is_offer, is_loss, one_if}
-use Rattle.law_stream.specs.SoundSenders.{outlet_of, is_losing, is_broken, IsSoundSender, KeepsSender, MayLose}
+use Rattle.law_stream.specs.Ways.{Move, Did, Heard, Always, losses, offers, closes, is_close, is_offer, one_if}
+use Rattle.law_stream.specs.SoundSenders.{IsSoundSender, KeepsSender, MayLose}
 use Rattle.law_stream.proofs.Along.{always_if, always_into, always_map, always_then}
 use Rattle.law_stream.proofs.SenderRuns.{keeps_both}
 use Rattle.law_stream.proofs.SoundSenders.{keeps_still, keeps_quiet, live_of, nothing_by, fail_keeps, close_keeps}

@@ -1,27 +1,25 @@
 -- What each operation of a receiver keeps, and what any row of them does.
 use Rattle.std.proofs.Common.{◌≡◌, ℕ, ◌+◌, ◌-◌, ◌≤◌, ℤ, pos, negsuc, Bool, true, false, cond, eqb, leb, ltb, not, ◌&&◌, List, [], ◌∷◌, ◌++◌, Option, Some}
 use Rattle.std.proofs.Common.{None, length, refl, sym}
-use Rattle.std.proofs.Common.{ap, subst, ◌∙◌, arith}
+use Rattle.std.proofs.Common.{ap, ◌∙◌, arith}
 use Rattle.std.proofs.lemmas.Bool.{false≢true}
-use lib.Chars.{codes}
-use Rattle.model_value.specs.declared.outcome.Outcome.TheVariants.{Value as Returned}
-use Rattle.model_value.specs.Value.{Nothing, Exc}
+use Rattle.model_value.specs.Value.{Exc}
 use Rattle.model_stream.specs.declared.answers.StreamGot.TheVariants as got_as
 use Rattle.model_stream.specs.declared.read_op.ReadOp.TheVariants.{UpTo, Exactly, Until, Line}
 use Rattle.model_stream.specs.declared.read_op.Taken.TheVariants as taken
-use Rattle.model_stream.specs.Doing.{Doing, Ends, Changes, MakeFuture, CallSoon, Settle, and_then}
+use Rattle.model_stream.specs.Doing.{Ends, Changes, MakeFuture, CallSoon, Settle, and_then}
 use Rattle.model_stream.specs.Reading.{Reading, ReadOp, Take, Taken, take_read, take_up_to, take_exactly, take_until, take_line, after_take, gives, raises}
 use Rattle.model_stream.specs.Reading.{needs}
-use Rattle.model_stream.specs.Reading.{unless_failed, incomplete, first_at, until_found, until_unfound, line_at, unended_line, newline, feed, feed_eof, fail}
-use Rattle.model_stream.specs.Receivers.{Receiver, StreamGot, AllGot, wakes, receive, receive_end, receive_loss, second_waiter, wait_for_data, read, read_as}
+use Rattle.model_stream.specs.Reading.{unless_failed, first_at, until_found, until_unfound, line_at, unended_line, newline, feed, feed_eof, fail}
+use Rattle.model_stream.specs.Receivers.{Receiver, StreamGot, AllGot, wakes, second_waiter, wait_for_data, read, read_as}
 use Rattle.model_stream.specs.Receivers.{read_all}
 use Rattle.model_stream.specs.Receivers.{all_taken, give_up_read}
 use Rattle.model_stream.specs.Sending.{is_nothing}
 use Rattle.law_stream.specs.Ways.{Move, Did, Heard, Always}
-use Rattle.law_stream.proofs.Along.{always_into, always_map}
+use Rattle.law_stream.proofs.Along.{always_into}
 use Rattle.law_stream.proofs.SenderRuns.{along}
-use Rattle.law_stream.specs.SoundReceivers.{IsSoundReceiver, IsWaiting, KeepsReceiver, ReceiverComes, Rests, Steps, ReceiverStep, Receives, ReceivesEnd, IsLost}
-use Rattle.law_stream.specs.SoundReceivers.{Reads, ReadsAll, GivesUp, began_in, done, many_of, one_if_same, told, waits_on}
+use Rattle.law_stream.specs.SoundReceivers.{IsWaiting, KeepsReceiver, ReceiverComes, Rests, Steps, ReceiverStep, Receives, ReceivesEnd, IsLost}
+use Rattle.law_stream.specs.SoundReceivers.{Reads, ReadsAll, GivesUp, began_in, done, many_of, told, waits_on}
 
 -- ---- an operation that needs more is on a reader that neither failed nor ended
 abbrev OnlyWaits : Reading → Take → Type 0

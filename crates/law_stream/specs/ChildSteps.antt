@@ -1,5 +1,5 @@
 -- What happens to a child, step by step, and what it keeps of its standard input.
-use Rattle.std.specs.Prelude.{◌≡◌, ℕ, ◌+◌, ℤ, Bool, if◌then◌else◌, List, [], ◌++◌, Option}
+use Rattle.std.specs.Prelude.{ℕ, ◌+◌, ℤ, Bool, if◌then◌else◌, List, [], ◌++◌, Option}
 use Rattle.model_pump.specs.declared.stream.Stream.{Stream}
 use Rattle.model_value.specs.declared.action.ChildItem.{ChildItem}
 use Rattle.model_wire.specs.declared.event.Handed.TheVariants as to

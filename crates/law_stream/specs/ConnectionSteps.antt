@@ -1,5 +1,5 @@
 -- What happens to a connection that stands, step by step.
-use Rattle.std.specs.Prelude.{◌≡◌, ℕ, ◌+◌, ℤ, Bool, List, [], ◌++◌, Option}
+use Rattle.std.specs.Prelude.{ℕ, ◌+◌, ℤ, Bool, List, [], ◌++◌, Option}
 use Rattle.model_stream.specs.Connections.{Connection, close, drain_of, handler_done, its_receiver, limits_of, lose, readable, writable, write_eof, write_to}
 use Rattle.model_stream.specs.Doing.{Doing, Ends, and_then, on}
 use Rattle.model_stream.specs.Sending.{put_answer, written_of}

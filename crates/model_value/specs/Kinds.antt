@@ -1,7 +1,7 @@
 -- The tree of kinds: each kind with its ancestors, and their names.
 -- Source: the library reference, "Built-in Exceptions", "Exception hierarchy"; `asyncio.exceptions` for asyncio's own.
 use denote.Enum.Bare.{sameb}
-use Rattle.std.specs.Prelude.{◌≡◌, ℕ, Bool, true, List, [], ◌∷◌}
+use Rattle.std.specs.Prelude.{ℕ, Bool, List, [], ◌∷◌}
 use Rattle.std.specs.List.{list_any}
 use lib.Chars.{codes}
 use Rattle.model_value.specs.contracts.kind.Kind.{the_type}

@@ -1,6 +1,6 @@
 -- A call of streams that does a tree, as a piece of what the machine does: the machine goes on with its result from a state that
 -- is stood for, or ends the run there.
-use Rattle.std.proofs.Common.{◌≡◌, ℕ, ◌<◌, ◌⊎◌, true, List, [], ◌++◌, Option, Some, length, slice_get, Ok, Err, ◌∙◌, refl, sym, ap, subst, inl, inr, arith}
+use Rattle.std.proofs.Common.{◌≡◌, ℕ, ◌<◌, ◌⊎◌, true, List, [], ◌++◌, Option, Some, length, slice_get, Ok, Err, ◌∙◌, sym, ap, subst, inl, inr, arith}
 use Rattle.model_loop.specs.Futures.{is_pending_at, next_future}
 use Rattle.model_loop.specs.Owning.{is_plain}
 use Rattle.model_loop.specs.Suspend.{suspend}

@@ -1,5 +1,5 @@
 -- What is known where there is a state that is stood for, before a call of streams and after it.
-use Rattle.std.proofs.Common.{◌≡◌, ℕ, Bool, true, List, Option, None, slice_get, sym, ◌∙◌}
+use Rattle.std.proofs.Common.{◌≡◌, ℕ, Bool, true, List, Option, None, slice_get, ◌∙◌}
 use Rattle.std.proofs.Math.Logic.{∥∥₁_elim, ∥∥₁_map}
 use Rattle.std.proofs.Props.{props}
 use Rattle.model_wire.specs.Journal.{Entry}

@@ -5,7 +5,6 @@ use Rattle.model_value.specs.Request.{Request}
 use Rattle.model_value.specs.Value.{Exc, Value}
 use Rattle.model_loop.specs.Futures.{is_pending_at, next_future}
 use Rattle.model_loop.specs.Owning.{is_plain}
-use Rattle.model_loop.specs.Parts.{Parts}
 use Rattle.model_stream.specs.Doing.{Doing}
 use Rattle.model_stream.specs.Streams.{Streams}
 use Rattle.model_machine.specs.Replies as plain

@@ -1,6 +1,6 @@
 -- A request that is added to the loop's own and asks the outside in the middle of its step: what it asks is answered, refused, or
 -- finds no answer that fits.
-use Rattle.std.specs.Prelude.{ℕ, zero, suc, ℤ, pos, false, List, [], ◌∷◌, ◌++◌, Some, codes}
+use Rattle.std.specs.Prelude.{ℕ, suc, pos, false, List, [], ◌∷◌, ◌++◌, Some, codes}
 use Rattle.model_value.specs.declared.action.Action.TheVariants.{Step, MainDone}
 use Rattle.model_value.specs.declared.input.Input.TheVariants.{Send, Throw}
 use Rattle.model_value.specs.declared.kind.Kind.TheVariants.{OSError}

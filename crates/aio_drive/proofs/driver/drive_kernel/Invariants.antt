@@ -1,4 +1,4 @@
-use Rattle.std.proofs.Common.{◌≡◌, ℕ, List}
+use Rattle.std.proofs.Common.{◌≡◌}
 use Rattle.std.specs.Option.{option_copied}
 use Rattle.model_tree.specs.Syntax.{Program}
 use Rattle.aio_wire.specs.Replied.{Stays}

@@ -1,4 +1,4 @@
-use Rattle.std.proofs.Common.{◌≡◌, ℕ, List, ◌++◌, IfErr, IfOk, ap, subst}
+use Rattle.std.proofs.Common.{◌≡◌, List, ◌++◌, IfErr, IfOk, ap, subst}
 use Rattle.model_wire.specs.Event.{Event}
 use Rattle.model_wire.specs.Told.{took}
 use Rattle.model_wire.specs.Trace.{end_text, line, lines_of_events}

@@ -1,4 +1,4 @@
-use Rattle.std.proofs.Common.{◌≡◌, List, ◌++◌, ap, ◌∙◌, rules, tests}
+use Rattle.std.proofs.Common.{◌≡◌, ◌++◌, ap, ◌∙◌, rules, tests}
 use Rattle.std.specs.List.{filter}
 use Rattle.std.proofs.lemmas.List.Elements.{filter_from_retain}
 use Rattle.model_hub.specs.Select.{is_childs}

@@ -1,9 +1,9 @@
-use Rattle.std.proofs.Common.{◌≡◌, sym, ap, ◌∙◌}
+use Rattle.std.proofs.Common.{◌≡◌, ap, ◌∙◌}
 use Rattle.model_wire.specs.Fits.{turn_fits}
 use Rattle.law_hub.proofs.Fitting.{sockets_fit}
 use Rattle.aio_polling.specs.declared.ending.Ended.{Ended}
 use Rattle.aio_polling.specs.Selects.{hub_of, hub_after, selected_at, kept_at, Gathers}
-use Rattle.aio_polling.proofs.Gathered.{few_bytes, if_both, offers_from, gathers_so}
+use Rattle.aio_polling.proofs.Gathered.{if_both, offers_from, gathers_so}
 use Rattle.aio_polling.proofs.selecting.gather_all.Goals as goal
 
 pub offer_all-requires : goal.offer_all-requires

@@ -1,4 +1,4 @@
-use Rattle.std.proofs.Common.{◌≡◌, List, sym, subst}
+use Rattle.std.proofs.Common.{List, subst}
 use Rattle.model_wire.specs.declared.watch.Watch.{Watch}
 use Rattle.aio_hub.specs.declared.poller.Polled.TheVariants as polled
 use Rattle.aio_polling.specs.declared.ending.Ended.{Ended}

@@ -1,4 +1,4 @@
-use Rattle.std.proofs.Common.{◌≡◌, ◌⊎◌, true, false, inl, inr, ap, sym, refl, ◌∙◌}
+use Rattle.std.proofs.Common.{◌≡◌, ◌⊎◌, false, inl, inr, ap, sym, refl, ◌∙◌}
 use Rattle.model_value.specs.Request.{Request}
 use Rattle.aio_serve.specs.Own.{is_own}
 use Rattle.aio_serve.proofs.Owning.{is_of_loop}

@@ -1,4 +1,4 @@
-use Rattle.std.proofs.Common.{◌≡◌, ◌<◌, Option, Some, None, ℕ, SFits, w64, length, Ok, rules, sym, refl, ap, subst, ◌∙◌}
+use Rattle.std.proofs.Common.{SFits, w64, rules, sym, ap, subst, ◌∙◌}
 use Rattle.std.proofs.lemmas.Int.{to_z-of_z}
 use Rattle.model_value.specs.declared.request.Request.TheVariants as request
 use Rattle.model_says.specs.Operations.{out_of_range}

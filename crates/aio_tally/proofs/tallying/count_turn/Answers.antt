@@ -1,4 +1,4 @@
-use Rattle.std.proofs.Common.{◌≡◌, ◌+◌, ◌^◌, ◌<◌, ◌∙◌, ℕ, List, ap, sym, subst}
+use Rattle.std.proofs.Common.{◌+◌, ◌^◌, ◌<◌, ◌∙◌, List, ap, sym, subst}
 use Rattle.std.specs.List.{count_by}
 use Rattle.model_wire.specs.Event.{Event}
 use Rattle.model_commands.specs.Works.{counted, is_call, is_said}

@@ -1,4 +1,3 @@
-use Rattle.std.proofs.Common.{◌≡◌}
 use Rattle.model_tree.specs.Syntax.{Program}
 use Rattle.aio_extra.specs.Nothing.{nothing_added}
 use Rattle.aio_core.specs.Turned.{Begins}

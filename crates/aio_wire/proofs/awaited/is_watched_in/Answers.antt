@@ -1,8 +1,7 @@
-use Rattle.std.proofs.Common.{◌≡◌, List, Option, Some, None, map, sym, ap, ◌∙◌, subst}
+use Rattle.std.proofs.Common.{◌≡◌, List, Some, None, map, sym, ap, ◌∙◌, subst}
 use Rattle.std.specs.List.{IsDistinct}
 use Rattle.std.specs.Map.{keys_of, lookup}
 use Rattle.model_wire.specs.declared.watch.Watch.{Watch}
-use Rattle.model_wire.specs.Fits.{is_watched}
 use Rattle.aio_wire.specs.Places.{Place, is_same_place, place_of_item, placed}
 use Rattle.aio_wire.proofs.Watching.{only_one, watched_as}
 use Rattle.aio_wire.proofs.awaited.is_watched_in.Goals as goal

@@ -1,7 +1,7 @@
-use Rattle.std.proofs.Common.{subst, OnOk, IfOk, length}
-use Rattle.std.proofs.lemmas.Result.{IfOk-weaker, on_ok_weaker}
+use Rattle.std.proofs.Common.{subst, OnOk}
+use Rattle.std.proofs.lemmas.Result.{on_ok_weaker}
 use Rattle.model_stream.specs.Connections.{Connection, its_sender, outlet}
-use Rattle.model_stream.specs.Doing.{asked_on, on}
+use Rattle.model_stream.specs.Doing.{on}
 use Rattle.model_stream.specs.Senders.{close_sender}
 use Rattle.aio_exchange.specs.Tells.{Tells}
 use Rattle.aio_change.specs.Seen.{seen_changed}

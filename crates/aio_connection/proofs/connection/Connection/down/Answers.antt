@@ -1,7 +1,6 @@
 use Rattle.std.proofs.Common.{◌∙◌, sym}
 use Rattle.aio_exchange.specs.Follows.{Reach, reach}
 use Rattle.aio_task.specs.View.{View}
-use Rattle.aio_change.specs.Seen.{seen_changed}
 use Rattle.aio_connection.proofs.Calling.{down_before}
 use Rattle.aio_connection.proofs.connection.Connection.down.Goals as goal
 

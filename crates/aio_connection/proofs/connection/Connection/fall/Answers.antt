@@ -1,9 +1,8 @@
 use Rattle.std.proofs.Common.{◌∙◌, refl, sym, ap, subst}
 use Rattle.std.proofs.lemmas.Result.{err_from_is_err_and}
 use Rattle.model_wire.specs.declared.call.Call.TheVariants as call
-use Rattle.model_stream.specs.Connections.{down, unmade, connect_refused}
+use Rattle.model_stream.specs.Connections.{down, unmade}
 use Rattle.model_stream.specs.Doing.{Ends, Settle}
-use Rattle.model_value.specs.declared.outcome.Outcome.TheVariants.{Failed}
 use Rattle.aio_exchange.specs.Follows.{Reach, reach}
 use Rattle.aio_exchange.proofs.Following.{follows_end, follows_starved}
 use Rattle.aio_task.specs.View.{View}

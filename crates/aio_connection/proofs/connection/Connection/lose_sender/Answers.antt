@@ -1,6 +1,6 @@
-use Rattle.std.proofs.Common.{sym, subst, OnOk}
+use Rattle.std.proofs.Common.{sym, subst}
 use Rattle.model_stream.specs.Connections.{Connection, its_sender, outlet}
-use Rattle.model_stream.specs.Doing.{asked_on, on}
+use Rattle.model_stream.specs.Doing.{on}
 use Rattle.model_stream.specs.Senders.{lose_sender}
 use Rattle.aio_exchange.specs.Follows.{Follows, Reach, after_of, reach}
 use Rattle.aio_task.specs.View.{View}

@@ -4,7 +4,6 @@ use Rattle.model_wire.specs.declared.call.Call.TheVariants as call
 use Rattle.model_stream.specs.Connections.{received}
 use Rattle.aio_exchange.specs.Follows.{Reach, reach}
 use Rattle.aio_task.specs.View.{View}
-use Rattle.aio_change.specs.Seen.{seen_changed}
 use Rattle.aio_change.proofs.AfterAsking.{asks_met, asks_starved, asks_told}
 use Rattle.aio_connection.proofs.Calling.{reads_no_more, reads_so}
 use Rattle.aio_connection.proofs.connection.Connection.readable.Goals as goal

@@ -1,5 +1,4 @@
 use Rattle.std.proofs.Common.{◌∙◌, sym, ap, subst}
-use Rattle.model_value.specs.declared.action.Action.TheVariants.{Made, StartRead}
 use Rattle.model_value.specs.declared.outcome.Outcome.TheVariants.{Value as Returned}
 use Rattle.model_stream.specs.Connections.{stand_up}
 use Rattle.model_stream.specs.Doing.{Settle}

@@ -2,7 +2,6 @@ use Rattle.std.proofs.Common.{◌∙◌, sym}
 use Rattle.std.proofs.lemmas.Result.{err_from_is_err_and}
 use Rattle.aio_exchange.specs.Follows.{Reach, after_of, reach}
 use Rattle.aio_task.specs.View.{View}
-use Rattle.aio_change.specs.Seen.{seen_changed}
 use Rattle.aio_connection.proofs.Calling.{nothing_unsent, sends_stopped, sends_then}
 use Rattle.aio_connection.proofs.connection.Connection.writable.Goals as goal
 

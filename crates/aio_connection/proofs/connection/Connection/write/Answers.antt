@@ -1,7 +1,7 @@
-use Rattle.std.proofs.Common.{sym, subst, OnOk}
+use Rattle.std.proofs.Common.{subst, OnOk}
 use Rattle.model_stream.specs.declared.answers.Wrote.{Wrote}
 use Rattle.model_stream.specs.Connections.{Connection, its_sender, outlet}
-use Rattle.model_stream.specs.Doing.{asked_on, on}
+use Rattle.model_stream.specs.Doing.{asked_on}
 use Rattle.model_stream.specs.Senders.{write}
 use Rattle.aio_exchange.specs.Follows.{Follows, Reach, with_after, reach}
 use Rattle.aio_task.specs.View.{View}

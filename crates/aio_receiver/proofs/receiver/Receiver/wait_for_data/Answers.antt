@@ -1,4 +1,4 @@
-use Rattle.std.proofs.Common.{◌≡◌, ◌∙◌, ℕ, Some, length, sym, ap}
+use Rattle.std.proofs.Common.{◌∙◌, ℕ, Some, length, sym, ap}
 use Rattle.model_stream.specs.declared.answers.StreamGot.TheVariants as got_as
 use Rattle.model_stream.specs.Reading.{resume}
 use Rattle.model_stream.specs.Receivers.{Receiver}

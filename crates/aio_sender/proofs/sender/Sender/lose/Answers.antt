@@ -1,6 +1,6 @@
 use Rattle.std.proofs.Common.{◌∙◌, [], refl, ap}
 use Rattle.std.proofs.lemmas.Result.{err_from_is_err_and}
-use Rattle.model_stream.specs.Senders.{Sender, lose_sender, loss_of, outcome_of, waiting_for_loss}
+use Rattle.model_stream.specs.Senders.{Sender, lose_sender, waiting_for_loss}
 use Rattle.aio_exchange.specs.Follows.{Reach, reach}
 use Rattle.aio_exchange.specs.Ways.{changed_on}
 use Rattle.aio_exchange.proofs.Following.{follows_starved}

@@ -1,4 +1,4 @@
-use Rattle.std.proofs.Common.{◌∙◌, Ok, Err, refl, sym, ap, subst}
+use Rattle.std.proofs.Common.{refl}
 use Rattle.std.proofs.lemmas.Result.{err_from_is_err_and}
 use Rattle.model_stream.specs.Senders.{send_more, sent_more}
 use Rattle.model_stream.specs.Sending.{offer}

@@ -1,4 +1,3 @@
-use Rattle.std.proofs.Common.{◌∙◌}
 use Rattle.aio_stream.specs.Kept.{all_opened}
 use Rattle.aio_transports.proofs.Remaining.{saw}
 use Rattle.aio_transports.proofs.transports.Transports.see.Goals as goal
