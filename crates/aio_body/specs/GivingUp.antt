@@ -25,8 +25,8 @@ abbrev pub release_if : Bool → ℕ → View → View
 release_if true id v = release_of id v
 release_if false id v = v
 
-abbrev pub let_go_done : ℕ → View → View
-let_go_done future v = release_if (is_some (outcome_at (slice_get v.futures future))) future v
+abbrev pub release_done : ℕ → View → View
+release_done future v = release_if (is_some (outcome_at (slice_get v.futures future))) future v
 
 abbrev pub given_up_in : ResumePoint → View → View
 given_up_in Asked v = v
@@ -34,7 +34,7 @@ given_up_in (Sleeping timer future) v =
     release_if (is_some (outcome_at (slice_get v.futures future))) future (timer_cancelled timer v)
 given_up_in (Leaving group) v = v
 given_up_in (Serving key) v = v
-given_up_in (Connecting conn future) v = let_go_done future v
+given_up_in (Connecting conn future) v = release_done future v
 given_up_in (Yielding whom) v = v
 given_up_in (Reading from op on) v = v
 given_up_in (ReadingAll from taken on) v = v

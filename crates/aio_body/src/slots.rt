@@ -1,7 +1,7 @@
 //! What tasks run and stand at.
 ghost use Rattle.std.specs.Prelude.{◌≡◌, ◌<◌, None, Some, IfOk, OnOk, length, slice_get, slice_set};
 ghost use Rattle.model_loop.specs.Owning.{owner_at};
-ghost use Rattle.aio_body.specs.GivingUp.{IsNoTasks, given_up_in, let_go_done};
+ghost use Rattle.aio_body.specs.GivingUp.{IsNoTasks, given_up_in, release_done};
 ghost use Rattle.aio_body.specs.Near.{standing_of};
 ghost use Rattle.aio_body.specs.Slots.{HoldsMore, no_slot, put_back, resume_point_at};
 
@@ -108,7 +108,7 @@ impl<X> RunState<X> {
     fn release(&mut self, future: FutureId)
         requires idle { self.old.parts.called ≡ None }
         requires no_task { owner_at (slice_get self.old.parts.futures future) ≡ None }
-        ensures { self.new ≡ record self.old { parts = let_go_done future self.old.parts } }
+        ensures { self.new ≡ record self.old { parts = release_done future self.old.parts } }
     {
         if self.parts.outcome(future).is_some() {
             self.parts.release(future);

@@ -49,6 +49,7 @@ impl Model for Index {
 }
 
 impl Leaf {
+    /// A leaf that is in no index. It is taken ahead of the name that it will hold.
     pub fn new(alloc: Global) -> Result<Leaf, Memory> {
         let room = Box::new(alloc, (Index::new(), Index::new()))?;
         Ok(Leaf { room })

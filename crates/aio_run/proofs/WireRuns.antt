@@ -1,6 +1,7 @@
 -- From a driven run over the wire to what the program may write.
 use Rattle.std.specs.Prelude.{codes}
-use Rattle.std.proofs.Common.{◌≡◌, ℕ, List, [], ◌++◌, Option, Some, None, Result, Ok, Err, IfOk, IfErr, refl, ap, sym, ◌∙◌, subst, inl, inr, append-nil, arith}
+use Rattle.std.proofs.Common.{◌≡◌, ℕ, List, [], ◌++◌, Option, Some, None, Result, Ok, Err, IfOk, IfErr}
+use Rattle.std.proofs.Common.{refl, ap, sym, ◌∙◌, subst, inl, inr, append-nil, arith}
 use Rattle.std.proofs.Math.Path.{fun_ext}
 use Rattle.std.specs.Option.{option_map}
 use Rattle.model_tree.specs.Syntax.{Program}

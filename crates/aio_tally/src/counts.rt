@@ -7,7 +7,7 @@ use aio_wire::Event;
 
 /// How much a run did so far. Of more than 18,446,744,073,709,551,615 calls or lines it says that
 /// there are so many.
-#[derive(Clone, Copy, Debug, PartialEq, Eq)]
+#[derive(Clone, Copy, PartialEq, Eq)]
 pub struct Counts {
     /// How many tasks were made, main among them.
     pub tasks: u32,

@@ -15,7 +15,7 @@ use aio_wire::Wire;
 use std::alloc::Global;
 
 /// How much a run did, and its exit status.
-#[derive(Clone, Copy, Debug, PartialEq, Eq)]
+#[derive(Clone, Copy, PartialEq, Eq)]
 pub struct Tally {
     pub status: u8,
     pub counts: Counts,

@@ -96,6 +96,7 @@ fn is_watched(watch: &[Watch], item: &Item) -> bool
     watch.iter().any(|entry| is_watched_by(item, entry))
 }
 
+/// Whether an entry of a watch awaits what an item tells.
 pub fn is_watched_by(item: &Item, entry: &Watch) -> bool
     ensures { result ≡ is_watched_by item.now entry.now }
 {
@@ -196,6 +197,7 @@ pub fn clashes(first: &Item, second: &Item) -> bool
     interest == other && id == other_id
 }
 
+/// Whether a piece of a child's output has a byte, and no more than a read takes. Other items have no such piece.
 pub fn is_sized(item: &Item) -> bool
     ensures { result ≡ is_sized item.now }
 {
