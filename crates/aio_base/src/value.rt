@@ -389,7 +389,11 @@ impl ValueList {
 // The room of a list of so many values. A long one gets a little more, so that a list that is joined to one that is hardly shorter
 // takes memory of the size that was let go last: the system gives and takes back other sizes page by page.
 fn room_for(count: usize) -> usize {
-    if count < A_LONG_LIST { count } else { count | (A_LONG_LIST - 1) }
+    if count < A_LONG_LIST {
+        count
+    } else {
+        count | (A_LONG_LIST - 1)
+    }
 }
 
 fn push_copies(items: &mut Vec<Value>, from: &[Value]) -> Result<(), AllocError>

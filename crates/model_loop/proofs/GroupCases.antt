@@ -38,8 +38,8 @@ abbrev pub take_back_where : Bool → ℕ → Loop → Loop
 take_back_where requested id l =
     let group = group_of l id in
     if requested then
-      (let taken = book (uncancel_by (ByGroup id) group.parent) l in
-      if cancelling taken.parts group.parent == 0 then set_group id (record group { kept = None }) taken else taken)
+    (let taken = book (uncancel_by (ByGroup id) group.parent) l in
+    if cancelling taken.parts group.parent == 0 then set_group id (record group { kept = None }) taken else taken)
     else l
 
 -- `hear`, by whether the group aborts

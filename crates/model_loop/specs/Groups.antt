@@ -212,8 +212,8 @@ abbrev pub take_back : ℕ → Loop → Loop
 take_back id l =
     let group = group_of l id in
     if group.requested then
-      (let taken = book (uncancel_by (ByGroup id) group.parent) l in
-      if cancelling taken.parts group.parent == 0 then set_group id (record group { kept = None }) taken else taken)
+    (let taken = book (uncancel_by (ByGroup id) group.parent) l in
+    if cancelling taken.parts group.parent == 0 then set_group id (record group { kept = None }) taken else taken)
     else l
 
 -- a body that raised aborts the group
