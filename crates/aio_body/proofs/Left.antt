@@ -12,16 +12,16 @@ use Rattle.model_value.specs.declared.action.Action.TheVariants.{StepInCycle, Wa
 use Rattle.model_value.specs.declared.outcome.Outcome.TheVariants.{Value as Returned, Failed, Cancelled}
 use Rattle.model_loop.specs.Cancel.{cancel, has_seen}
 use Rattle.model_loop.specs.Cycles.{cycle}
-use Rattle.model_loop.specs.Futures.{is_pending, is_pending_at, make_future, new_plain, next_future, outcome_at, register, registered, registered_on, settle}
-use Rattle.model_loop.specs.Futures.{settled, settled_as}
+use Rattle.model_loop.specs.Futures.{is_pending, is_pending_at, make_future, new_plain, next_future, outcome_at, register, settle}
 use Rattle.model_loop.specs.Handles.{later, revoke, soon, soon_all}
 use Rattle.model_loop.specs.Ledger.{Origin, request}
-use Rattle.model_loop.specs.Owning.{is_plain_at, owner_at, owner_of, is_main_done}
+use Rattle.model_loop.specs.Owning.{owner_at, owner_of, is_main_done}
 use Rattle.model_loop.specs.Parts.{Future, FutureKind, Parts, Plain, Task}
 use Rattle.model_loop.specs.Suspend.{cancel_wait, suspend, wait_on}
 use Rattle.model_loop.specs.Tasks.{begin_step, cancelling, change_task, finish, future_of, must_cancel_of, lives, next_task, one_more, pause, set_waiter}
 use Rattle.model_loop.specs.Tasks.{uncancel}
 use Rattle.model_loop.specs.Tasks.{clear_must_cancel, waiter_of}
+use Rattle.model_loop.proofs.FutureCases.{is_plain_at, registered, registered_on, settled, settled_as}
 use Rattle.law_cancel.proofs.SuspendCases.{suspend_unless}
 use Rattle.law_cancel.proofs.Counting.{change_task-kept, goes-counts}
 use Rattle.law_cancel.proofs.Effects.{change_task-futures, length-change_task, register-tasks, settle-pending, settle-tasks}

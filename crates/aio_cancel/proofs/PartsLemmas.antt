@@ -9,6 +9,7 @@ use Rattle.model_loop.specs.Parts.{Future, Task}
 use Rattle.model_loop.specs.Handles.{soon, soon_all}
 use Rattle.model_loop.specs.Futures as plain
 use Rattle.model_loop.specs.Futures.{settle}
+use Rattle.model_loop.proofs.FutureCases as cases
 use Rattle.aio_ready.specs.declared.handle.Handle.{Handle}
 use Rattle.aio_ready.specs.Queue as queue
 use Rattle.aio_ready.specs.Queue.{Queue, next_name}
@@ -44,7 +45,7 @@ pub settle-parts : (id : ℕ) (outcome : Outcome) (v : Awaitables)
 settle-parts id outcome v = at (slice_get v.futures id)
   where
     until : (future : Future) (x : Option Outcome)
-        → plain.settled_as x id future outcome (parts v)
+        → cases.settled_as x id future outcome (parts v)
         ≡ parts (record {
           queue = queue.soon_all (called_until x future.callbacks) v.queue;
           futures = settled_until x future id outcome v.futures;
@@ -56,7 +57,7 @@ settle-parts id outcome v = at (slice_get v.futures id)
         (record v { futures = (plain.with_future id (record future { outcome = Some outcome; callbacks = [] }) (parts v)).futures })
 
     at : (o : Option Future)
-        → plain.settled o id outcome (parts v)
+        → cases.settled o id outcome (parts v)
         ≡ parts (record {
           queue = queue.soon_all (called_at o) v.queue;
           futures = settled_at o id outcome v.futures;

@@ -9,13 +9,14 @@ use Rattle.model_value.specs.declared.action.Action.TheVariants.{GroupDone}
 use Rattle.model_value.specs.declared.outcome.Outcome.TheVariants.{Failed}
 use Rattle.model_value.specs.Value.{Outcome}
 use Rattle.model_loop.specs.Cancel.{cancel}
-use Rattle.model_loop.specs.Futures.{outcome_at, future_outcome, is_pending_at, is_pending, next_future, new_plain, register, registered, registered_on, settle}
+use Rattle.model_loop.specs.Futures.{outcome_at, future_outcome, is_pending_at, is_pending, next_future, new_plain, register, settle}
 use Rattle.model_loop.specs.Groups.{with_child}
 use Rattle.model_loop.specs.Ledger.{Origin, request_where, request_each}
 use Rattle.model_loop.specs.Owning.{owner_at}
 use Rattle.model_loop.specs.Parts as plain
 use Rattle.model_loop.specs.Parts.{OfTask, FutureKind, Future, Task, Parts}
 use Rattle.model_loop.specs.Tasks.{future_of, lives, next_task, spawn, uncancel}
+use Rattle.model_loop.proofs.FutureCases.{registered, registered_on}
 use Rattle.law_cancel.proofs.Counting.{goes-done}
 use Rattle.law_cancel.proofs.Lookups.{get_within, get-push_other, get-set_kept}
 use Rattle.law_cancel.proofs.Trace.{goes-tasks}

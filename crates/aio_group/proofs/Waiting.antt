@@ -13,13 +13,14 @@ use Rattle.model_value.specs.Input.{Input}
 use Rattle.model_value.specs.Value.{Outcome, Exc}
 use Rattle.model_loop.proofs.GroupCases.{abort_where, take_back_where, keep_and_abort_unless}
 use Rattle.model_loop.specs.Cancel.{CancelRequest, Canceller, answers, has_seen, cancel_each, cancel_by, cancel_below, cancel_within, cancel}
-use Rattle.model_loop.specs.Futures.{is_pending_at, is_pending, made_before, mark_asked, new_plain, next_future, settle, settled, settled_as, with_future}
+use Rattle.model_loop.specs.Futures.{is_pending_at, is_pending, made_before, mark_asked, new_plain, next_future, settle, with_future}
 use Rattle.model_loop.specs.Groups.{group_of, set_group, only_cancelled, abort, take_back, begin_exit, abort_if_raised}
 use Rattle.model_loop.specs.Handles.{soon, soon_all}
 use Rattle.model_loop.specs.Ledger.{Origin, ByAbort, ByGroup, Asked, Raised, Booked, raised_among, request_where, request_each, uncancel_by}
 use Rattle.model_loop.specs.Loop.{Group, Loop, in_parts, book}
 use Rattle.model_loop.specs.Parts.{FutureKind, Plain, OfTask, Many, Future, Task, Parts}
 use Rattle.model_loop.specs.Tasks.{cancelling, change_task, future_of, lives, next_task, raise_count, waiter_of}
+use Rattle.model_loop.proofs.FutureCases.{settled, settled_as}
 use Rattle.law_cancel.proofs.CancelCases.{asked_where, must_cancel_unless, cancel_waiter, cancel_unseen, cancel_task_where, cancel_kind, cancel_until}
 use Rattle.law_cancel.proofs.CancelCases.{cancel_at}
 use Rattle.law_cancel.proofs.Counting.{change_task-kept}

@@ -8,11 +8,12 @@ use Rattle.model_value.specs.Number.{most}
 use Rattle.model_value.specs.Value.{Exc, Value}
 use Rattle.model_value.specs.declared.action.Action.TheVariants.{GroupDone}
 use Rattle.model_loop.proofs.GroupCases.{create_unless}
-use Rattle.model_loop.specs.Futures.{is_pending, is_pending_at, next_future, register, registered, registered_on}
+use Rattle.model_loop.specs.Futures.{is_pending, is_pending_at, next_future, register}
 use Rattle.model_loop.specs.Groups.{Refusal, NotEntered, IsFinished, IsShuttingDown, create, group_of, refusal, refusal_exception, with_child}
 use Rattle.model_loop.specs.Loop.{Loop}
 use Rattle.model_loop.specs.Parts.{Future, Parts, Task}
 use Rattle.model_loop.specs.Tasks.{future_of, lives, next_task, spawn, waiter_of}
+use Rattle.model_loop.proofs.FutureCases.{registered, registered_on}
 use Rattle.model_value.specs.Value as values
 use Rattle.model_machine.specs.Replies.{creates, creates_unless}
 use Rattle.model_machine.specs.State.{State, generator, in_loop, with_coroutine}

@@ -10,9 +10,10 @@ use Rattle.model_value.specs.declared.outcome.Outcome.TheVariants.{Cancelled}
 use Rattle.model_value.specs.Value.{Outcome}
 use Rattle.model_loop.specs.Parts.{FutureKind, OfTask, Future, Task, Handle, Parts}
 use Rattle.model_loop.specs.Handles.{soon, soon_all}
-use Rattle.model_loop.specs.Futures.{with_future, settle, settled, settled_as, register, registered, registered_on, mark_asked, make_future}
+use Rattle.model_loop.specs.Futures.{with_future, settle, register, mark_asked, make_future}
 use Rattle.model_loop.specs.Tasks.{change_task, spawn, next_task}
 use Rattle.model_loop.specs.Cancel.{Canceller, cancel}
+use Rattle.model_loop.proofs.FutureCases.{registered, registered_on, settled, settled_as}
 use Rattle.law_cancel.proofs.CancelCases.{cancel_at}
 use Rattle.law_cancel.proofs.Effects.{done_as, asked_as}
 use Rattle.algorithm_parts.proofs.Commuting.{SeesRequests, changes, cancels}

@@ -8,11 +8,12 @@ use Rattle.model_value.specs.declared.action.Action.TheVariants.{MainDone}
 use Rattle.model_value.specs.Value.{Outcome}
 use Rattle.model_loop.specs.Parts.{FutureKind, Future, Task, Parts}
 use Rattle.model_loop.specs.Handles.{soon}
-use Rattle.model_loop.specs.Futures.{is_pending_at, with_future, settle, settled, register, registered, registered_on, mark_asked}
+use Rattle.model_loop.specs.Futures.{is_pending_at, with_future, settle, register, mark_asked}
 use Rattle.model_loop.specs.Totals.{callbacks_of, callbacks_at}
 use Rattle.model_loop.specs.Owning.{owner_of, owner_at, owner_in, OwnsFutures}
 use Rattle.model_loop.specs.Ways.{steps}
 use Rattle.model_loop.specs.Sound.{HasNoCycle, ArePartsSound}
+use Rattle.model_loop.proofs.FutureCases.{registered, registered_on, settled}
 use Rattle.law_cancel.proofs.PassCases.{passes_at}
 use Rattle.law_cancel.proofs.Cycling.{no_cycle_kept, passes-same, register-view}
 use Rattle.law_cancel.proofs.Effects.{register-tasks, mark_asked-tasks, asked_as}

@@ -6,6 +6,7 @@ use Rattle.model_value.specs.Value.{Outcome}
 use Rattle.model_loop.specs.Parts.{OfTask, Future}
 use Rattle.model_loop.specs.Futures as plain
 use Rattle.model_loop.specs.Tasks.{spawn}
+use Rattle.model_loop.proofs.FutureCases as cases
 use Rattle.aio_ready.specs.Queue as queue
 use Rattle.aio_future.specs.Settled.{registered, registered_at, registered_until, soon_if_done, soon_at, soon_until}
 use Rattle.aio_cancel.specs.Awaitables.{Awaitables, parts, Appended}
@@ -17,7 +18,7 @@ pub register-parts : (id : ℕ) (action : Action) (v : Awaitables)
 register-parts id action v = at (slice_get v.futures id)
   where
     until : (future : Future) (x : Option Outcome)
-        → plain.registered_on x id future action (parts v)
+        → cases.registered_on x id future action (parts v)
         ≡ parts (record {
           queue = soon_until x action v.queue;
           futures = registered_until x future id action v.futures;
@@ -27,7 +28,7 @@ register-parts id action v = at (slice_get v.futures id)
     until future None = refl
 
     at : (o : Option Future)
-        → plain.registered o id action (parts v)
+        → cases.registered o id action (parts v)
         ≡ parts (record { queue = soon_at o action v.queue; futures = registered_at o id action v.futures; tasks = v.tasks })
     at None = refl
     at (Some future) = until future future.outcome

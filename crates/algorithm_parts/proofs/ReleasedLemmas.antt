@@ -7,9 +7,10 @@ use Rattle.model_value.specs.declared.outcome.Outcome.TheVariants.{Cancelled}
 use Rattle.model_value.specs.Value.{Outcome}
 use Rattle.model_loop.specs.Parts.{FutureKind, Future, Task, Parts}
 use Rattle.model_loop.specs.Handles.{soon, soon_all}
-use Rattle.model_loop.specs.Futures.{with_future, settle, settled, settled_as, mark_asked}
+use Rattle.model_loop.specs.Futures.{with_future, settle, mark_asked}
 use Rattle.model_loop.specs.Tasks.{change_task}
 use Rattle.model_loop.specs.Cancel.{Canceller, answers, cancel}
+use Rattle.model_loop.proofs.FutureCases.{settled, settled_as}
 use Rattle.law_cancel.proofs.CancelCases.{cancel_until, cancel_at}
 use Rattle.law_cancel.proofs.Effects.{done_as, asked_as}
 use Rattle.law_cancel.proofs.Trace.{Goes, begins, settles, asks, raises, sets_must_cancel}

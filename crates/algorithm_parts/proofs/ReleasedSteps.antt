@@ -10,11 +10,12 @@ use Rattle.model_value.specs.declared.outcome.Outcome.TheVariants.{Cancelled, Va
 use Rattle.model_value.specs.Value.{Outcome, Value, Exc}
 use Rattle.model_loop.specs.Parts.{FutureKind, Plain, OfTask, Many, Future, Task, Parts}
 use Rattle.model_loop.specs.Handles.{soon}
-use Rattle.model_loop.specs.Futures.{settle, register, registered, registered_on, make_future, next_future}
+use Rattle.model_loop.specs.Futures.{settle, register, make_future, next_future}
 use Rattle.model_loop.specs.Tasks.{change_task, spawn, next_task, future_of, set_waiter, clear_must_cancel, must_cancel_of, is_cancelled, finish}
 use Rattle.model_loop.specs.Cancel.{cancel}
 use Rattle.model_loop.specs.Cycles.{passes, leads_within, leads, cycle}
 use Rattle.model_loop.specs.Suspend.{wait_on, cancel_wait, suspend}
+use Rattle.model_loop.proofs.FutureCases.{registered, registered_on}
 use Rattle.law_cancel.proofs.SuspendCases.{suspend_unless}
 use Rattle.law_cancel.proofs.PassCases.{passes_at, passes_until}
 use Rattle.law_cancel.proofs.Lookups.{get-set_kept}

@@ -8,9 +8,10 @@ use Rattle.model_value.specs.Action.{Action}
 use Rattle.model_value.specs.declared.outcome.Outcome.TheVariants.{Cancelled}
 use Rattle.model_value.specs.Value.{Outcome}
 use Rattle.model_loop.specs.Parts.{FutureKind, Plain, OfTask, Many, Future, Task, Parts}
-use Rattle.model_loop.specs.Futures.{with_future, settle, settled, settled_as, register, registered, registered_on, mark_asked, make_future, asked_kind}
+use Rattle.model_loop.specs.Futures.{with_future, settle, register, mark_asked, make_future, asked_kind}
 use Rattle.model_loop.specs.Tasks.{change_task}
 use Rattle.model_loop.specs.Cancel.{cancel}
+use Rattle.model_loop.proofs.FutureCases.{registered, registered_on, settled, settled_as}
 use Rattle.law_cancel.proofs.Lookups.{get-set_kept, get-set_other, get-push_last, get-push_other, get_within}
 use Rattle.law_cancel.proofs.Effects.{soon_all-futures, settle-futures, done_as, asked_as, change_task-futures}
 use Rattle.law_cancel.proofs.Trace.{Goes, begins, settles, asks, raises, sets_must_cancel, with_row}

@@ -5,9 +5,10 @@ use Rattle.std.proofs.Math.Nat.{pow-le-pow_right, one-le-pow, mul-le-mul_left, m
 use Rattle.std.specs.Option.{option_map, option_map_or}
 use Rattle.model_value.specs.Value.{Outcome}
 use Rattle.model_loop.specs.Parts.{FutureKind, Plain, OfTask, Many, Future, Task, Parts}
-use Rattle.model_loop.specs.Futures.{with_future, settle, settled, settled_as, mark_asked, asked_kind}
+use Rattle.model_loop.specs.Futures.{with_future, settle, mark_asked, asked_kind}
 use Rattle.model_loop.specs.Tasks.{set_must_cancel, raise_count}
 use Rattle.model_loop.specs.Cancel.{has_seen}
+use Rattle.model_loop.proofs.FutureCases.{settled, settled_as}
 use Rattle.law_cancel.proofs.Seen.{left, left-push, left_falls}
 use Rattle.law_cancel.proofs.Effects.{soon_all-futures, settle-tasks, mark_asked-tasks, change_task-futures, length-change_task, done_as, asked_as}
 use Rattle.algorithm_parts.specs.Shape.{members_of, members_at}

@@ -13,13 +13,14 @@ use Rattle.model_value.specs.declared.action.CycleKind.TheVariants.{Itself, ItsW
 use Rattle.model_value.specs.Value.{Outcome}
 use Rattle.model_loop.specs.Parts.{FutureKind, Plain, OfTask, Many, Future, Task, Parts}
 use Rattle.model_loop.specs.Handles.{soon}
-use Rattle.model_loop.specs.Futures.{next_future, settle, register, registered, registered_on, mark_asked}
+use Rattle.model_loop.specs.Futures.{next_future, settle, register, mark_asked}
 use Rattle.model_loop.specs.Tasks.{waiter_of, future_of, change_task, clear_must_cancel, must_cancel_of}
 use Rattle.model_loop.specs.Cancel.{cancel}
 use Rattle.model_loop.specs.Cycles.{passes, PassesTo, Leads, at_once, through, leads, cycle}
 use Rattle.model_loop.specs.Suspend.{wait_on, cancel_wait, suspend}
 use Rattle.model_loop.specs.Owning.{OwnsFutures, own_future, owner_at, owner_in}
 use Rattle.model_loop.specs.Sound.{HasNoCycle}
+use Rattle.model_loop.proofs.FutureCases.{registered, registered_on}
 use Rattle.law_cancel.proofs.SuspendCases.{suspend_unless}
 use Rattle.law_cancel.proofs.PassCases.{passes_of_kind, passes_until, passes_at}
 use Rattle.law_cancel.proofs.Lookups.{get-set_same, get-set_other, get-set_kept}

@@ -6,8 +6,9 @@ use Rattle.model_value.specs.Action.{Action}
 use Rattle.model_value.specs.Value.{Outcome}
 use Rattle.model_loop.specs.Parts.{Future, Task, Parts}
 use Rattle.model_loop.specs.Handles.{soon, soon_all}
-use Rattle.model_loop.specs.Futures.{with_future, settle, settled, settled_as, register, registered, registered_on, mark_asked, asked_kind}
+use Rattle.model_loop.specs.Futures.{with_future, settle, register, mark_asked, asked_kind}
 use Rattle.model_loop.specs.Tasks.{change_task}
+use Rattle.model_loop.proofs.FutureCases.{registered, registered_on, settled, settled_as}
 
 pub soon_all-futures : (actions : List Action) (p : Parts) → (soon_all actions p).futures ≡ p.futures
 soon_all-futures [] p = refl

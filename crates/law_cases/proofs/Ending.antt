@@ -13,8 +13,9 @@ use Rattle.model_wire.specs.Trace.{End}
 use Rattle.model_loop.specs.Futures.{is_pending, is_pending_at, new_plain, next_future, settle}
 use Rattle.model_loop.specs.Handles.{soon}
 use Rattle.model_loop.specs.Loop.{Loop}
-use Rattle.model_loop.specs.Owning.{is_plain, is_plain_at}
+use Rattle.model_loop.specs.Owning.{is_plain}
 use Rattle.model_loop.specs.Parts.{Parts, Plain}
+use Rattle.model_loop.proofs.FutureCases.{is_plain_at}
 use Rattle.model_stream.specs.Doing.{Doing, Ends, Changes, Asks, MakeFuture, CallSoon, Settle}
 use Rattle.model_machine.specs.Does.{does}
 use Rattle.model_machine.specs.State.{State, noted, unbooked_in}

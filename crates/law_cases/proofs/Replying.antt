@@ -13,8 +13,9 @@ use Rattle.model_value.specs.Value.{Value, Nothing, Bytes, Int, Server, Child, C
 use Rattle.model_wire.specs.declared.event.Handed.{Handed}
 use Rattle.model_wire.specs.declared.event.Handed.TheVariants as to
 use Rattle.model_loop.specs.Futures.{future_outcome, is_pending, is_pending_at, next_future, outcome_at}
-use Rattle.model_loop.specs.Owning.{is_plain, is_plain_at}
+use Rattle.model_loop.specs.Owning.{is_plain}
 use Rattle.model_loop.specs.Parts.{Future}
+use Rattle.model_loop.proofs.FutureCases.{is_plain_at}
 use Rattle.model_stream.specs.declared.answers.ChildWait.{ChildWait}
 use Rattle.model_stream.specs.declared.answers.ChildWait.TheVariants as wait_as
 use Rattle.model_stream.specs.declared.answers.Drain.TheVariants as drain_as

@@ -9,7 +9,8 @@ use Rattle.model_loop.specs.Parts.{Handle, Timer, FutureKind, Plain, OfTask, Man
 use Rattle.model_loop.specs.Handles.{placed, by_deadline, fall_due, due}
 use Rattle.model_loop.specs.Futures.{next_future, make_future, new_plain, new_many}
 use Rattle.model_loop.specs.Tasks.{next_task, spawn}
-use Rattle.model_loop.specs.Numbered.{stamps_of, tags_of, occurrences, AreGivenOnce, members_in, members_at, IsNumbered}
+use Rattle.model_loop.specs.Numbered.{stamps_of, tags_of, occurrences, AreGivenOnce, members_of, IsNumbered}
+use Rattle.model_loop.proofs.FutureCases.{members_at, members_in}
 use Rattle.law_cancel.proofs.Lookups.{get-push_last, get-push_other}
 use Rattle.law_changes.proofs.Numbering.{given_more, occurrences-pushed, stamp_of, tag_of, timer_tag, tagged, one_at, soon_numbers}
 
@@ -107,7 +108,7 @@ due_numbers p is = record {
     once = λ k. rw same_tags (is.tags.once k);
     below = λ k h. rw same_tags (is.tags.below k (rw (fall_due-next (by_deadline (early p.time p.timers)) rest) at h));
   };
-  members = λ id. rw (fall_due-futures (by_deadline (early p.time p.timers)) rest) (is.members id);
+  members = λ id. rw (fall_due-futures (by_deadline (early p.time p.timers)) rest, members_of) (is.members id);
 }
   where
     rest : Parts

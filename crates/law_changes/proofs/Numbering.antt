@@ -9,9 +9,10 @@ use Rattle.model_value.specs.Action.{Action}
 use Rattle.model_value.specs.Value.{Outcome}
 use Rattle.model_loop.specs.Parts.{Handle, Timer, FutureKind, Plain, OfTask, Many, Future, Task, Parts}
 use Rattle.model_loop.specs.Handles.{soon, soon_all, later, revoke, cancelled_if}
-use Rattle.model_loop.specs.Futures.{with_future, settle, settled, settled_as, register, registered, registered_on, mark_asked, asked_kind}
+use Rattle.model_loop.specs.Futures.{with_future, settle, register, mark_asked, asked_kind}
 use Rattle.model_loop.specs.Tasks.{change_task}
-use Rattle.model_loop.specs.Numbered.{stamps_of, tags_of, occurrences, AreGivenOnce, members_in, members_at, IsNumbered}
+use Rattle.model_loop.specs.Numbered.{stamps_of, tags_of, occurrences, AreGivenOnce, IsNumbered}
+use Rattle.model_loop.proofs.FutureCases.{members_at, members_in, registered, registered_on, settled, settled_as}
 use Rattle.law_cancel.proofs.Lookups.{get-set_kept}
 use Rattle.law_cancel.proofs.Effects.{done_as, asked_as}
 

@@ -11,15 +11,16 @@ use Rattle.model_value.specs.declared.action.Action.TheVariants.{GroupDone}
 use Rattle.model_loop.proofs.GroupCases.{create_unless}
 use Rattle.model_loop.specs.Parts.{OfTask, Future, Task, Parts}
 use Rattle.model_loop.specs.Loop.{Group, Loop, in_parts}
-use Rattle.model_loop.specs.Futures.{outcome_at, future_outcome, with_future, registered, next_future}
+use Rattle.model_loop.specs.Futures.{outcome_at, future_outcome, with_future, next_future}
 use Rattle.model_loop.specs.Tasks.{next_task, lives, future_of, spawn}
 use Rattle.model_loop.specs.Groups.{new_group, group_of, set_group, Refusal, NotEntered, IsFinished, refusal, with_child, create, failure_in, failure_of}
 use Rattle.model_loop.specs.Children.{tells, IsTold, HasErrors, body_at_end, HasPlainExit}
 use Rattle.model_loop.specs.Numbered.{occurrences}
 use Rattle.model_loop.specs.Totals.{callbacks_of, callbacks_at, pending_where, registered_at, total, IsAtHome}
 use Rattle.law_cancel.proofs.Lookups.{get-set_same, get-set_other}
-use Rattle.model_loop.specs.Owning.{own_future, is_plain_at}
+use Rattle.model_loop.specs.Owning.{own_future}
 use Rattle.model_loop.specs.Sound.{ArePartsSound}
+use Rattle.model_loop.proofs.FutureCases.{is_plain_at, registered}
 use Rattle.law_groups.specs.Holds.{Holds}
 use Rattle.law_steps.proofs.Looks.{future_of-owned}
 use Rattle.law_groups.proofs.Told.{failures_kept, own_is}

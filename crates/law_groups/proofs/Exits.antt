@@ -19,7 +19,8 @@ use Rattle.model_loop.specs.Children.{HasPlainExit, IsOrderly, body_at_end, fail
 use Rattle.law_groups.proofs.Holding.{request_each_holds, group_same, group_other, Fits, fits_at, set_holds}
 use Rattle.law_groups.proofs.ChildDone.{fits_again, flag_fits}
 use Rattle.law_steps.proofs.Making.{made_new}
-use Rattle.model_loop.specs.Owning.{is_plain, is_plain_at}
+use Rattle.model_loop.specs.Owning.{is_plain}
+use Rattle.model_loop.proofs.FutureCases.{is_plain_at}
 use Rattle.law_groups.proofs.MakingHolds.{make_holds}
 
 abbrev pub AllOrderly : Loop → Type 0

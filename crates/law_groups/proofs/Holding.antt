@@ -14,9 +14,10 @@ use Rattle.model_loop.specs.Groups.{failure_in, new_group, group_of, set_group}
 use Rattle.model_loop.specs.Numbered.{occurrences}
 use Rattle.law_cancel.proofs.Counting.{goes-done}
 use Rattle.law_steps.specs.Frames.{IsNoTask, Covers}
-use Rattle.model_loop.specs.Owning.{owner_at, owner_of, own_future, is_plain, is_plain_at}
+use Rattle.model_loop.specs.Owning.{owner_at, owner_of, own_future, is_plain}
 use Rattle.model_loop.specs.Sound.{ArePartsSound}
 use Rattle.model_loop.specs.Children.{IsTold, IsKeptGroup, HasErrors, body_at_end, HasPlainExit}
+use Rattle.model_loop.proofs.FutureCases.{is_plain_at}
 use Rattle.law_groups.specs.Holds.{Holds}
 use Rattle.law_steps.proofs.Settling.{IsSettled, settle_cases, settle_effect}
 use Rattle.law_steps.proofs.Looks.{LooksSame, future_of-same, change_looks_same, asked_looks_same}

@@ -2,7 +2,7 @@
 use Rattle.std.proofs.Common.{◌≡◌, ℕ, Bool, List, None, Option, Some, [], ap, arith, cond, false, not, refl, slice_get, slice_set, subst, sym, true}
 use Rattle.std.proofs.Common.{◌&&◌, ◌++◌, ◌+◌, ◌==◌, ◌∙◌, ◌∷◌, ◌<◌, ◌≤◌}
 use Rattle.model_loop.specs.Tasks.{begin_step, change_task, next_task, set_waiter, spawn}
-use Rattle.model_loop.specs.Futures.{make_future, mark_asked, next_future, register, registered, registered_on, settle, settled, settled_as}
+use Rattle.model_loop.specs.Futures.{make_future, mark_asked, next_future, register, settle}
 use Rattle.model_loop.specs.Futures.{with_future}
 use Rattle.model_loop.specs.Loop.{Timeout}
 use Rattle.model_loop.specs.Handles.{soon, soon_all}
@@ -32,6 +32,7 @@ use Rattle.law_steps.proofs.CancelSound.{settled_callbacks}
 use Rattle.model_loop.specs.Owning.{AreCallbacks, is_callback, is_no_callback, is_plain}
 use Rattle.law_steps.specs.Frames.{taken}
 use Rattle.model_loop.specs.Totals.{callbacks_at, callbacks_of}
+use Rattle.model_loop.proofs.FutureCases.{registered, registered_on, settled, settled_as}
 use Rattle.std.specs.Option.{option_map_or}
 use Rattle.std.proofs.lemmas.Bool.{false≢true, ne_eqb}
 use Rattle.law_cancel.proofs.Effects.{asked_as, change_task-futures}

@@ -5,7 +5,7 @@ use Rattle.model_loop.specs.Loop.{Group}
 use Rattle.model_loop.specs.Tasks.{future_of, lives, next_task, spawn}
 use Rattle.law_groups.proofs.Told.{failures_kept, own_is}
 use Rattle.law_steps.proofs.CancelSound.{plain_within}
-use Rattle.model_loop.specs.Owning.{is_plain_at, own_future}
+use Rattle.model_loop.specs.Owning.{own_future}
 use Rattle.model_loop.specs.Totals.{IsAtHome, callbacks_at, callbacks_of, pending_where, registered_at, total}
 use Rattle.model_loop.specs.Children.{body_at_end, tells}
 use Rattle.law_steps.proofs.Spawning.{called, live_in, new_lived_not, new_none, new_task, no_future, no_task, old_future, old_lives, old_task, spawn_sound}
@@ -20,6 +20,7 @@ use Rattle.model_loop.specs.Parts.{Parts, Task}
 use Rattle.std.proofs.lemmas.Bool.{cases_eq, cases_lt, false≢true}
 use Rattle.law_steps.proofs.Looks.{future_of-owned}
 use Rattle.model_loop.specs.Groups.{failure_in, failure_of}
+use Rattle.model_loop.proofs.FutureCases.{is_plain_at}
 
 module _ (running excused : Option ℕ) (told : ℕ → List ℕ) (groups : ℕ → Group) (p : Parts) (is : Holds running excused told told groups p) where
   abbrev n : ℕ

@@ -29,7 +29,8 @@ use Rattle.model_value.specs.Input.{Input}
 use Rattle.law_steps.specs.Frames.{taken}
 use Rattle.model_value.specs.Action.{Action, CycleKind}
 use Rattle.model_loop.specs.Handles.{soon}
-use Rattle.model_loop.specs.Owning.{is_plain_at, owner_at}
+use Rattle.model_loop.specs.Owning.{owner_at}
+use Rattle.model_loop.proofs.FutureCases.{is_plain_at}
 
 -- a change of a task that keeps its future
 change_names : (id : ℕ) (change : Task → Task) (p : Parts) → ((t : Task) → (change t).future ≡ t.future)

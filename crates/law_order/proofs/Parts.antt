@@ -11,11 +11,12 @@ use Rattle.model_value.specs.Value.{Outcome}
 use Rattle.model_wire.specs.declared.event.Handed.{Handed}
 use Rattle.model_wire.specs.declared.event.Handed.TheVariants as to
 use Rattle.model_loop.specs.Entries.{timers_where}
-use Rattle.model_loop.specs.Futures.{asked_kind, make_future, mark_asked, register, registered, registered_on, settle, with_future}
+use Rattle.model_loop.specs.Futures.{asked_kind, make_future, mark_asked, register, settle, with_future}
 use Rattle.model_loop.specs.Handles.{soon, later, revoke, due}
 use Rattle.model_loop.specs.Parts.{Future, FutureKind, Parts, Task}
 use Rattle.model_loop.specs.Tasks.{change_task, next_task, spawn}
 use Rattle.model_loop.specs.Totals.{callbacks_at, callbacks_of}
+use Rattle.model_loop.proofs.FutureCases.{registered, registered_on}
 use Rattle.model_stream.specs.Doing.{CallSoon}
 use Rattle.law_cancel.proofs.Lookups.{get-set_kept}
 use Rattle.law_changes.specs.Changes.{PartsChange, CallsSoon, CallsLater, Revokes, MakesFuture, Settles, Registers, KeepsAsked, MakesTask, WaitsFor}

@@ -7,11 +7,12 @@ use Rattle.std.specs.Option.{option_map_or}
 use Rattle.std.proofs.lemmas.Bool.{cases_eq}
 use Rattle.model_value.specs.Action.{Action}
 use Rattle.model_value.specs.Value.{Outcome}
-use Rattle.model_loop.specs.Futures.{future_outcome, is_pending, mark_asked, outcome_at, register, registered, registered_on, settle, settled, settled_as}
+use Rattle.model_loop.specs.Futures.{future_outcome, is_pending, mark_asked, outcome_at, register, settle}
 use Rattle.model_loop.specs.Futures.{asked_kind, is_pending_at, with_future}
 use Rattle.model_loop.specs.Loop.{Loop}
 use Rattle.model_loop.specs.Parts.{Future, Parts}
 use Rattle.model_loop.specs.Totals.{callbacks_of, pending_where}
+use Rattle.model_loop.proofs.FutureCases.{registered, registered_on, settled, settled_as}
 use Rattle.model_machine.specs.State.{State}
 use Rattle.law_cancel.proofs.Effects.{change_task-futures, soon_all-futures}
 use Rattle.law_cancel.proofs.Lookups.{get-set_other, get-set_same}

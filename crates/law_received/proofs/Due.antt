@@ -7,11 +7,12 @@ use Rattle.std.proofs.lemmas.List.{append-nil, append_assoc}
 use Rattle.model_value.specs.declared.action.Action.TheVariants as action
 use Rattle.model_value.specs.Action.{Action}
 use Rattle.model_value.specs.Value.{Outcome}
-use Rattle.model_loop.specs.Futures.{asked_kind, make_future, mark_asked, register, registered, registered_on, settle, settled, settled_as, with_future}
+use Rattle.model_loop.specs.Futures.{asked_kind, make_future, mark_asked, register, settle, with_future}
 use Rattle.model_loop.specs.Handles.{by_deadline, cancelled_if, due, fall_due, later, placed, revoke, soon, soon_all}
 use Rattle.model_loop.specs.Parts.{Future, FutureKind, Handle, OfTask, Parts, Plain, Task, Timer}
 use Rattle.model_loop.specs.Tasks.{change_task, next_task, spawn}
 use Rattle.model_loop.specs.Totals.{callbacks_at}
+use Rattle.model_loop.proofs.FutureCases.{registered, registered_on, settled, settled_as}
 use Rattle.model_stream.specs.Doing.{CallSoon, MakeFuture, Settle}
 use Rattle.model_stream.specs.Requests.{StreamReader}
 use Rattle.model_stream.specs.Streams.{Streams}

@@ -11,10 +11,11 @@ use Rattle.model_value.specs.declared.action.Action.TheVariants.{Step}
 use Rattle.model_value.specs.Value.{Value}
 use Rattle.model_loop.specs.Entries.{entries}
 use Rattle.model_loop.specs.Futures.{is_pending, next_future}
-use Rattle.model_loop.specs.Owning.{OwnsFutures, is_plain, is_plain_at, is_plain_kind, owner_at, owner_of, own_future}
+use Rattle.model_loop.specs.Owning.{OwnsFutures, is_plain, owner_at, owner_of, own_future}
 use Rattle.model_loop.specs.Parts.{Future, FutureKind, Plain, Handle, Parts, Task, Timer}
 use Rattle.model_loop.specs.Tasks.{future_of, lives, next_task}
 use Rattle.model_loop.specs.Totals.{pending_where}
+use Rattle.model_loop.proofs.FutureCases.{is_plain_at, is_plain_kind}
 use Rattle.model_machine.specs.Sound.{IsUnbegun, NamesItsSleep, ends_sleep_of}
 use Rattle.law_cancel.proofs.Lookups.{get_within}
 use Rattle.law_steps.proofs.Waiting.{task_there}

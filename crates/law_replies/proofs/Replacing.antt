@@ -5,8 +5,9 @@ use Rattle.std.proofs.lemmas.Bool.{cases_lt, false≢true}
 use Rattle.std.proofs.lemmas.Option.{slice_get_past}
 use Rattle.model_value.specs.Request.{Request}
 use Rattle.model_loop.specs.Futures.{next_future}
-use Rattle.model_loop.specs.Owning.{is_plain, is_plain_at}
+use Rattle.model_loop.specs.Owning.{is_plain}
 use Rattle.model_loop.specs.Parts.{Parts}
+use Rattle.model_loop.proofs.FutureCases.{is_plain_at}
 use Rattle.model_machine.specs.Extra.{Extra}
 use Rattle.model_machine.specs.Sound.{AreKeptOnce, AreScriptsFutures, AreStreamsFutures, IsOpenedAt, IsSoundBut}
 use Rattle.model_machine.specs.Sound.{IsSoundOver}

@@ -8,11 +8,12 @@ use Rattle.model_value.specs.declared.outcome.Outcome.TheVariants.{Value as Retu
 use Rattle.model_value.specs.Value.{Value, Exc, Group, Outcome}
 use Rattle.model_says.specs.Endings.{Returns, Raises}
 use Rattle.model_says.specs.Says.{step_limit}
-use Rattle.model_loop.specs.Futures.{is_pending, is_pending_at, settle, settled, settled_as}
+use Rattle.model_loop.specs.Futures.{is_pending, is_pending_at, settle}
 use Rattle.model_loop.specs.Groups.{group_of, new_group}
 use Rattle.model_loop.specs.Loop.{Group as GroupFields}
 use Rattle.model_loop.specs.Parts.{Future, Parts}
 use Rattle.model_loop.specs.Tasks.{finish, future_of, is_cancelled, must_cancel_of, lives, next_task, clear_must_cancel}
+use Rattle.model_loop.proofs.FutureCases.{settled, settled_as}
 use Rattle.model_machine.specs.Extra.{Extra}
 use Rattle.model_machine.specs.Sound.{IsStateSound, blocks_of, exchanges_of, names_made}
 use Rattle.model_machine.specs.State.{State, generator_of, unbooked_in}

@@ -18,7 +18,7 @@ use Rattle.model_loop.specs.Numbered.{IsNumbered}
 use Rattle.law_cancel.proofs.PassCases.{passes_at}
 use Rattle.law_cancel.proofs.Effects.{register-tasks}
 use Rattle.law_steps.proofs.CancelSound.{plain_within, settled_callbacks}
-use Rattle.model_loop.specs.Owning.{AreCallbacks, is_callback, is_no_callback, is_plain, is_plain_at}
+use Rattle.model_loop.specs.Owning.{AreCallbacks, is_callback, is_no_callback, is_plain}
 use Rattle.law_cancel.proofs.Lookups.{get-push_last, get-push_other}
 use Rattle.model_loop.specs.Ledger.{Booked, ByAbort, ByGroup, Origin, ask_cancel, request_each, uncancel_by}
 use Rattle.law_changes.proofs.Numbering.{change_task_numbers, mark_asked_numbers, register_numbers, settle_numbers, soon_numbers, taken_numbers}
@@ -49,6 +49,7 @@ use Rattle.model_value.specs.declared.outcome.Outcome.TheVariants.{Value as Retu
 use Rattle.std.proofs.lemmas.Bool.{cases_eq}
 use Rattle.std.proofs.lemmas.Option.{slice_get_past}
 use Rattle.model_loop.specs.Sound.{HasNoCycle}
+use Rattle.model_loop.proofs.FutureCases.{is_plain_at}
 use Rattle.model_value.specs.declared.action.Action.TheVariants.{GroupDone}
 
 pub record Carries (p q : Parts) : Type 0 where

@@ -7,15 +7,16 @@ use Rattle.std.specs.Option.{option_map_or}
 use Rattle.model_value.specs.Action.{Action}
 use Rattle.model_value.specs.Value.{Outcome}
 use Rattle.model_loop.specs.Children.{tells}
-use Rattle.model_loop.specs.Futures.{outcome_at, register, registered, registered_on, with_future}
+use Rattle.model_loop.specs.Futures.{outcome_at, register, with_future}
 use Rattle.model_loop.specs.Groups.{group_of}
 use Rattle.model_loop.specs.Handles.{soon}
 use Rattle.model_loop.specs.Loop.{Group, Loop, in_parts}
-use Rattle.model_loop.specs.Owning.{is_callback, is_plain_at, owner_at}
+use Rattle.model_loop.specs.Owning.{is_callback, owner_at}
 use Rattle.model_loop.specs.Parts.{Future, Parts, Task}
 use Rattle.model_loop.specs.Sound.{IsSound}
 use Rattle.model_loop.specs.Totals.{callbacks_at, pending_where}
 use Rattle.model_loop.specs.Ways.{steps}
+use Rattle.model_loop.proofs.FutureCases.{is_plain_at, registered, registered_on}
 use Rattle.law_cancel.proofs.Effects.{register-tasks}
 use Rattle.law_cancel.proofs.Lookups.{get-set_kept}
 use Rattle.law_steps.proofs.Registering.{callback_living, callback_sound}

@@ -36,7 +36,7 @@ use Rattle.model_loop.specs.Futures.{is_pending, new_many, new_plain, next_futur
 use Rattle.std.proofs.lemmas.Bool.{cases_eq, eq-eqb, ne_eqb}
 use Rattle.model_loop.specs.Suspend.{suspend}
 use Rattle.law_steps.proofs.Passing.{begin_no_cycle, make_no_cycle, same_tasks_no_cycle}
-use Rattle.model_loop.specs.Owning.{is_plain, is_plain_at}
+use Rattle.model_loop.specs.Owning.{is_plain}
 use Rattle.law_groups.specs.Holds.{Holds}
 use Rattle.law_steps.proofs.Making.{plain_old}
 use Rattle.law_cancel.proofs.Counting.{change_task-kept}
@@ -56,6 +56,7 @@ use Rattle.model_loop.specs.Ways.{steps}
 use Rattle.model_loop.specs.Ending.{cancel_everything}
 use Rattle.law_changes.proofs.LoopBalance.{book_keeps, spawn_counts}
 use Rattle.model_loop.specs.Handles.{due, later, revoke}
+use Rattle.model_loop.proofs.FutureCases.{is_plain_at}
 
 -- ---- what a sound state says, by concern
 pub holds_of : (running : Option ℕ) (told : ℕ → List ℕ) (l : Loop) → IsSound running told l

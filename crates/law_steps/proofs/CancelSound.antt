@@ -18,9 +18,9 @@ use Rattle.law_cancel.proofs.Lookups.{get-set_other}
 use Rattle.law_cancel.proofs.Counting.{change_task-kept}
 use Rattle.law_cancel.proofs.Effects.{mark_asked-tasks}
 use Rattle.law_steps.specs.Frames.{IsNoTask, Covers, IsOnWaiter}
-use Rattle.model_loop.specs.Owning.{owner_in, owner_at, owner_of, own_future, OwnsFutures, AreSettled, AreCallbacks, is_no_callback, is_plain, is_plain_at}
-use Rattle.model_loop.specs.Owning.{is_plain_kind}
+use Rattle.model_loop.specs.Owning.{owner_in, owner_at, owner_of, own_future, OwnsFutures, AreSettled, AreCallbacks, is_no_callback, is_plain}
 use Rattle.model_loop.specs.Sound.{ArePartsSound}
+use Rattle.model_loop.proofs.FutureCases.{is_plain_at, is_plain_kind}
 use Rattle.law_steps.proofs.Settling.{IsSettled, settle_effect, count_fewer, settle_cases}
 use Rattle.law_steps.proofs.SettleWays.{settled-waiter, settled-pending, settled-lives, settled_keeps}
 use Rattle.law_steps.proofs.Looks.{LooksSame, future_of-owned, spent_grows_below, same-lives, same_ways, same_owns, same_settled, same_may, same_must_cancel}

@@ -19,10 +19,11 @@ use Rattle.law_cancel.proofs.SpentCases.{spent_kind, spent_until}
 use Rattle.law_cancel.proofs.Lookups.{get-set_kept}
 use Rattle.law_cancel.proofs.Effects.{asked_as, change_task-futures, length-change_task, mark_asked-futures, mark_asked-tasks}
 use Rattle.law_cancel.proofs.Counting.{change_task-kept}
-use Rattle.model_loop.specs.Owning.{owner_in, owner_at, owner_of, own_future, OwnsFutures, AreSettled, AreCallbacks, is_no_callback, is_plain_kind, is_plain_at}
+use Rattle.model_loop.specs.Owning.{owner_in, owner_at, owner_of, own_future, OwnsFutures, AreSettled, AreCallbacks, is_no_callback}
 use Rattle.model_loop.specs.Owning.{is_plain}
 use Rattle.model_loop.specs.Sound.{HasNoCycle}
 use Rattle.model_loop.specs.Children.{tells}
+use Rattle.model_loop.proofs.FutureCases.{is_plain_at, is_plain_kind}
 use Rattle.model_value.specs.declared.action.Action.TheVariants.{Step, StepInCycle, Wakeup, GroupDone}
 use Rattle.law_steps.specs.Frames.{Follows}
 use Rattle.law_cancel.proofs.Cycling.{passes-same, no_cycle_kept}

@@ -13,8 +13,9 @@ use Rattle.model_loop.specs.Ways.{one_if, steps, is_running}
 use Rattle.model_loop.specs.Totals.{callbacks_of, callbacks_at, pending_where, registered_at}
 use Rattle.model_loop.specs.MustCancel.{MayKeepMustCancel}
 use Rattle.law_cancel.proofs.Lookups.{get-push_last, get-push_other}
-use Rattle.model_loop.specs.Owning.{owner_in, owner_at, owner_of, own_future, is_no_callback, is_plain, is_plain_at}
+use Rattle.model_loop.specs.Owning.{owner_in, owner_at, owner_of, own_future, is_no_callback, is_plain}
 use Rattle.model_loop.specs.Sound.{ArePartsSound}
+use Rattle.model_loop.proofs.FutureCases.{is_plain_at}
 use Rattle.law_steps.proofs.Looks.{future_of-owned}
 use Rattle.law_steps.proofs.Spawning.{live_in, spent_same}
 use Rattle.law_steps.proofs.CancelSound.{plain_within}

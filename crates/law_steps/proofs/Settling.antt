@@ -9,9 +9,10 @@ use Rattle.model_value.specs.Action.{Action}
 use Rattle.model_value.specs.Value.{Outcome}
 use Rattle.model_loop.specs.Parts.{Handle, Future, Parts}
 use Rattle.model_loop.specs.Handles.{soon, soon_all}
-use Rattle.model_loop.specs.Futures.{with_future, settle, settled, settled_as, is_pending, is_pending_at}
+use Rattle.model_loop.specs.Futures.{with_future, settle, is_pending, is_pending_at}
 use Rattle.model_loop.specs.Totals.{callbacks_of, callbacks_at, pending_where}
-use Rattle.model_loop.specs.Owning.{owner_at, owner_of, is_plain_at, is_plain}
+use Rattle.model_loop.specs.Owning.{owner_at, owner_of, is_plain}
+use Rattle.model_loop.proofs.FutureCases.{is_plain_at, settled, settled_as}
 use Rattle.law_cancel.proofs.Lookups.{get-set_same, get-set_other}
 use Rattle.law_cancel.proofs.Effects.{settle-pending, settle-futures, settle-tasks, done_as}
 

@@ -10,7 +10,7 @@ use Rattle.std.specs.Option.{option_map_or}
 use Rattle.model_value.specs.Action.{Action, CycleKind}
 use Rattle.model_value.specs.declared.action.Action.TheVariants.{StepInCycle, Wakeup}
 use Rattle.model_loop.specs.Parts.{Future, Task, Parts}
-use Rattle.model_loop.specs.Futures.{is_pending, is_pending_at, with_future, register, registered, registered_on, future_outcome, outcome_at}
+use Rattle.model_loop.specs.Futures.{is_pending, is_pending_at, with_future, register, future_outcome, outcome_at}
 use Rattle.model_loop.specs.Tasks.{lives, waiter_of, future_of, must_cancel_of, clear_must_cancel}
 use Rattle.model_loop.specs.Spent.{spent_by, is_spent}
 use Rattle.model_loop.specs.Cancel.{CancelRequest, cancel}
@@ -24,8 +24,9 @@ use Rattle.law_cancel.proofs.Lookups.{get-set_same, get-set_other, get-set_kept}
 use Rattle.law_cancel.proofs.Counting.{change_task-kept}
 use Rattle.law_cancel.proofs.Effects.{change_task-there, change_task-futures, register-tasks, length-change_task}
 use Rattle.law_cancel.proofs.Answering.{with_answer_spent, with_still}
-use Rattle.model_loop.specs.Owning.{owner_at, owner_of, own_future, is_plain, is_plain_at, is_no_callback}
+use Rattle.model_loop.specs.Owning.{owner_at, owner_of, own_future, is_plain, is_no_callback}
 use Rattle.model_loop.specs.Sound.{ArePartsSound}
+use Rattle.model_loop.proofs.FutureCases.{is_plain_at, registered, registered_on}
 use Rattle.law_steps.proofs.Looks.{future_of-same, spent_grows_below, change_task-pending}
 use Rattle.law_steps.proofs.CancelSound.{cancel_sound, wakes_steps}
 use Rattle.law_steps.proofs.Stepping.{at_task, running_is, cleared, clear_must_cancel_sound, resumes_steps}

@@ -11,12 +11,13 @@ use Rattle.model_value.specs.declared.action.Action.TheVariants.{MainDone, Step}
 use Rattle.model_value.specs.Value.{Value, Outcome}
 use Rattle.model_loop.specs.Entries.{AreTimed, untimed}
 use Rattle.model_loop.specs.Futures.{outcome_at, is_pending, is_pending_at, make_future, mark_asked, asked_kind, next_future, register}
-use Rattle.model_loop.specs.Futures.{registered, registered_on, with_future}
+use Rattle.model_loop.specs.Futures.{with_future}
 use Rattle.model_loop.specs.Handles.{due}
-use Rattle.model_loop.specs.Owning.{is_plain, is_plain_at, is_plain_kind, is_main_done}
+use Rattle.model_loop.specs.Owning.{is_plain, is_main_done}
 use Rattle.model_loop.specs.Parts.{Future, FutureKind, Plain, OfTask, Many, Parts, Task, Timer}
 use Rattle.model_loop.specs.Tasks.{future_of, lives, next_task, spawn}
 use Rattle.model_loop.specs.Totals.{callbacks_at}
+use Rattle.model_loop.proofs.FutureCases.{is_plain_at, is_plain_kind, registered, registered_on}
 use Rattle.model_machine.specs.Sound.{IsMainTold}
 use Rattle.law_cancel.proofs.Effects.{asked_as}
 use Rattle.law_cancel.proofs.Lookups.{get-set_kept, get-push_last, get-push_other}

@@ -9,13 +9,14 @@ use Rattle.model_value.specs.declared.outcome.Outcome.TheVariants.{Value as Retu
 use Rattle.model_value.specs.Value.{Value, Outcome}
 use Rattle.model_loop.specs.Entries.{entries}
 use Rattle.model_loop.specs.Futures.{outcome_at, is_pending, is_pending_at, next_future}
-use Rattle.model_loop.specs.Futures.{settle, settled, settled_as, with_future}
+use Rattle.model_loop.specs.Futures.{settle, with_future}
 use Rattle.model_loop.specs.Handles.{later, revoke, soon, soon_all}
-use Rattle.model_loop.specs.Owning.{is_plain, is_plain_at, is_main_done}
+use Rattle.model_loop.specs.Owning.{is_plain, is_main_done}
 use Rattle.model_loop.specs.Parts.{Future, Handle, Parts, Task}
 use Rattle.model_loop.specs.Tasks.{change_task, future_of, next_task}
 use Rattle.model_loop.specs.Totals.{callbacks_at, callbacks_of, pending_where}
 use Rattle.model_loop.specs.Ways.{is_running}
+use Rattle.model_loop.proofs.FutureCases.{is_plain_at, settled, settled_as}
 use Rattle.model_machine.specs.Sound.{IsMainTold}
 use Rattle.law_cancel.proofs.Effects.{soon_all-futures, soon_all-tasks, change_task-futures, length-change_task}
 use Rattle.law_cancel.proofs.Counting.{change_task-kept}

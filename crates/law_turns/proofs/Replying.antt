@@ -15,10 +15,11 @@ use Rattle.model_loop.specs.Futures.{is_pending_at, new_plain, next_future}
 use Rattle.model_loop.specs.Groups.{GroupExit, Waits, Passes, Raises as RaisedBy, exit_begin, group_of, make_group, next_group, new_group}
 use Rattle.model_loop.specs.Handles.{deadline}
 use Rattle.model_loop.specs.Ledger.{ByScript}
-use Rattle.model_loop.specs.Owning.{is_plain, is_plain_at}
+use Rattle.model_loop.specs.Owning.{is_plain}
 use Rattle.model_loop.specs.Sound.{IsSound}
 use Rattle.model_loop.specs.Tasks.{lives}
 use Rattle.model_loop.specs.Timeouts.{exit_timeout}
+use Rattle.model_loop.proofs.FutureCases.{is_plain_at}
 use Rattle.model_machine.specs.Arguments.{as_future}
 use Rattle.model_machine.specs.Extra.{Extra}
 use Rattle.model_machine.specs.Outcomes.{input_of}

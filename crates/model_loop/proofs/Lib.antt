@@ -1,2 +1,3 @@
+pub mod FutureCases
 pub mod GroupCases
 pub mod TimeoutCases

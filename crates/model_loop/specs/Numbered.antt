@@ -1,7 +1,7 @@
 -- Stamps, tags and members: what is numbered is numbered once, and in order of making.
-use Rattle.std.specs.Prelude.{◌≡◌, ℕ, ◌<◌, ◌≤◌, List, [], ◌++◌, Option, Some, None, map, nat_eq, slice_get}
+use Rattle.std.specs.Prelude.{◌≡◌, ℕ, ◌<◌, ◌≤◌, List, [], ◌++◌, Some, None, map, nat_eq, slice_get}
 use Rattle.std.specs.List.{All, count_by}
-use Rattle.model_loop.specs.Parts.{Handle, Timer, FutureKind, Plain, OfTask, Many, Future, Parts}
+use Rattle.model_loop.specs.Parts.{Handle, Timer, Plain, OfTask, Many, Parts}
 
 abbrev pub stamps_of : Parts → List ℕ
 stamps_of p = map (λ (handle : Handle). handle.stamp) p.pending
@@ -19,17 +19,13 @@ pub record AreGivenOnce (numbers : List ℕ) (next : ℕ) : Type 0 where
   pub once : (number : ℕ) → occurrences number numbers ≤ 1
   pub below : (number : ℕ) → next ≤ number → occurrences number numbers ≡ 0
 
-abbrev pub members_in : FutureKind → List ℕ
-members_in Plain = []
-members_in (OfTask task) = []
-members_in (Many members asked) = members
-
-abbrev pub members_at : Option Future → List ℕ
-members_at None = []
-members_at (Some future) = members_in future.kind
-
+-- the futures that one stands for
 abbrev pub members_of : Parts → ℕ → List ℕ
-members_of p id = members_at (slice_get p.futures id)
+members_of p id =
+    elim (slice_get p.futures id) [
+      | None ↦ []
+      | Some future ↦ elim future.kind [ Plain ↦ [] | OfTask task ↦ [] | Many members asked ↦ members ]
+    ]
 
 pub record IsNumbered (p : Parts) : Type 0 where
   pub stamps : AreGivenOnce (stamps_of p) p.next_stamp

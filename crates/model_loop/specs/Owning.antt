@@ -49,14 +49,10 @@ is_no_callback action = not (is_callback action)
 abbrev pub AreCallbacks : Parts → Type 0
 AreCallbacks p = (id : ℕ) → count_by is_no_callback (callbacks_of p id) ≡ 0
 
-abbrev pub is_plain_kind : FutureKind → Bool
-is_plain_kind Plain = true
-is_plain_kind _ = false
-
-abbrev pub is_plain_at : Option Future → Bool
-is_plain_at None = false
-is_plain_at (Some future) = is_plain_kind future.kind
-
 -- whether there is a future of this number that is no task's and stands for no others
 abbrev pub is_plain : Parts → ℕ → Bool
-is_plain p id = is_plain_at (slice_get p.futures id)
+is_plain p id =
+    elim (slice_get p.futures id) [
+      | None ↦ false
+      | Some future ↦ elim future.kind [ Plain ↦ true | _ ↦ false ]
+    ]

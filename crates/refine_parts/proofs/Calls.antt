@@ -14,6 +14,7 @@ use Rattle.model_loop.specs.Cancel.{cancel}
 use Rattle.model_loop.specs.Ledger.{Origin, request}
 use Rattle.model_loop.specs.Suspend.{suspend}
 use Rattle.model_loop.specs.Numbered.{IsNumbered}
+use Rattle.model_loop.proofs.FutureCases as cases
 use Rattle.law_changes.proofs.CancelNumbers.{cancel_numbers}
 use Rattle.law_changes.proofs.Falling.{new_plain_numbers, new_many_numbers, spawn_numbers}
 use Rattle.law_changes.proofs.Numbering.{settle_numbers, register_numbers, mark_asked_numbers, change_task_numbers}
@@ -105,13 +106,13 @@ register-parts : (id : ℕ) (action : Action) (v : View)
 register-parts id action v = at (slice_get v.futures id)
   where
     until : (future : Future) (o : Option Outcome)
-        → plain.registered_on o id future action (parts v)
+        → cases.registered_on o id future action (parts v)
         ≡ parts (record v { futures = registered_until o future id action v.futures; queue = soon_until o action v.queue })
     until future (Some done) = soon-parts action (body v)
     until future None = refl
 
     at : (o : Option Future)
-        → plain.registered o id action (parts v)
+        → cases.registered o id action (parts v)
         ≡ parts (record v { futures = registered_at o id action v.futures; queue = soon_at o action v.queue })
     at None = refl
     at (Some future) = until future future.outcome

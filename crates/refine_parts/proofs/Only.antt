@@ -12,10 +12,11 @@ use Rattle.model_value.specs.Input.{Input}
 use Rattle.model_value.specs.Value.{Outcome, Value, Exc}
 use Rattle.model_loop.specs.Parts.{FutureKind, OfTask, Future, Task, Parts}
 use Rattle.model_loop.specs.Handles.{soon, soon_all}
-use Rattle.model_loop.specs.Futures.{with_future, settle, settled, settled_as, register, registered, registered_on, mark_asked, make_future, next_future}
+use Rattle.model_loop.specs.Futures.{with_future, settle, register, mark_asked, make_future, next_future}
 use Rattle.model_loop.specs.Tasks.{change_task, spawn, next_task, set_waiter, clear_must_cancel, begin_step, finish, uncancel}
 use Rattle.model_loop.specs.Cancel.{cancel}
 use Rattle.model_loop.specs.Suspend.{suspend}
+use Rattle.model_loop.proofs.FutureCases.{registered, registered_on, settled, settled_as}
 use Rattle.law_cancel.proofs.Lookups.{get-set_same, get-set_other, get-push_other}
 use Rattle.law_cancel.proofs.Effects.{done_as, asked_as}
 use Rattle.law_changes.specs.Blocks.{OfRequest, cancels, keeps_asked, counts, sets_must_cancel, OfWait, cycles, registers_step, begins_wait, in_wait}

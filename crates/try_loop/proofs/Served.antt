@@ -10,8 +10,9 @@ use Rattle.model_value.specs.declared.action.Action.TheVariants.{Extra as Acts}
 use Rattle.model_value.specs.declared.outcome.Outcome.TheVariants.{Value as Returned}
 use Rattle.model_loop.specs.Futures.{new_plain, next_future, settle}
 use Rattle.model_loop.specs.Handles.{soon}
-use Rattle.model_loop.specs.Owning.{is_plain, is_plain_at, owner_at}
+use Rattle.model_loop.specs.Owning.{is_plain, owner_at}
 use Rattle.model_loop.specs.Parts.{Future, Parts, Plain}
+use Rattle.model_loop.proofs.FutureCases.{is_plain_at}
 use Rattle.model_machine.specs.Extra as extra
 use Rattle.model_machine.specs.Extra.{ExtraCall, Settles, called}
 use Rattle.model_machine.specs.State.{State}
