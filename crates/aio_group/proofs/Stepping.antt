@@ -9,7 +9,8 @@ use Rattle.model_value.specs.Value.{Exc, Nothing}
 use Rattle.model_loop.proofs.GroupCases.{abort_and_request_unless}
 use Rattle.model_loop.specs.Cancel.{cancel, has_seen}
 use Rattle.model_loop.specs.Futures.{future_outcome, settle}
-use Rattle.model_loop.specs.Groups.{group_of, set_group, is_empty, failure_in, failure_of, abort, request_parent, wake_if_last, wake_exit, without_child, blame, child_done}
+use Rattle.model_loop.specs.Groups.{group_of, set_group, is_empty, failure_in, failure_of, abort, request_parent, wake_if_last, wake_exit}
+use Rattle.model_loop.specs.Groups.{without_child, blame, child_done}
 use Rattle.model_loop.specs.Ledger.{Origin, ByAbort, ByGroup, ask_cancel, request_each}
 use Rattle.model_loop.specs.Loop.{Group, Loop, in_parts, book}
 use Rattle.model_loop.specs.Parts.{Parts}
