@@ -24,20 +24,39 @@ pub struct ChildRow {
 impl ChildRow {
     /// Whether it comes out so.
     pub fn is_right(&self, alloc: Global) -> bool {
+        let mut told = Vec::new(alloc);
+        let right = self.tells(alloc, &mut told) && told.as_slice() == self.told.as_bytes();
+        drop(told);
+        right
+    }
+
+    fn tells(&self, alloc: Global, told: &mut Vec<u8>) -> bool {
         let mut shelf = MemShelf::new(alloc);
+        let done = self.tells_over(alloc, &mut shelf, told);
+        drop(shelf);
+        done
+    }
+
+    fn tells_over(&self, alloc: Global, shelf: &mut MemShelf, told: &mut Vec<u8>) -> bool {
         if shelf.append(alloc, "j", self.answers.as_bytes()).is_err() {
             return false;
         }
-        let mut wire = JournalWire::new(alloc, &mut shelf, "j");
-        let mut told = Vec::new(alloc);
-        self.plays(alloc, &mut wire, &mut told) && told.as_slice() == self.told.as_bytes()
+        let mut wire = JournalWire::new(alloc, shelf, "j");
+        let done = self.plays(alloc, &mut wire, told);
+        drop(wire);
+        done
     }
 
     /// Makes the loop's parts and does all steps. False where one stops.
     fn plays<W: Wire>(&self, alloc: Global, wire: &mut W, told: &mut Vec<u8>) -> bool {
         match idle_parts(alloc) {
-            Ok(parts) => self.plays_on(alloc, wire, told, parts),
-            Err(_) => false,
+            Ok(mut parts) => {
+                let done = self.plays_on(alloc, wire, told, &mut parts);
+                // Let go by a call: at a scope's end all that they hold would be laid out there.
+                drop(parts);
+                done
+            }
+            Err(Memory) => false,
         }
     }
 
@@ -46,16 +65,20 @@ impl ChildRow {
         alloc: Global,
         wire: &mut W,
         told: &mut Vec<u8>,
-        parts: Parts,
+        parts: &mut Parts,
     ) -> bool
-        requires idle { parts.called ≡ None }
+        requires idle { parts.old.called ≡ None }
     {
-        let mut parts = parts;
         let mut children = Children::new(alloc, self.most);
-        let done = self.does_steps(alloc, wire, &mut children, &mut parts, told);
-        forget_parts(parts);
-        forget_children(children);
-        done.is_ok()
+        let done = self.does_steps(alloc, wire, &mut children, parts, told);
+        drop(children);
+        match done {
+            Ok(()) => true,
+            Err(stop) => {
+                drop(stop);
+                false
+            }
+        }
     }
 
     /// Does all steps, one after the other.
@@ -96,7 +119,7 @@ fn does<W: Wire>(
     let done = act(alloc, step, children, &mut port, parts, told);
     drop(port);
     let said = tell_calls(alloc, &mut events, told);
-    forget_events(events);
+    drop(events);
     done?;
     Ok(said?)
 }
@@ -107,9 +130,3 @@ fn idle_parts(alloc: Global) -> Result<Parts, Memory>
 {
     Parts::new(alloc, 0)
 }
-
-fn forget_parts(_parts: Parts) {}
-
-fn forget_children(_children: Children) {}
-
-fn forget_events(_events: Events) {}
