@@ -11,3 +11,8 @@ pub record IsStill (v : View) : Type 0 where
 pub record RunsTask (task : ℕ) (v : View) : Type 0 where
   pub called : v.called ≡ None
   pub running : v.running ≡ Some task
+
+-- this task's step was taken from the queue, and hasn't begun
+pub record CallsTask (task : ℕ) (v : View) : Type 0 where
+  pub called : v.called ≡ Some task
+  pub running : v.running ≡ None

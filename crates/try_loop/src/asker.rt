@@ -63,7 +63,11 @@ impl Extra for Asker {
         _parts: &mut Parts,
     ) -> Result<Asked, Memory> {
         match input {
-            Input::Send(value) => hear(alloc, key, &value),
+            Input::Send(value) => {
+                let heard = hear(alloc, key, &value);
+                drop(value);
+                heard
+            }
             Input::Throw(fault) => Ok(Asked::Raise(fault)),
         }
     }
@@ -130,5 +134,7 @@ fn unknown(alloc: Global, code: i64) -> Result<Asked, Memory>
     ensures { IfOk result (λ asked. asked ≡ Asked.Raise (unknown_code code)) }
 {
     let text = format!(in alloc; "extra {code}")?;
-    Ok(Asked::Raise(exception(alloc, Kind::NameError, text.as_str())?))
+    let fault = exception(alloc, Kind::NameError, text.as_str());
+    drop(text);
+    Ok(Asked::Raise(fault?))
 }

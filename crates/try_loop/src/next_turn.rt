@@ -55,9 +55,10 @@ impl NextTurn {
         }) }
     {
         let key = self.made.len() as u64;
-        let ticket = parts.ticket(alloc)?;
         let on = parts.new_plain(alloc)?;
         self.made.push(on)?;
+        // Last, so that nothing is to be let go where memory is refused.
+        let ticket = parts.ticket(alloc)?;
         let _handle = parts.soon(ticket, Action::Extra(key));
         Ok(Asked::Wait { on, key })
     }
@@ -91,7 +92,11 @@ impl Extra for NextTurn {
         _parts: &mut Parts,
     ) -> Result<Asked, Memory> {
         match input {
-            Input::Send(value) => Ok(Asked::Answer(number_in(&value))),
+            Input::Send(value) => {
+                let number = number_in(&value);
+                drop(value);
+                Ok(Asked::Answer(number))
+            }
             Input::Throw(fault) => Ok(Asked::Raise(fault)),
         }
     }
@@ -138,7 +143,9 @@ fn unknown(alloc: Global, code: i64) -> Result<Asked, Memory>
     ensures { IfOk result (λ asked. asked ≡ Asked.Raise (unknown_code code)) }
 {
     let text = format!(in alloc; "extra {code}")?;
-    Ok(Asked::Raise(exception(alloc, Kind::NameError, text.as_str())?))
+    let fault = exception(alloc, Kind::NameError, text.as_str());
+    drop(text);
+    Ok(Asked::Raise(fault?))
 }
 
 /// An Int, or None in the place of any other value.

@@ -22,7 +22,7 @@ enum PartsCase {
     ManyTimers,
 }
 
-const CASES: [(&str, PartsCase); 12] = [
+static CASES: [(&str, PartsCase); 12] = [
     ("many_with_done_member", PartsCase::ManyWithDoneMember),
     ("chain_of_100000_waits_is_cancelled", PartsCase::Chain),
     (
@@ -61,21 +61,25 @@ impl PartsCase {
 
 /// Runs all cases, and prints a line for each: its name, and whether all came out as it must.
 pub fn run_parts<R: Print>(rt: &R, alloc: Global) -> Result<(), io::Error> {
-    for (name, case) in CASES {
-        println!(rt; "{name}: {}", verdict(alloc, case))?;
+    for (name, case) in &CASES {
+        println!(rt; "{name}: {}", verdict(alloc, *case))?;
     }
     Ok(())
 }
 
-// Each case has parts of its own.
 fn verdict(alloc: Global, case: PartsCase) -> &'static str {
-    let came = match Still::new(alloc) {
-        Ok(mut still) => case.run(alloc, &mut still),
-        Err(Memory) => Err(Memory),
-    };
-    match came {
+    match run_case(alloc, case) {
         Ok(true) => "right",
         Ok(false) => "wrong",
         Err(Memory) => "no memory",
     }
+}
+
+// Each case has parts of its own, which are let go by a call: at a scope's end all that they hold
+// would be laid out there.
+fn run_case(alloc: Global, case: PartsCase) -> Result<bool, Memory> {
+    let mut still = Still::new(alloc)?;
+    let came = case.run(alloc, &mut still);
+    drop(still);
+    came
 }

@@ -1,10 +1,10 @@
 //! A script's `main`, as it is resumed.
 use crate::line::GivenInput;
 use crate::said::text_of;
-use aio_base::{Input, Kind, Memory, Value, exception};
+use aio_base::{Exc, Input, Kind, Memory, Value, exception};
 use aio_flat::{Code, flatten};
 use aio_gen::Gen;
-use aio_script::{Program, read};
+use aio_script::read;
 use std::alloc::Global;
 use try_row::RowsStopped;
 
@@ -27,7 +27,7 @@ impl RunningGen {
                 inputs: 0,
             }),
             Err(RowsStopped) => {
-                forget_code(code);
+                drop(code);
                 Err(RowsStopped)
             }
         }
@@ -39,7 +39,10 @@ impl RunningGen {
         self.inputs = self.inputs.saturating_add(1);
         let input = input_of(alloc, self.inputs, given)?;
         let said = self.stepper.resume(alloc, &self.code, input, given.fresh)?;
-        text_of(alloc, &said)
+        let text = text_of(alloc, &said);
+        // Let go by a call, once: at a scope's end each request's values would be laid out there.
+        drop(said);
+        text
     }
 }
 
@@ -47,7 +50,7 @@ fn code_of(alloc: Global, script: &[u8]) -> Result<Code, RowsStopped> {
     match read(alloc, script) {
         Ok(program) => {
             let code = flatten(alloc, &program);
-            forget_program(program);
+            drop(program);
             Ok(code?)
         }
         Err(_) => Err(RowsStopped),
@@ -58,10 +61,6 @@ fn start(alloc: Global, code: &Code) -> Result<Gen, RowsStopped> {
     let place = place_of_main(code)?;
     Ok(Gen::start(alloc, code, place, Vec::new(alloc))?)
 }
-
-fn forget_program(_program: Program) {}
-
-fn forget_code(_code: Code) {}
 
 fn place_of_main(code: &Code) -> Result<u32, RowsStopped> {
     for (place, body) in code.bodies.iter().enumerate() {
@@ -77,10 +76,15 @@ fn place_of_main(code: &Code) -> Result<u32, RowsStopped> {
 
 fn input_of(alloc: Global, number: u32, given: GivenInput) -> Result<Input, Memory> {
     if given.throws {
-        let text = format!(in alloc; "{number}")?;
-        let fault = exception(alloc, Kind::ValueError, text.as_str())?;
-        Ok(Input::Throw(fault))
+        Ok(Input::Throw(fault_of(alloc, number)?))
     } else {
         Ok(Input::Send(Value::int(i64::from(number))))
     }
+}
+
+fn fault_of(alloc: Global, number: u32) -> Result<Exc, Memory> {
+    let text = format!(in alloc; "{number}")?;
+    let fault = exception(alloc, Kind::ValueError, text.as_str());
+    drop(text);
+    fault
 }

@@ -1,10 +1,10 @@
 //! Steps of tasks, and firings.
 ghost use Rattle.std.specs.Prelude.{◌≡◌};
 ghost use Rattle.aio_task.specs.View.{stepped};
-ghost use Rattle.try_loop.specs.Still.{IsStill, RunsTask};
+ghost use Rattle.try_loop.specs.Still.{CallsTask, IsStill, RunsTask};
 
 use aio_base::{Action, Exc, Input, Kind, Value};
-use aio_task::{FutureId, Parts, Suspension};
+use aio_task::{FutureId, Parts, Ticket};
 
 /// How a step ends.
 #[derive(Clone, Copy)]
@@ -47,14 +47,30 @@ pub fn step(parts: &mut Parts, then: Then) -> CameTo
     let Some((action, ticket)) = parts.next_below() else {
         return CameTo::Nothing;
     };
-    let Some(task) = task_of(&action) else {
-        return CameTo::Nothing;
-    };
+    let task = task_of(&action);
+    drop(action);
+    match task {
+        Some(task) => run_step(parts, task, ticket, then),
+        None => {
+            drop(ticket);
+            CameTo::Nothing
+        }
+    }
+}
+
+// A task's step, which ends so.
+fn run_step(parts: &mut Parts, task: u32, ticket: Ticket, then: Then) -> CameTo
+    requires { CallsTask task parts.old }
+    ensures { IsStill parts.new }
+{
     let input = parts.begin_step(task, ticket, Input::Send(Value::nothing()));
+    let throws = matches!(&input, Input::Throw(_));
+    drop(input);
     end(parts, task, then);
-    match input {
-        Input::Send(_) => CameTo::Sent(task),
-        Input::Throw(_) => CameTo::Thrown(task),
+    if throws {
+        CameTo::Thrown(task)
+    } else {
+        CameTo::Sent(task)
     }
 }
 
@@ -89,13 +105,21 @@ pub fn firing(parts: &mut Parts) -> Option<u32>
     ensures { IsStill parts.new }
 {
     let (action, ticket) = parts.next_below()?;
-    if let Some(task) = task_of(&action) {
-        let _input = parts.begin_step(task, ticket, Input::Send(Value::nothing()));
-        parts.pause(task);
-        return None;
+    let task = task_of(&action);
+    let fired = fired_by(&action);
+    drop(action);
+    match task {
+        Some(task) => {
+            let _came = run_step(parts, task, ticket, Then::Pauses);
+        }
+        None => drop(ticket),
     }
+    fired
+}
+
+fn fired_by(action: &Action) -> Option<u32> {
     match action {
-        Action::Fires(number) => Some(number),
+        Action::Fires(number) => Some(*number),
         _ => None,
     }
 }

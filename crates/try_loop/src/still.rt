@@ -66,7 +66,10 @@ impl Still {
         let ticket = self.parts.ticket(alloc)?;
         match self.parts.at(alloc, when, ticket, Action::Fires(number)) {
             Ok(timer) => Ok(timer),
-            Err(unplaced) => Err(unplaced.cause),
+            Err(unplaced) => {
+                drop(unplaced);
+                Err(Memory)
+            }
         }
     }
 

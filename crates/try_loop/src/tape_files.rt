@@ -17,7 +17,7 @@ pub fn run_tapes<R: Files + Print + AllocGlobal>(
     let mut tapes = Tapes::new(alloc);
     let ran = run_files(rt, alloc, paths, &mut tapes);
     let (count, differ) = (tapes.count, tapes.differ);
-    forget_tapes(tapes);
+    drop(tapes);
     ran?;
     println!(rt; "{count} tapes, {differ} differ")?;
     Ok(differ)
@@ -31,7 +31,9 @@ fn run_files<R: Files + Print + AllocGlobal>(
 ) -> Result<(), RowsStopped> {
     for path in paths {
         let text = fs::read(rt, path.as_str())?;
-        run_text(rt, alloc, &text, tapes)?;
+        let ran = run_text(rt, alloc, &text, tapes);
+        drop(text);
+        ran?;
     }
     Ok(())
 }
@@ -53,5 +55,3 @@ fn run_text<R: Print>(
     }
     Ok(())
 }
-
-fn forget_tapes(_tapes: Tapes) {}

@@ -3,6 +3,7 @@ use crate::line::{GivenInput, TapeLine};
 use crate::running::RunningGen;
 use aio_base::Memory;
 use std::alloc::Global;
+use std::mem;
 use try_row::RowsStopped;
 
 #[derive(Drop)]
@@ -40,26 +41,31 @@ impl Tapes {
         match line {
             TapeLine::Script(name) => Ok(self.begin(alloc, name)?),
             TapeLine::Text(text) => Ok(self.add(text)?),
-            TapeLine::Tape => {
-                self.count = self.count.saturating_add(1);
-                self.is_right = true;
-                self.running = Some(RunningGen::new(alloc, self.script.as_slice())?);
-                Ok(())
-            }
+            TapeLine::Tape => self.start(alloc),
             TapeLine::Input(given, wanted) => self.resume(rt, alloc, *given, wanted),
             TapeLine::Comment => Ok(()),
         }
     }
 
     fn begin(&mut self, alloc: Global, name: &str) -> Result<(), Memory> {
-        self.name = String::from_str(alloc, name)?;
-        self.script = Vec::new(alloc);
+        let name = String::from_str(alloc, name)?;
+        drop(mem::replace(&mut self.name, name));
+        drop(mem::replace(&mut self.script, Vec::new(alloc)));
         Ok(())
     }
 
     fn add(&mut self, line: &[u8]) -> Result<(), Memory> {
         self.script.extend_from_slice(line)?;
         self.script.push(b'\n')?;
+        Ok(())
+    }
+
+    fn start(&mut self, alloc: Global) -> Result<(), RowsStopped> {
+        self.count = self.count.saturating_add(1);
+        self.is_right = true;
+        let running = RunningGen::new(alloc, self.script.as_slice())?;
+        // What was assigned to would be laid out field by field.
+        drop(self.running.replace(running));
         Ok(())
     }
 
@@ -74,15 +80,28 @@ impl Tapes {
             return Ok(());
         };
         let said = running.resume(alloc, given)?;
-        if !self.is_right || said.as_slice() == wanted.as_bytes() {
+        let inputs = running.inputs;
+        let told = self.compare(rt, said.as_slice(), wanted, inputs);
+        drop(said);
+        told
+    }
+
+    fn compare<R: Print>(
+        &mut self,
+        rt: &R,
+        said: &[u8],
+        wanted: &str,
+        inputs: u32,
+    ) -> Result<(), RowsStopped> {
+        if !self.is_right || said == wanted.as_bytes() {
             return Ok(());
         }
         self.is_right = false;
         self.differ = self.differ.saturating_add(1);
-        let said = str::from_utf8(said.as_slice()).unwrap_or("no text");
+        let said = str::from_utf8(said).unwrap_or("no text");
         println!(rt;
-            "{}, tape {}: says {said} after input {}",
-            self.name, self.count, running.inputs
+            "{}, tape {}: says {said} after input {inputs}",
+            self.name, self.count
         )?;
         Ok(())
     }

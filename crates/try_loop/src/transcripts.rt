@@ -30,14 +30,15 @@ pub fn transcript<X: Extra + Drop>(
     match read(alloc, script.as_bytes()) {
         Ok(program) => {
             let text = transcript_of(alloc, &program, answers, extra);
-            forget_program(program);
+            drop(program);
             text
         }
-        Err(_) => Err(RowsStopped),
+        Err(_) => {
+            drop(extra);
+            Err(RowsStopped)
+        }
     }
 }
-
-fn forget_program(_program: Program) {}
 
 fn transcript_of<X: Extra + Drop>(
     alloc: Global,
@@ -50,13 +51,14 @@ fn transcript_of<X: Extra + Drop>(
     let mut shelf = MemShelf::new(alloc);
     let text = match shelf.append(alloc, "answers", answers.as_bytes()) {
         Ok(_) => drive_over(alloc, program, &mut shelf, extra),
-        Err(_) => Err(RowsStopped),
+        Err(_) => {
+            drop(extra);
+            Err(RowsStopped)
+        }
     };
-    forget_shelf(shelf);
+    drop(shelf);
     text
 }
-
-fn forget_shelf(_shelf: MemShelf) {}
 
 fn drive_over<X: Extra + Drop>(
     alloc: Global,
@@ -80,10 +82,14 @@ fn drive<W: Wire, X: Extra + Drop>(
 ) -> Result<Vec<u8>, RowsStopped>
     requires fresh { ∥ ((kept : X.added.Kept) × KeepsNothing X.added extra kept) ∥₁ }
 {
-    let mut kernel = Kernel::new(alloc, program, extra)?;
-    let text = run_turns(alloc, wire, &mut kernel);
-    drop(kernel);
-    text
+    match Kernel::new(alloc, program, extra) {
+        Ok(mut kernel) => {
+            let text = run_turns(alloc, wire, &mut kernel);
+            drop(kernel);
+            text
+        }
+        Err(Memory) => Err(RowsStopped),
+    }
 }
 
 fn run_turns<W: Wire, X: Extra + Drop>(
@@ -92,9 +98,25 @@ fn run_turns<W: Wire, X: Extra + Drop>(
     kernel: &mut Kernel<X>,
 ) -> Result<Vec<u8>, RowsStopped> {
     let mut text = Vec::new(alloc);
+    match tell_turns(alloc, wire, kernel, &mut text) {
+        Ok(()) => Ok(text),
+        Err(RowsStopped) => {
+            drop(text);
+            Err(RowsStopped)
+        }
+    }
+}
+
+/// Runs turns up to the one with which the run ends, and tells them.
+fn tell_turns<W: Wire, X: Extra + Drop>(
+    alloc: Global,
+    wire: &mut W,
+    kernel: &mut Kernel<X>,
+    text: &mut Vec<u8>,
+) -> Result<(), RowsStopped> {
     for _turn in 0..TURNS {
-        if run_turn(alloc, wire, kernel, &mut text)? {
-            return Ok(text);
+        if run_turn(alloc, wire, kernel, text)? {
+            return Ok(());
         }
     }
     Err(RowsStopped)
@@ -111,7 +133,7 @@ fn run_turn<W: Wire, X: Extra + Drop>(
     match tell_events(alloc, kernel.events(), text) {
         Ok(()) => tell_end(alloc, went, text),
         Err(Memory) => {
-            forget_went(went);
+            drop(went);
             Err(RowsStopped)
         }
     }
@@ -119,39 +141,48 @@ fn run_turn<W: Wire, X: Extra + Drop>(
 
 fn tell_events(alloc: Global, events: Events, text: &mut Vec<u8>) -> Result<(), Memory> {
     let told = lines(alloc, &events, true, text);
-    forget_events(events);
+    drop(events);
     told
 }
 
-/// Tells the last line, where the run ended.
+/// Tells the last line, where the run ended by this turn.
 fn tell_end(alloc: Global, went: Went, text: &mut Vec<u8>) -> Result<bool, RowsStopped> {
-    match end_of(went)? {
-        None => Ok(false),
-        Some(end) => {
-            let told = last_line(alloc, &end, text);
-            forget_end(end);
-            told?;
-            Ok(true)
-        }
+    match went {
+        Went::Went => Ok(false),
+        Went::Finished(outcome) => tell_last(alloc, end_of(outcome), text),
+        Went::Stalled => tell_last(alloc, End::Stalled, text),
+        Went::Runaway(task) => tell_last(alloc, End::Runaway(task), text),
+        Went::Stopped(stop) => tell_stop(alloc, stop, text),
     }
 }
 
-fn forget_went(_went: Went) {}
-
-fn forget_events(_events: Events) {}
-
-fn forget_end(_end: End) {}
-
-/// How a run ended by this turn, if it did.
-fn end_of(went: Went) -> Result<Option<End>, RowsStopped> {
-    match went {
-        Went::Went => Ok(None),
-        Went::Finished(Outcome::Value(value)) => Ok(Some(End::Returned(value))),
-        Went::Finished(Outcome::Failed(fault)) => Ok(Some(End::Raised(fault))),
-        Went::Finished(Outcome::Cancelled) => Ok(Some(End::Cancelled)),
-        Went::Stalled => Ok(Some(End::Stalled)),
-        Went::Runaway(task) => Ok(Some(End::Runaway(task))),
-        Went::Stopped(Stop::Over(call)) => Ok(Some(End::Over(call))),
-        Went::Stopped(_) => Err(RowsStopped),
+fn end_of(outcome: Outcome) -> End {
+    match outcome {
+        Outcome::Value(value) => End::Returned(value),
+        Outcome::Failed(fault) => End::Raised(fault),
+        Outcome::Cancelled => End::Cancelled,
     }
+}
+
+fn tell_stop(alloc: Global, stop: Stop, text: &mut Vec<u8>) -> Result<bool, RowsStopped> {
+    match stop {
+        Stop::Over(call) => tell_last(alloc, End::Over(call), text),
+        Stop::Mismatch(_, call) => {
+            drop(call);
+            Err(RowsStopped)
+        }
+        Stop::Failed(call) => {
+            drop(call);
+            Err(RowsStopped)
+        }
+        Stop::Bad(_) => Err(RowsStopped),
+        Stop::Memory => Err(RowsStopped),
+    }
+}
+
+fn tell_last(alloc: Global, end: End, text: &mut Vec<u8>) -> Result<bool, RowsStopped> {
+    let told = last_line(alloc, &end, text);
+    drop(end);
+    told?;
+    Ok(true)
 }

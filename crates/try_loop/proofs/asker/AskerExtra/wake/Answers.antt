@@ -13,9 +13,9 @@ pub returns-in-Send : goal.returns-in-Send
 returns-in-Send c =
     let x = c.args.self.now in
     let v = c.args._parts.now in
-    IfOk-weaker c.hear.result _ _ (λ asked e t s h.
+    IfOk-weaker c.hear-heard.result _ _ (λ asked e t s h.
     subst (λ (it : Input). SaysAs asker t s v v x asked (only_says (woken_by c.args.key it))) (sym c.in-Send.is)
-    (says_so v.running t s x x v h asked (heard_by c.args.key c.in-Send.value) e)) c.hear.ensures
+    (says_so v.running t s x x v h asked (heard_by c.args.key c.in-Send.value) e)) c.hear-heard.ensures
 
 pub returns-in-Throw : goal.returns-in-Throw
 returns-in-Throw c = λ t s h.
