@@ -118,7 +118,7 @@ fn does<W: Wire>(
     let mut port = Port::new(wire, &mut events);
     let done = act(alloc, step, children, &mut port, parts, told);
     drop(port);
-    let said = tell_calls(alloc, &mut events, told);
+    let said = tell_calls(alloc, &events, told);
     drop(events);
     done?;
     Ok(said?)

@@ -60,7 +60,9 @@ pub fn reads(
     ensures idle { OnOk result (parts.new.called ≡ None) }
 {
     let got = children.read(alloc, 0, pipe, &ReadOp::UpTo(count), parts)?;
-    Ok(say_got(alloc, got, told)?)
+    let said = say_got(alloc, &got, told);
+    drop(got);
+    Ok(said?)
 }
 
 fn piece_of(alloc: Global, pipe: Stream, text: &str) -> Result<ChildItem, Memory> {

@@ -33,7 +33,9 @@ pub fn drains(
     ensures idle { OnOk result (parts.new.called ≡ None) }
 {
     let next = children.drain(alloc, 0, yielded, parts)?;
-    Ok(say_drain(alloc, next, told)?)
+    let said = say_drain(alloc, &next, told);
+    drop(next);
+    Ok(said?)
 }
 
 /// New marks.
