@@ -2,7 +2,7 @@
 use Rattle.std.proofs.Common.{◌≡◌, refl, ℕ, ◌+◌, ◌≤◌, List, ◌++◌, Option, Some, None, length, take, drop, ap, sym, ◌∙◌}
 use Rattle.std.proofs.Common.{length-append, arith}
 use Rattle.std.proofs.Math.Seq.{take-add}
-use Rattle.std.proofs.lemmas.List.{take_all}
+use Rattle.std.proofs.lemmas.List.{take_all, take-take}
 use Rattle.aio_wire.specs.Got.{ReadsAt}
 use Rattle.aio_wire.specs.declared.source.SourceGot.TheVariants.{Bytes, End}
 use Rattle.aio_memwire.specs.Reading.{Begins}
@@ -38,11 +38,10 @@ pub front_all : (limit : ℕ) (held : Option (List ℕ)) (text : List ℕ) → l
     → (all : List ℕ) × (held ≡ Some all) × (text ≡ take limit all)
 front_all limit held text short whole = (text, whole, sym (take_all limit text short))
 
--- a front as long as the bound is the front
-pub front_full : (limit : ℕ) (held : Option (List ℕ)) (text : List ℕ) → 1 ≤ limit → limit ≤ length text → length text ≤ limit → Begins held text
-    → (all : List ℕ) × (held ≡ Some all) × (text ≡ take limit all)
-front_full limit None text some long short begins =
+-- the first bytes of a front that is no shorter than the bound are those of all
+pub front_full : (limit : ℕ) (held : Option (List ℕ)) (text : List ℕ) → 1 ≤ limit → limit ≤ length text → Begins held text
+    → (all : List ℕ) × (held ≡ Some all) × (take limit text ≡ take limit all)
+front_full limit None text some long begins =
     absurd (omega (arith, some, long, ap (λ (t : List ℕ). length t) begins))
-front_full limit (Some all) text some long short begins =
-    let same : length text ≡ limit = omega (arith, long, short) in
-    (all, refl, begins ∙ ap (λ (n : ℕ). take n all) same)
+front_full limit (Some all) text some long begins =
+    (all, refl, ap (λ (t : List ℕ). take limit t) begins ∙ take-take limit (length text) all long)

@@ -1,2 +1,4 @@
 mod Files
+mod Giving
+mod Newlines
 mod WireLemmas

@@ -1,22 +1,23 @@
 //! A journal on a shelf, as a wire.
-ghost use Rattle.std.specs.Prelude.{◌≡◌, ◌≤◌, true, false, [], Some, None, IfOk, OnErr, IsErr};
-ghost use Rattle.aio_wire.specs.Replied.{Replied, Unreplied, UnlessFailed, ReplyLeaves, EndsAs, FailedIfRose};
+ghost use Rattle.std.specs.Prelude.{◌≡◌, ◌≤◌, true, false, [], Some, None, IfOk, OnOk, OnErr, IsErr};
+ghost use Rattle.aio_wire.specs.Replied.{Replied, Unreplied, UnlessFailed};
 ghost use Rattle.aio_wire.specs.declared.wire.Reply.TheVariants.{Failed};
 ghost use Rattle.aio_memwire.specs.Held.{held};
-ghost use Rattle.aio_memwire.specs.JournalWire.{left_of, end_of, seen_of};
+ghost use Rattle.aio_memwire.specs.JournalWire.{seen_of};
+ghost use Rattle.aio_memwire.specs.Unread.{unread, is_whole, HoldsFew};
 
 use crate::buffers::Buffers;
 use crate::handed::HandedBytes;
 use crate::journal::Journal;
-use crate::reading::{ReadFault, read_file};
 use aio_base::Memory;
 use aio_wire::{Call, Reply, Shelf, Wire, copy_of_call};
 use model_wire::Handed;
 use std::alloc::Global;
 
-/// A wire whose answers are the lines of a shelf's file. The file is read whole at the first ask,
-/// so it fails in that call or not at all. It keeps the calls that it was asked and the bytes that
-/// it handed on, and after a want of memory it answers nothing more.
+/// A wire whose answers are the lines of a shelf's file. At an ask the file is read on only where the
+/// next line isn't held whole, 65,536 bytes at a time, and a line that was given isn't held any more.
+/// It keeps the calls that it was asked and the bytes that it handed on, and after a want of memory it
+/// answers nothing more.
 pub struct JournalWire<'a, F, B = Buffers> {
     pub shelf: &'a mut F,
     pub name: &'a str,
@@ -41,7 +42,7 @@ impl<'a, F: Shelf> JournalWire<'a, F, Buffers> {
         ensures shelf { result.shelf.ghost_name ≡ shelf.entry.ghost_name }
         ensures kept { result.shelf.now ≡ shelf.old }
         ensures name { result.name.now ≡ name.now }
-        ensures unread { result.own.journal ≡ None }
+        ensures unread { result.own.journal ≡ unread }
         ensures unasked { result.own.asked.items ≡ [] }
         ensures unhanded { held result.own.handed ≡ λ _. [] }
         ensures unspent { result.own.is_spent ≡ false }
@@ -50,7 +51,7 @@ impl<'a, F: Shelf> JournalWire<'a, F, Buffers> {
             shelf,
             name,
             own: Buffers {
-                journal: None,
+                journal: Journal::new(alloc),
                 asked: Vec::new(alloc),
                 handed: HandedBytes::new(alloc),
                 is_spent: false,
@@ -67,13 +68,14 @@ impl<'a, F: Shelf> JournalWire<'a, F, Buffers> {
 }
 
 impl<'a, F: Shelf> Wire for JournalWire<'a, F, Buffers> {
-    ghost use Rattle.std.specs.Prelude.{◌≡◌, None, Some, refl};
+    ghost use Rattle.std.specs.Prelude.{◌≡◌, false, None, Some, refl};
     ghost use Rattle.std.proofs.Common.{◌∙◌};
     ghost use Rattle.aio_memwire.specs.JournalWire.{ends_as_left, seen_of};
+    ghost use Rattle.aio_memwire.specs.Unread.{is_whole};
 
     ghost outside = { record {
       seen = λ wire. seen_of (F.seen wire.shelf.now) wire.name.now wire.own;
-      fails = λ wire. (wire.own.journal ≡ None)
+      fails = λ wire. (is_whole wire.own.journal ≡ false)
           × ((F.seen wire.shelf.now).file wire.name.now ≡ Some None);
       keeps = λ old new. (new.shelf.ghost_name ≡ old.shelf.ghost_name)
           × (new.name.now ≡ old.name.now)
@@ -97,7 +99,7 @@ impl<'a, F: Shelf> Wire for JournalWire<'a, F, Buffers> {
             (seen_of (F.seen self.new.shelf.now) self.new.name.now self.new.own)) }
         ensures monotone { (F.seen self.old.shelf.now).faults self.old.name.now
             ≤ (F.seen self.new.shelf.now).faults self.old.name.now }
-        ensures missing { self.old.own.journal ≡ None
+        ensures missing { is_whole self.old.own.journal ≡ false
             → (F.seen self.old.shelf.now).file self.old.name.now ≡ Some None
             → IfOk result (λ reply. reply ≡ Failed) }
         ensures shelf { self.new.shelf.ghost_name ≡ self.old.shelf.ghost_name }
@@ -106,6 +108,7 @@ impl<'a, F: Shelf> Wire for JournalWire<'a, F, Buffers> {
         ensures quiet { IfOk result
             (UnlessFailed (F.seen self.new.shelf.now ≡ F.seen self.old.shelf.now)) }
         ensures err { OnErr result (F.seen self.new.shelf.now ≡ F.seen self.old.shelf.now) }
+        ensures few { OnOk result (HoldsFew self.old.own.journal self.new.own.journal) }
         ensures spends { OnErr result (self.new.own.is_spent ≡ true) }
         ensures spent { self.old.own.is_spent ≡ true → IsErr result }
     {
@@ -114,47 +117,9 @@ impl<'a, F: Shelf> Wire for JournalWire<'a, F, Buffers> {
         }
         self.own.is_spent = true;
         self.own.asked.push(copy_of_call(alloc, call)?)?;
-        let reply = next_reply(alloc, self.shelf, self.name, &mut self.own.journal)?;
+        let reply = self.own.journal.next(alloc, self.shelf, self.name)?;
         self.own.handed.hand(alloc, call, &reply)?;
         self.own.is_spent = false;
         Ok(reply)
-    }
-}
-
-/// What a journal's wire replies next. The file is read where it wasn't yet.
-fn next_reply<F: Shelf>(
-    alloc: Global,
-    shelf: &mut F,
-    name: &str,
-    journal: &mut Option<Journal>,
-) -> Result<Reply, Memory>
-    ensures left { IfOk result (ReplyLeaves (left_of ((F.seen shelf.old).file name.now) journal.old)
-        (left_of ((F.seen shelf.new).file name.now) journal.new)) }
-    ensures ends { IfOk result (EndsAs (end_of journal.new)) }
-    ensures failed { IfOk result (FailedIfRose ((F.seen shelf.old).faults name.now)
-        ((F.seen shelf.new).faults name.now)) }
-    ensures monotone { (F.seen shelf.old).faults name.now ≤ (F.seen shelf.new).faults name.now }
-    ensures missing { journal.old ≡ None → (F.seen shelf.old).file name.now ≡ Some None
-        → IfOk result (λ reply. reply ≡ Failed) }
-    ensures files { (F.seen shelf.new).file ≡ (F.seen shelf.old).file }
-    ensures quiet { IfOk result (UnlessFailed (F.seen shelf.new ≡ F.seen shelf.old)) }
-    ensures err { OnErr result (F.seen shelf.new ≡ F.seen shelf.old) }
-{
-    match journal.take() {
-        Some(mut read) => {
-            let reply = read.next(alloc);
-            *journal = Some(read);
-            reply
-        }
-        None => match read_file(alloc, shelf, name) {
-            Ok(text) => {
-                let mut read = Journal::new(text);
-                let reply = read.next(alloc);
-                *journal = Some(read);
-                reply
-            }
-            Err(ReadFault::Memory) => Err(Memory),
-            Err(ReadFault::Failed) => Ok(Reply::Failed),
-        },
     }
 }

@@ -1,7 +1,8 @@
 //! Wires in memory: a journal's, one that is dead, and wrappers of the outside that make chosen calls fail. And the
-//! reading of whole files.
+//! reading of a file's front.
 #![tactic(auto)]
 
+mod answering;
 mod buffers;
 mod dead_wire;
 mod fail_at;
@@ -13,9 +14,9 @@ mod sinks;
 mod sources;
 mod wires;
 
-pub use buffers::Buffers;
+pub use buffers::{Answers, Buffers};
 pub use dead_wire::DeadWire;
 pub use fail_at::FailAt;
 pub use journal_wire::JournalWire;
 pub use model_wire::Handed;
-pub use reading::{ReadFault, read_file, read_front};
+pub use reading::{ReadFault, read_front};

@@ -1,15 +1,11 @@
-//! Reading whole files of a shelf.
-ghost use Rattle.std.specs.Prelude.{◌≡◌, ◌≤◌, Some, IfOk, IfErr, OnOk};
-ghost use Rattle.model_wire.specs.Told.{Agrees};
+//! Reading the front of a shelf's file.
+ghost use Rattle.std.specs.Prelude.{◌≡◌, ◌≤◌, IfOk, IfErr, OnOk};
 ghost use Rattle.aio_memwire.specs.Reading.{IsFront, StopsReading};
 ghost use Rattle.aio_memwire.specs.declared.reading.ReadFault.TheVariants.{Memory as OutOfMemory};
 
 use aio_base::Memory;
 use aio_wire::{Shelf, SourceGot};
 use std::alloc::{AllocError, Global};
-
-/// How many bytes one read asks for.
-const CHUNK: usize = 65_536;
 
 /// Why a file could not be read.
 #[derive(Clone, Copy, PartialEq, Eq)]
@@ -35,26 +31,8 @@ impl From<AllocError> for ReadFault {
     }
 }
 
-/// All of a file. A missing file is a failure. No file changes.
-pub fn read_file<F: Shelf>(alloc: Global, shelf: &mut F, name: &str) -> Result<Vec<u8>, ReadFault>
-    ensures text { IfOk result (λ text.
-        Agrees ((F.seen shelf.old).file name.now) (Some text.items)) }
-    ensures kept { OnOk result (F.seen shelf.new ≡ F.seen shelf.old) }
-    ensures fault { IfErr result (StopsReading name.now (F.seen shelf.old) (F.seen shelf.new)) }
-    ensures files { (F.seen shelf.new).file ≡ (F.seen shelf.old).file }
-{
-    let mut text = Vec::new(alloc);
-    loop {
-        match shelf.read(alloc, name, text.len() as u64, CHUNK)? {
-            SourceGot::Bytes(bytes) => text.extend_from_slice(bytes.items())?,
-            SourceGot::End => return Ok(text),
-            SourceGot::Failed => return Err(ReadFault::Failed),
-        }
-    }
-}
-
-/// A file's first bytes, at most `limit`, and all of them where it has no more. A missing file is a
-/// failure. No file changes.
+/// A file's first bytes, at most `limit`, and all of them where it has no more. Each read asks for
+/// `limit` bytes, until the end comes or so many came. A missing file is a failure. No file changes.
 pub fn read_front<F: Shelf>(
     alloc: Global,
     shelf: &mut F,
@@ -70,12 +48,12 @@ pub fn read_front<F: Shelf>(
 {
     let mut text = Vec::new(alloc);
     while text.len() < limit {
-        let asked = CHUNK.min(limit - text.len());
-        match shelf.read(alloc, name, text.len() as u64, asked)? {
+        match shelf.read(alloc, name, text.len() as u64, limit)? {
             SourceGot::Bytes(bytes) => text.extend_from_slice(bytes.items())?,
             SourceGot::End => return Ok(text),
             SourceGot::Failed => return Err(ReadFault::Failed),
         }
     }
+    text.truncate(limit);
     Ok(text)
 }

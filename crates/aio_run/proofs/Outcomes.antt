@@ -1,5 +1,5 @@
 -- From a driven run to what the program may write.
-use Rattle.std.proofs.Common.{◌≡◌, ℕ, List, [], ◌∷◌, ◌++◌, Option, Some, None, Result, Ok, Err, IfOk, IfErr, refl, ap, sym, ◌∙◌, subst, inl, inr}
+use Rattle.std.proofs.Common.{◌≡◌, ℕ, false, List, [], ◌∷◌, ◌++◌, Option, Some, None, Result, Ok, Err, IfOk, IfErr, refl, ap, sym, ◌∙◌, subst, inl, inr}
 use Rattle.model_tree.specs.Syntax.{Program}
 use Rattle.model_text.specs.declared.cause.Cause.{Cause}
 use Rattle.model_text.specs.Canonical.{canonical}
@@ -20,9 +20,10 @@ use Rattle.model_program.specs.Transcript.{status_of}
 use Rattle.model_program.specs.Written.{ProgramOutput, WritesWhole}
 use Rattle.model_words.specs.Words.{most_turns}
 use Rattle.model_commands.specs.Works.{MayWork, counts_of, work_text}
-use Rattle.aio_memwire.specs.declared.buffers.Buffers.{Buffers}
-use Rattle.aio_memwire.specs.JournalWire.{left_of, seen_of}
+use Rattle.aio_memwire.specs.declared.buffers.Answers.{Answers}
+use Rattle.aio_memwire.specs.JournalWire.{seen_of_answers}
 use Rattle.aio_memwire.specs.Reading.{IsFront}
+use Rattle.aio_memwire.specs.Unread.{Unread, is_whole, left_of, unread}
 use Rattle.aio_drive.specs.Drive.{DrivenWire, IsUnbegun, MayDrive, Undisturbed, over_all, over_front}
 use Rattle.aio_drive.specs.Outcome.{EndsEarly}
 use Rattle.aio_drive.specs.declared.driver.Manner as code
@@ -42,7 +43,7 @@ use Rattle.aio_run.proofs.TextFronts.{spells_alike}
 outright : {A : Type 0} (a b : A) → Agrees (Some a) b → b ≡ a
 outright a b agrees = sym (agrees a refl)
 
-says_from : (told : Option (Option (List ℕ))) (entries : List Entry) → (told ≡ Some None → ⊥) → Agrees (left_of told None) entries
+says_from : (told : Option (Option (List ℕ))) (entries : List Entry) → (told ≡ Some None → ⊥) → Agrees (left_of told unread) entries
     → JournalSays told entries
 says_from None entries there agrees = tt
 says_from (Some None) entries there agrees = there refl
@@ -52,7 +53,7 @@ append-nothing : (had rest : List Entry) → had ++ rest ≡ [] → had ≡ []
 append-nothing [] rest e = refl
 append-nothing (x ∷ xs) rest e = absurd (cc e)
 
-begins_from : (told : Option (Option (List ℕ))) (had rest : List Entry) → Agrees (left_of told None) (had ++ rest) → JournalBegins told had
+begins_from : (told : Option (Option (List ℕ))) (had rest : List Entry) → Agrees (left_of told unread) (had ++ rest) → JournalBegins told had
 begins_from None had rest agrees = tt
 begins_from (Some None) had rest agrees = append-nothing had rest (outright [] (had ++ rest) agrees)
 begins_from (Some (Some text)) had rest agrees = (rest, outright (entries_of text) (had ++ rest) agrees)
@@ -62,7 +63,7 @@ none_failed old new same = ap (λ (s : ShelfSeen). s.faults) same
 
 -- A program's run that was driven over a journal of a shelf, by what is seen of the shelf before and after.
 pub may_run : (program : Program) (how : code.Manner) (journal : List ℕ) (old new : ShelfSeen) (before after : WireSeen) (fails quiet : Type 0)
-    → before.left ≡ left_of (old.file journal) None → (old.file journal ≡ Some None → fails) → (quiet → new ≡ old)
+    → before.left ≡ left_of (old.file journal) unread → (old.file journal ≡ Some None → fails) → (quiet → new ≡ old)
     → (Rose before.faults after.faults → FileFailed journal old new) → (asked : List Event → Type 0) (caused : End → Type 0) (output : ProgramOutput)
     → MayDrive program how end.ShelfFault
     (record { before = before; after = after; undisturbed = Undisturbed fails quiet; asked = asked; caused = caused }) output
@@ -86,11 +87,11 @@ may_run program how journal old new before after fails quiet told missing same f
     )
 
 -- what a journal's wire tells before it is asked
-pub told_first : {F : Type 0} (seen : F → ShelfSeen) (held shelf : F) (name journal : List ℕ) (own : Option (List Entry)) → held ≡ shelf
-    → name ≡ journal → own ≡ None → left_of ((seen held).file name) own ≡ left_of ((seen shelf).file journal) None
-told_first {F} seen held shelf name journal own same named unread =
+pub told_first : {F : Type 0} (seen : F → ShelfSeen) (held shelf : F) (name journal : List ℕ) (own : Unread) → held ≡ shelf
+    → name ≡ journal → own ≡ unread → left_of ((seen held).file name) own ≡ left_of ((seen shelf).file journal) unread
+told_first {F} seen held shelf name journal own same named first =
     ap (λ (s : F). left_of ((seen s).file name) own) same ∙ ap (λ (n : List ℕ). left_of ((seen shelf).file n) own) named
-    ∙ ap (left_of ((seen shelf).file journal)) unread
+    ∙ ap (left_of ((seen shelf).file journal)) first
 
 pub missing_first : {F : Type 0} (seen : F → ShelfSeen) (held shelf : F) (name journal : List ℕ) → held ≡ shelf → name ≡ journal
     → (seen shelf).file journal ≡ Some None → (seen held).file name ≡ Some None
@@ -115,19 +116,19 @@ rose_here {F} seen first held now after name late journal same left named kept r
 
 -- A program's run that was driven over the journal's wire of a shelf: `held` is the shelf as the wire was made, and `now` as it
 -- was left.
-module _ {F : Type 0} (seen : F → ShelfSeen) (first held now after : F) (name late journal : List ℕ) (own own_last : Buffers) (program : Program)
-    (how : code.Manner) (kept : held ≡ first) (left : now ≡ after) (named : name ≡ journal) (late_name : late ≡ name) (unread : own.journal ≡ None) where
+module _ {F : Type 0} (seen : F → ShelfSeen) (first held now after : F) (name late journal : List ℕ) (own own_last : Answers) (program : Program)
+    (how : code.Manner) (kept : held ≡ first) (left : now ≡ after) (named : name ≡ journal) (late_name : late ≡ name) (none_read : own.journal ≡ unread) where
   abbrev Fails : Type 0
-  Fails = (own.journal ≡ None) × ((seen held).file name ≡ Some None)
+  Fails = (is_whole own.journal ≡ false) × ((seen held).file name ≡ Some None)
 
   abbrev Quiet : Type 0
   Quiet = seen now ≡ seen held
 
   abbrev before : WireSeen
-  before = seen_of (seen held) name own
+  before = seen_of_answers (seen held) name own
 
   abbrev after_it : WireSeen
-  after_it = seen_of (seen now) late own_last
+  after_it = seen_of_answers (seen now) late own_last
 
   abbrev Drives : DrivenWire → ProgramOutput → Type 0
   Drives wire = MayDrive program how end.ShelfFault wire
@@ -138,9 +139,9 @@ module _ {F : Type 0} (seen : F → ShelfSeen) (first held now after : F) (name 
   runs : (asked : List Event → Type 0) (caused : End → Type 0) (output : ProgramOutput)
       → Drives (record { before = before; after = after_it; undisturbed = Undisturbed Fails Quiet; asked = asked; caused = caused }) output → Runs output
   runs =
-      may_run program how journal (seen first) (seen after) (seen_of (seen held) name own) (seen_of (seen now) late own_last) Fails Quiet
-      (told_first seen held first name journal own.journal kept named unread)
-      (λ missing. (unread, missing_first seen held first name journal kept named missing))
+      may_run program how journal (seen first) (seen after) (seen_of_answers (seen held) name own) (seen_of_answers (seen now) late own_last) Fails Quiet
+      (told_first seen held first name journal own.journal kept named none_read)
+      (λ missing. (ap is_whole none_read, missing_first seen held first name journal kept named missing))
       (seen_kept seen first held now after kept left)
       (rose_here seen first held now after name late journal kept left named late_name)
 
@@ -165,9 +166,9 @@ module _ {F : Type 0} (seen : F → ShelfSeen) (first held now after : F) (name 
 -- ---- the work of a seed
 -- a journal's wire of which nothing was asked tells the entries of its file
 pub told_of_file : (told : Option (Option (List ℕ))) (text : List ℕ) (entries : List Entry) → told ≡ Some (Some text)
-    → Agrees (left_of told None) entries → entries ≡ entries_of text
+    → Agrees (left_of told unread) entries → entries ≡ entries_of text
 told_of_file told text entries is agrees =
-    outright (entries_of text) entries (subst (λ (t : Option (Option (List ℕ))). Agrees (left_of t None) entries) is agrees)
+    outright (entries_of text) entries (subst (λ (t : Option (Option (List ℕ))). Agrees (left_of t unread) entries) is agrees)
 
 -- over the entries of a journal
 pub tallies_over : (program : Program) (journal : List ℕ) (seen : WireSeen) (it : Tally)

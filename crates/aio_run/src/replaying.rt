@@ -51,6 +51,6 @@ fn replay_program<F: Shelf, K: Sink>(
         (K.seen out.old) (K.seen out.new) result }
     ensures files { (F.seen shelf.new).file ≡ (F.seen shelf.old).file }
 {
-    let mut wire = JournalWire::new(alloc, shelf, journal);
+    let mut wire = JournalWire::answering(alloc, shelf, journal);
     drive(alloc, program, manner, &End::ShelfFault, &mut wire, out)
 }

@@ -53,7 +53,7 @@ fn tally_over<F: Shelf>(alloc: Global, program: &Program, shelf: &mut F) -> Resu
         → (F.seen shelf.old).file (codes "journal") ≡ Some (Some text)
         → TalliesOver program.now text tally) }
 {
-    let mut wire = JournalWire::new(alloc, shelf, "journal");
+    let mut wire = JournalWire::answering(alloc, shelf, "journal");
     match tally_run(alloc, program, MOST_TURNS, &mut wire) {
         Ok(tally) => Ok(tally),
         // A shelf in memory doesn't fail where it has the file.
