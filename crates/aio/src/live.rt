@@ -5,10 +5,11 @@ ghost use Rattle.aio_inbox.specs.Naming.{table_of};
 use crate::OUT_OF_MEMORY;
 use aio_asked::{Finished, Hub};
 use aio_base::Memory;
-use aio_edge::{Files, Output};
+use aio_edge::{Files, Output, hold_standard};
 use aio_inbox::{InboxName, UnnamedInbox};
 use aio_launcher::RealLauncher;
 use aio_memwire::DeadWire;
+use aio_outside::{Outside, PathFinder};
 use aio_poller::{PollerBell, RealPoller};
 use aio_run::aio_main;
 use aio_wire::Wire;
@@ -25,7 +26,7 @@ use std::{io, rt};
 /// Does what the words ask for, and gives the status. Its wire is a hub. Where there is no poller, as where the system
 /// has no descriptor left, it is one of which each call fails.
 ///
-/// The poller is made before anything is written: it then has no descriptor that a closed standard output left free.
+/// The places of standard descriptors that were closed are held first, so that nothing that is opened has their numbers.
 pub fn run<R>(rt: R, alloc: Global, words: &Vec<String>) -> u8
 where
     R: rt::Files
@@ -39,6 +40,7 @@ where
         + Send
         + 'static,
 {
+    hold_standard();
     match RealPoller::make(rt, alloc) {
         Ok(poller) => run_polling(rt, alloc, words, poller),
         Err(error) if is_memory(&error) => OUT_OF_MEMORY,
@@ -150,12 +152,12 @@ where
         + Send
         + 'static,
 {
-    let mut wire = hub;
+    let mut wire = Outside::over(hub, PathFinder::new(rt));
     let status = run_over(rt, alloc, words, &mut wire);
     let Finished {
         told: _told,
         launcher,
-    } = wire.finish(alloc);
+    } = wire.into_inner().finish(alloc);
     launcher.close();
     status
 }

@@ -2,10 +2,11 @@
 ghost use Rattle.std.specs.Prelude.{◌≡◌, ◌<◌, length, true, None, string_bytes, IfOk, IfSome, IsErr};
 ghost use Rattle.std.specs.Io.{WritesAtMost};
 
+use crate::room::expect_place;
 use aio_base::Memory;
 use std::alloc::Global;
 use std::fs::OpenOptions;
-use std::io::{ErrorKind, Write};
+use std::io::{ErrorKind, Seek, SeekFrom, Write};
 use std::{io, rt};
 
 /// A file that was opened to be appended to, by its name. It stays open, so only its first piece needs a descriptor.
@@ -59,7 +60,7 @@ fn opened<R: rt::Files>(
 
 /// Writes a front of the piece behind the end of the file of this name, which is the open one if any is, and says how many
 /// bytes went. Where none is open it is an error. The name is there for the clause.
-pub(crate) fn append_to<F: Write>(
+pub(crate) fn append_to<F: Write + Seek>(
     appended: &mut Option<Appended<F>>,
     _name: &str,
     piece: &[u8],
@@ -75,13 +76,16 @@ pub(crate) fn append_to<F: Write>(
     }
 }
 
-/// Writes once, and again where the write was interrupted.
-fn write_some<F: Write>(file: &mut F, piece: &[u8]) -> io::Result<usize>
+/// Writes once, and again where the write was interrupted. A file that may not grow is not written.
+fn write_some<F: Write + Seek>(file: &mut F, piece: &[u8]) -> io::Result<usize>
     ensures bound { WritesAtMost result piece.now }
     ensures some { IfOk result (λ count. 0 < length piece.now → 0 < count) }
 {
     if piece.is_empty() {
         return Ok(0);
+    }
+    if let Ok(end) = file.seek(SeekFrom::End(0)) {
+        expect_place(end)?;
     }
     for _ in 0..u64::MAX {
         match file.write(piece) {

@@ -4,8 +4,11 @@
 mod appended;
 mod files;
 mod output;
+mod room;
+mod standard;
 #[cfg(test)]
 mod tests;
 
 pub use files::Files;
 pub use output::Output;
+pub use standard::hold_standard;

@@ -3,6 +3,7 @@ ghost use Rattle.std.specs.Prelude.{◌≡◌, ◌<◌, length, None, IfOk};
 ghost use Rattle.std.specs.Io.{WritesAtMost};
 ghost use Rattle.aio_edge.specs.Counts.{Took};
 
+use crate::room::{OUTPUT, end_of, expect_place, wait_for_room};
 use aio_base::Memory;
 use aio_wire::{Sink, SinkTook};
 use std::alloc::Global;
@@ -10,7 +11,7 @@ use std::io;
 use std::io::ErrorKind;
 
 /// The standard output as a sink that tells nothing of what it took. Each piece goes to the system at once, so nothing
-/// waits in a buffer.
+/// waits in a buffer. Where whoever started this program has the output answer at once, a write waits for room.
 #[derive(Drop)]
 pub struct Output<R> {
     rt: R,
@@ -50,7 +51,8 @@ impl<R> Output<R> {
     }
 }
 
-/// Writes a front of the piece, and says how many bytes went.
+/// Writes a front of the piece, and says how many bytes went. Where the output takes none for now it waits for room; a file
+/// that may not grow is not written.
 fn write_some<R: Print>(rt: &R, piece: &[u8]) -> io::Result<usize>
     ensures bound { WritesAtMost result piece.now }
     ensures some { IfOk result (λ count. 0 < length piece.now → 0 < count) }
@@ -58,10 +60,12 @@ fn write_some<R: Print>(rt: &R, piece: &[u8]) -> io::Result<usize>
     if piece.is_empty() {
         return Ok(0);
     }
+    expect_place(end_of(OUTPUT))?;
     for _ in 0..u64::MAX {
         match rt.write_some(piece) {
             Ok(0) => return Err(io::Error::from(ErrorKind::WriteZero)),
             Err(error) if error.kind() == ErrorKind::Interrupted => {}
+            Err(error) if error.kind() == ErrorKind::WouldBlock => wait_for_room(OUTPUT)?,
             written => return written,
         }
     }

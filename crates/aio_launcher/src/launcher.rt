@@ -1,5 +1,6 @@
 //! The launcher of the system's programs.
 ghost use Rattle.std.specs.Prelude.{◌≡◌, ◌≤◌, IfOk, OnErr};
+ghost use Rattle.model_wire.specs.Told.{Rose};
 ghost use Rattle.aio_hub.specs.Launches.{LaunchAnswers, StartsNone};
 ghost use Rattle.aio_launcher.specs.Counts.{untold_launches};
 
@@ -16,6 +17,7 @@ use aio_wire::WordList;
 use indexmap::IndexMap;
 use std::alloc::Global;
 use std::process::{Processes, SystemProcess};
+use std::sync::atomic::{AtomicU64, Ordering};
 use std::sync::{Arc, Wait};
 use std::thread;
 use std::thread::{JoinHandle, Threads};
@@ -28,16 +30,24 @@ pub struct Run<N: InboxName> {
     reports: Arc<Reports<N>, Global>,
 }
 
-/// The programs of the system, each with four pumps on threads of their own. A thread of its own starts and joins them. It
-/// tells nothing of what it started and killed.
+/// How many questions whether pumps have ended are answered at once. Later ones wait a little: whoever asks has taken by
+/// then what any inbox held, and asks again and again.
+const QUESTIONS: u64 = 16_384;
+
+/// How long such a question waits for the pumps, in milliseconds.
+const PATIENCE: u64 = 4;
+
+/// The programs of the system, each with four pumps on threads of their own. A thread of its own starts and joins them;
+/// where none can be started, each launch is refused. It tells nothing of what it started and killed.
 /// Source: `unix_events.py`, `_UnixSubprocessTransport`; `subprocess.py`, `Popen`.
 #[derive(Drop)]
 pub struct RealLauncher<R, N: InboxName> {
     rt: R,
     orders: Arc<Slot<Order<N>>, Global>,
     told: Arc<Slot<Told>, Global>,
-    starter: JoinHandle<()>,
+    starter: Option<JoinHandle<()>>,
     processes: IndexMap<u32, Arc<Process, Global>>,
+    asked: AtomicU64,
     faults: u64,
 }
 
@@ -56,24 +66,19 @@ where
                 return Err(error);
             }
         };
-        match thread::spawn(
+        let begun = thread::spawn(
             &rt,
             move || starter::serve(rt, alloc, bell, &theirs, &answers),
-        ) {
-            Ok(starter) => Ok(RealLauncher {
-                rt,
-                orders,
-                told,
-                starter,
-                processes: IndexMap::new(alloc),
-                faults: 0,
-            }),
-            Err(_) => {
-                drop(orders);
-                drop(told);
-                Err(Memory)
-            }
-        }
+        );
+        Ok(RealLauncher {
+            rt,
+            orders,
+            told,
+            starter: begun.ok(),
+            processes: IndexMap::new(alloc),
+            asked: AtomicU64::new(0),
+            faults: 0,
+        })
     }
 
     /// Ends the thread that starts the others.
@@ -84,12 +89,15 @@ where
             told,
             starter,
             processes,
+            asked: _,
             faults: _,
         } = self;
         drop(told);
         drop(processes);
-        orders.put(&rt, Order::Quit);
-        starter.join(&rt);
+        if let Some(starter) = starter {
+            orders.put(&rt, Order::Quit);
+            starter.join(&rt);
+        }
         drop(orders);
     }
 }
@@ -147,6 +155,16 @@ impl<R, N: InboxName> RealLauncher<R, N> {
         Ok(Run { child, reports })
     }
 
+    // A launch failed.
+    fn refuse(&mut self) -> Launched<Run<N>>
+        ensures refused { result ≡ Launched.Refused }
+        ensures rose { Rose self.old.faults self.new.faults }
+        ensures monotone { self.old.faults ≤ self.new.faults }
+    {
+        self.faults = self.faults.saturating_add(1);
+        Launched::Refused
+    }
+
     // Leaves this child, and with it all others: nobody asks whether one has ended before the run is over.
     fn leave_all(&self, child: u32) {
         let Some(asked) = self.processes.get(&child) else {
@@ -161,7 +179,7 @@ impl<R, N: InboxName> RealLauncher<R, N> {
     }
 }
 
-impl<R: Wait, N: InboxName> Launcher<Inbox<N>, Poster<N>> for RealLauncher<R, N> {
+impl<R: Wait + Clock, N: InboxName> Launcher<Inbox<N>, Poster<N>> for RealLauncher<R, N> {
     type Run = Run<N>;
 
     ghost seen = { λ launcher. untold_launches launcher.faults };
@@ -179,6 +197,10 @@ impl<R: Wait, N: InboxName> Launcher<Inbox<N>, Poster<N>> for RealLauncher<R, N>
         ensures monotone { self.old.faults ≤ self.new.faults }
     {
         let child = kit.child;
+        if self.starter.is_none() {
+            drop(kit);
+            return Ok(self.refuse());
+        }
         if self.processes.reserve(1).is_err() {
             drop(kit);
             return Err(Memory);
@@ -192,8 +214,7 @@ impl<R: Wait, N: InboxName> Launcher<Inbox<N>, Poster<N>> for RealLauncher<R, N>
             }
             Told::Refused => {
                 drop(reports);
-                self.faults = self.faults.saturating_add(1);
-                Ok(Launched::Refused)
+                Ok(self.refuse())
             }
         }
     }
@@ -205,9 +226,12 @@ impl<R: Wait, N: InboxName> Launcher<Inbox<N>, Poster<N>> for RealLauncher<R, N>
     }
 
     /// A hub asks it at its end alone, of one child after the other. The first question leaves all children, so that all
-    /// who wait for a pipe give up in the same quarter of a second.
+    /// who wait for a pipe give up in the same quarter of a second. After many questions it waits a little for the pumps.
     fn has_ended(&self, run: &Run<N>) -> bool {
         self.leave_all(run.child);
+        if self.asked.fetch_add(1, Ordering::SeqCst) >= QUESTIONS {
+            run.reports.wait_for(&self.rt, PATIENCE);
+        }
         run.reports.are_there(&self.rt)
     }
 

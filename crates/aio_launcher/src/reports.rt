@@ -5,6 +5,7 @@ use aio_inbox::{InboxName, Poster};
 use aio_pump::PumpReport;
 use model_pump::Stream;
 use std::sync::Wait;
+use std::time::Clock;
 
 /// Where a pump puts what it did.
 pub type Report<N> = Slot<PumpReport<Poster<N>>>;
@@ -43,6 +44,14 @@ impl<N: InboxName> Reports<N> {
             && self.out.is_there(rt)
             && self.errs.is_there(rt)
             && self.exit.is_there(rt)
+    }
+
+    /// Waits until all four are there, for so many milliseconds each at most.
+    pub fn wait_for<R: Wait + Clock>(&self, rt: &R, pause: u64) {
+        self.stdin.wait_for(rt, pause);
+        self.out.wait_for(rt, pause);
+        self.errs.wait_for(rt, pause);
+        self.exit.wait_for(rt, pause);
     }
 
     /// Takes all four. It waits until they are there.

@@ -1,5 +1,6 @@
 //! A place for one value, which one thread puts and another takes.
 use std::sync::{Condvar, Mutex, Wait};
+use std::time::{Clock, Duration};
 
 /// Holds at most one value. It takes no memory.
 #[derive(Drop)]
@@ -36,6 +37,16 @@ impl<T: Drop> Slot<T> {
     /// Whether a value is there.
     pub fn is_there<R: Wait>(&self, rt: &R) -> bool {
         self.item.lock(rt).is_some()
+    }
+
+    /// Waits until a value is there, for so many milliseconds at most.
+    pub fn wait_for<R: Wait + Clock>(&self, rt: &R, pause: u64) {
+        let _item = self.came.wait_timeout_while(
+            rt,
+            self.item.lock(rt),
+            Duration::from_millis(pause),
+            |item| item.is_none(),
+        );
     }
 
     /// Takes the value. It waits until one is there.

@@ -95,14 +95,20 @@ where
     drop(words);
     drop(reports);
     match begun {
-        Ok((one, process)) => noted(running, one, process),
+        Ok((one, process)) => noted(&rt, running, one, process),
         Err(error) => told_of(&error),
     }
 }
 
-// A child that runs, for which there is room.
-fn noted(running: &mut Vec<Running>, one: Running, process: Arc<Process, Global>) -> Told {
+// A child that runs, for which there is room. One without is ended.
+fn noted<R: Wait + Clock>(
+    rt: &R,
+    running: &mut Vec<Running>,
+    one: Running,
+    process: Arc<Process, Global>,
+) -> Told {
     if running.push(one).is_err() {
+        end(rt, &process);
         drop(process);
         return Told::Memory;
     }
@@ -122,7 +128,7 @@ fn is_memory(error: &io::Error) -> bool {
     error.kind() == ErrorKind::OutOfMemory && error.raw_os_error().is_none()
 }
 
-/// Starts a child and its pumps.
+/// Starts a child and its pumps. The place for the child is there first: one that was started is never lost.
 fn begin<R, N: InboxName + Send + Sync + 'static>(
     rt: R,
     alloc: Global,
@@ -134,22 +140,24 @@ fn begin<R, N: InboxName + Send + Sync + 'static>(
 where
     R: Processes<Started = SystemProcess> + Threads + Wait + Clock + Copy + Send + 'static,
 {
+    let process = match Arc::new(alloc, Process::vacant()) {
+        Ok(process) => process,
+        Err(error) => {
+            drop(kit);
+            return Err(io::Error::from(error));
+        }
+    };
     let mut child = match spawned(&rt, alloc, words) {
         Ok(child) => child,
         Err(error) => {
             drop(kit);
+            drop(process);
             return Err(error);
         }
     };
     let pipes = pipes_of(&mut child);
-    match Arc::new(alloc, Process::of(child)) {
-        Ok(process) => served(rt, alloc, bell, kit, process, pipes, reports),
-        Err(error) => {
-            drop(kit);
-            drop(pipes);
-            Err(io::Error::from(error))
-        }
-    }
+    process.begin(&rt, child);
+    served(rt, alloc, bell, kit, process, pipes, reports)
 }
 
 // Starts the pumps of a child that runs. Where they can't be started, the child is ended.
@@ -182,7 +190,9 @@ where
     }
 }
 
+// Ends a child, and waits for it: for so long as for one that was left.
 fn end<R: Wait + Clock>(rt: &R, process: &Process) {
+    process.leave();
     let _ = process.kill(rt);
     let _ = process.wait(rt);
 }

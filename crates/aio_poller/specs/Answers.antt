@@ -47,11 +47,24 @@ is_shortage (Some number) = list_any (λ one. int_eq one number) shortages
 abbrev pub is_short : Error → Bool
 is_short error = is_shortage (raw_os_error error)
 
--- What an accept, a recv or a send answers where the system failed so: `again` where nothing came, and nowhere else.
+-- ENOBUFS, ENOMEM, EPERM and EPROTO
+abbrev pub failures : List ℤ
+failures = pos 105 ∷ pos 12 ∷ pos 1 ∷ pos 71 ∷ []
+
+abbrev pub is_failure : Option ℤ → Bool
+is_failure None = false
+is_failure (Some number) = list_any (λ one. int_eq one number) failures
+
+-- the system failed at this connection alone
+abbrev pub is_failing : Error → Bool
+is_failing error = is_failure (raw_os_error error)
+
+-- What an accept, a recv or a send answers where the system failed so: `again` where nothing came, and nowhere else;
+-- `broken` where the connection is lost.
 abbrev pub unready : Error → Result Answer Error
 unready error =
     if is_idle (error_kind error) then Ok answer.Again
-    else if is_lost (error_kind error) then Ok answer.Broken
+    else if is_lost (error_kind error) || is_failing error then Ok answer.Broken
     else Err error
 
 -- what a listen or a connect answers where the system failed so

@@ -2,7 +2,7 @@
 use crate::answers::{received, sent, shut};
 use crate::bell::PollerBell;
 use crate::conn::Conn;
-use crate::errors::{is_short, refused, unready};
+use crate::errors::{is_failing, is_short, refused, unready};
 use crate::server::Server;
 use aio_base::Memory;
 use aio_wire::{Answer, Call, Item, Readiness, Watch};
@@ -268,7 +268,7 @@ impl Sockets {
         };
         match server.listener.accept() {
             Ok((stream, _)) => self.keep(Conn::accepted(stream)),
-            Err(error) if is_short(&error) => {
+            Err(error) if is_short(&error) || is_failing(&error) => {
                 server.rest(now, self.closed);
                 Ok(Answer::Again)
             }
@@ -283,8 +283,9 @@ impl Sockets {
         }
     }
 
+    /// A connection of which the system refuses to send small pieces at once is kept all the same.
     fn keep(&mut self, conn: Conn) -> io::Result<Answer> {
-        conn.stream.set_nodelay(true)?;
+        let _ = conn.stream.set_nodelay(true);
         let number = self.conns_made;
         self.conns.insert(number, conn)?;
         self.conns_made = number.saturating_add(1);

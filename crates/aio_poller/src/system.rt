@@ -70,7 +70,7 @@ impl<R> RealPoller<R> {
 }
 
 impl<R: Net + Clock> RealPoller<R> {
-    /// Waits for what is watched; when it was done, and what was found.
+    /// Waits for what is watched, for what is left of this wait; when it was done, and what was found.
     fn find(
         &mut self,
         alloc: Global,
@@ -82,8 +82,10 @@ impl<R: Net + Clock> RealPoller<R> {
         ensures faults { self.new.faults ≡ self.old.faults }
     {
         let begun = self.time.now(&self.rt)?;
-        self.sockets.wait_for(begun, wait, watch)?;
+        let left = self.time.left_of(wait, begun);
+        self.sockets.wait_for(begun, left, watch)?;
         let now = self.time.now(&self.rt)?;
+        self.time.poll_at(now);
         let items = self.sockets.items_of(alloc, watch)?;
         Ok((now, items))
     }

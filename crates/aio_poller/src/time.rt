@@ -1,5 +1,6 @@
 //! The time that a poller tells.
 ghost use Rattle.std.specs.Prelude.{◌≡◌, ◌≤◌, IfOk};
+ghost use Rattle.aio_poller.specs.Waits.{left_of};
 
 use std::io;
 use std::time::{Clock, Instant};
@@ -10,16 +11,19 @@ pub struct Time {
     start: Instant,
     /// What it told last.
     pub told: u64,
+    /// What the last poll told: from there on a wait is counted.
+    pub polled: u64,
 }
 
 impl Time {
     /// It begins now.
     pub fn begin<R: Clock>(rt: &R) -> io::Result<Time>
-        ensures { IfOk result (λ time. time.told ≡ 0) }
+        ensures { IfOk result (λ time. (time.told ≡ 0) × (time.polled ≡ 0)) }
     {
         Ok(Time {
             start: Instant::now(rt)?,
             told: 0,
+            polled: 0,
         })
     }
 
@@ -28,10 +32,30 @@ impl Time {
     pub fn now<R: Clock>(&mut self, rt: &R) -> io::Result<u64>
         ensures told { IfOk result (λ now. self.new.told ≡ now) }
         ensures onward { self.old.told ≤ self.new.told }
+        ensures polled { self.new.polled ≡ self.old.polled }
     {
         let since = self.start.elapsed(rt)?;
         let millis = since.as_millis().min(i64::MAX as u128) as u64;
         self.told = self.told.max(millis);
         Ok(self.told)
+    }
+    /// A poll tells this time: the next wait is counted from it.
+    pub fn poll_at(&mut self, now: u64)
+        ensures told { self.new.told ≡ self.old.told }
+        ensures polled { self.new.polled ≡ now }
+    {
+        self.polled = now;
+    }
+
+    /// What is left, at this time, of a wait of so many milliseconds that began at the last poll. One without a bound stays
+    /// so.
+    /// Source: `base_events.py`, `_run_once`: `timeout = self._scheduled[0]._when - self.time()`.
+    pub fn left_of(&self, wait: Option<u64>, now: u64) -> Option<u64>
+        ensures { result ≡ left_of self.now.polled wait now }
+    {
+        match wait {
+            Some(wait) => Some(self.polled.saturating_add(wait).saturating_sub(now)),
+            None => None,
+        }
     }
 }

@@ -7,7 +7,7 @@ mod pipes;
 mod process;
 mod readiness;
 
-pub use ended::Ended;
+pub use ended::{Ended, Forgotten};
 pub use exit::ChildExit;
 pub use pipes::{PipeSink, PipeSource};
 pub use process::Process;

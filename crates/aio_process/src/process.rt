@@ -1,6 +1,7 @@
 //! A child's process, which one thread waits for while others may kill it.
 use crate::ended::Ended;
 use std::io;
+use std::io::ErrorKind;
 use std::process::Child;
 use std::sync::atomic::{AtomicBool, Ordering};
 use std::sync::{Condvar, Mutex, Wait};
@@ -9,23 +10,32 @@ use std::time::{Clock, Duration};
 /// The longest pause between two looks, in milliseconds.
 const LONGEST_PAUSE: u64 = 64;
 
-/// A child that was started. Its lock is held for a moment at a time, so whoever kills it never waits for its end.
+/// How long a child that was left is waited for, in milliseconds: one that a kill doesn't end may not end at all.
+const LAST_WAIT: u64 = 5_000;
+
+/// A place for a child, and the child once it was started. Its lock is held for a moment at a time, so whoever kills it never
+/// waits for its end.
 /// Source: `subprocess.py`, `Popen._try_wait` and `Popen.send_signal`.
 #[derive(Drop)]
 pub struct Process {
-    child: Mutex<Child>,
+    child: Mutex<Option<Child>>,
     stirred: Condvar,
     is_left: AtomicBool,
 }
 
 impl Process {
-    /// The process of a child that was just started.
-    pub fn of(child: Child) -> Process {
+    /// A place for a child that is to be started. It is there first, so that no child is lost for want of memory.
+    pub fn vacant() -> Process {
         Process {
-            child: Mutex::new(child),
+            child: Mutex::new(None),
             stirred: Condvar::new(),
             is_left: AtomicBool::new(false),
         }
+    }
+
+    /// The child that was just started.
+    pub fn begin<R: Wait>(&self, rt: &R, child: Child) {
+        *self.child.lock(rt) = Some(child);
     }
 
     /// Nobody wants what goes through its pipes any more: whoever waits to read or write one is to give up.
@@ -40,7 +50,10 @@ impl Process {
 
     /// Kills the child, unless it was waited for.
     pub fn kill<R: Wait>(&self, rt: &R) -> io::Result<()> {
-        let killed = self.child.lock(rt).kill();
+        let killed = match &mut *self.child.lock(rt) {
+            Some(child) => child.kill(),
+            None => Ok(()),
+        };
         self.stirred.notify_all();
         killed
     }
@@ -50,21 +63,48 @@ impl Process {
         self.stirred.notify_all();
     }
 
-    /// How the child ended. It looks at once, then after a pause that doubles, and right after each stir.
+    /// How the child ended. It looks at once, then after a pause that doubles, and right after each stir. Once the child was
+    /// left it is waited for 5 seconds more, and then it is an error.
     pub fn wait<R: Wait + Clock>(&self, rt: &R) -> io::Result<Ended> {
         let mut pause = 1;
+        let mut left = LAST_WAIT;
         let mut child = self.child.lock(rt);
         for _ in rt.forever() {
-            if let Some(ended) = Ended::look(&mut *child)? {
+            if let Some(ended) = look(&mut *child)? {
                 return Ok(ended);
+            }
+            if left == 0 {
+                break;
             }
             let (again, waited) = self
                 .stirred
                 .wait_timeout(rt, child, Duration::from_millis(pause));
             child = again;
-            pause = if waited.timed_out() { longer(pause) } else { 1 };
+            if waited.timed_out() {
+                left = self.left_after(left, pause);
+                pause = longer(pause);
+            } else {
+                pause = 1;
+            }
         }
-        unreachable!()
+        Err(io::Error::from(ErrorKind::TimedOut))
+    }
+
+    /// How long the child is waited for after a pause: less only once it was left.
+    fn left_after(&self, left: u64, pause: u64) -> u64 {
+        if self.is_left() {
+            left.saturating_sub(pause)
+        } else {
+            left
+        }
+    }
+}
+
+/// How the child ended, where it was started and has.
+fn look(child: &mut Option<Child>) -> io::Result<Option<Ended>> {
+    match child {
+        Some(child) => Ended::look(child),
+        None => Err(io::Error::from(ErrorKind::NotFound)),
     }
 }
 
