@@ -1,23 +1,28 @@
 //! Children.
 ghost use Rattle.std.specs.Prelude.{◌≡◌, [], ◌∷◌, true, false, Some, None, pos, negsuc, codes};
 ghost use Rattle.model_pump.specs.declared.stream.Stream.TheVariants as stream;
-ghost use Rattle.model_value.specs.declared.action.Action.TheVariants.{LostChild};
+ghost use Rattle.model_value.specs.declared.action.Action.TheVariants.{LostChild, WritableChild, ChildItem};
 ghost use Rattle.model_value.specs.declared.action.ChildItem.TheVariants as item;
 ghost use Rattle.model_value.specs.declared.kind.Kind.TheVariants.{BrokenPipeError};
 ghost use Rattle.model_value.specs.declared.outcome.Outcome.TheVariants.{Value as Returned, Failed};
 ghost use Rattle.model_value.specs.Value.{Nothing, Int, exception_of};
 ghost use Rattle.model_wire.specs.declared.answer.Answer.TheVariants as answer;
 ghost use Rattle.model_wire.specs.declared.call.Call.TheVariants as call;
+ghost use Rattle.model_wire.specs.declared.event.Handed.TheVariants as to;
 ghost use Rattle.model_wire.specs.declared.watch.Watch.TheVariants as watch;
 ghost use Rattle.model_stream.specs.declared.answers.ChildWait.TheVariants as wait;
+ghost use Rattle.model_stream.specs.declared.answers.Drain.TheVariants as drain;
 ghost use Rattle.model_stream.specs.declared.answers.StreamGot.TheVariants as got;
 ghost use Rattle.model_stream.specs.declared.answers.Wrote.TheVariants as wrote;
+ghost use Rattle.model_stream.specs.declared.put.Limited.TheVariants as limited;
 ghost use Rattle.model_stream.specs.declared.phase.Phase.TheVariants.{Open, Closing, Losing, Lost};
 ghost use Rattle.model_stream.specs.declared.read_op.ReadOp.TheVariants.{UpTo};
 ghost use Rattle.model_stream.specs.Children.{feed_more, tell_child, lose_child, close_child, write_child, wait_child, kill, new_child, its_pipe};
 ghost use Rattle.model_stream.specs.Doing.{MakeFuture, CallSoon, Settle, asked_on};
 ghost use Rattle.model_stream.specs.Receivers.{read};
-ghost use Rattle.model_stream.specs.Streams.{launch, no_streams, OpenedChild};
+ghost use Rattle.model_stream.specs.Requests as request;
+ghost use Rattle.model_stream.specs.Requests.{OfChild};
+ghost use Rattle.model_stream.specs.Streams.{act, launch, no_streams, OpenedChild};
 ghost use Rattle.model_stream.specs.Watching.{watched_child};
 ghost use Rattle.row_stream.specs.Made.{feeding, fed_out, over_input};
 ghost use Rattle.row_stream.specs.Played.{Asked, Changed, play, played};
@@ -105,4 +110,42 @@ pub fn breaks()
         ≡ played (Changed
         (Settle 5 (Failed (exception_of BrokenPipeError (codes "Connection lost"))))
         ∷ Asked (call.End 0) ∷ []) (over_input (Lost true)) }
+{}
+
+/// What is told behind an exit, a pipe's end or a break changes nothing.
+pub fn told_once_more()
+    ensures second_exit { play
+        (tell_child 0 (item.Exit (pos 4)) (record fed_out { code = Some (pos 3) })) []
+        ≡ played [] (record fed_out { code = Some (pos 3) }) }
+    ensures piece_behind_the_end { play
+        (tell_child 0 (item.Out (codes "x"))
+        (record fed_out { out = record { reader = reader.ended []; waiter = None } })) []
+        ≡ played [] (record fed_out { out = record { reader = reader.ended []; waiter = None } }) }
+    ensures broken_twice { play (tell_child 0 item.Broken (over_input (Losing true))) []
+        ≡ played [] (over_input (Losing true)) }
+{}
+
+/// A number that no child has changes nothing, whatever is told of it or asked.
+pub fn no_child_has_the_number()
+    ensures writable { play (act 7 true (WritableChild 0) (no_streams 0)) []
+        ≡ played [] (no_streams 0) }
+    ensures broken { play (act 7 true (ChildItem 0 item.Broken) (no_streams 0)) []
+        ≡ played [] (no_streams 0) }
+    ensures exit { play (act 7 true (ChildItem 0 (item.Exit (pos 1))) (no_streams 0)) []
+        ≡ played [] (no_streams 0) }
+    ensures write { play (request.write (to.Child 0) (codes "a") (no_streams 0)) []
+        ≡ played [] (no_streams 0, wrote.Done) }
+    ensures close { play (request.close (to.Child 0) (no_streams 0)) [] ≡ played [] (no_streams 0) }
+    ensures drain { play (request.drain false 7 (to.Child 0) (no_streams 0)) []
+        ≡ played [] (no_streams 0, drain.Goes) }
+    ensures limits { play
+        (request.limits (Some (pos 2)) (Some (pos 1)) (to.Child 0) (no_streams 0)) []
+        ≡ played [] (no_streams 0, limited.Set) }
+    ensures read { play (request.read 7 (UpTo 1) (OfChild stream.Out 0) (no_streams 0)) []
+        ≡ played [] (no_streams 0, got.Bytes []) }
+    ensures wait { play (request.wait 7 0 (no_streams 0)) []
+        ≡ played [] (no_streams 0, wait.Code (pos 0)) }
+    ensures kill { play (request.kill 0 (no_streams 0)) [] ≡ played [] (no_streams 0) }
+    ensures code { request.returncode 0 (no_streams 0) ≡ None }
+    ensures watched { watched_child 0 None ≡ [] }
 {}

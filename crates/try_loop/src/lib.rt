@@ -1,4 +1,4 @@
-//! Worked cases of the loop: of its parts, long ones among them; of coroutines along tapes; and of requests that are added to
+//! Worked cases of the loop: of futures that stand for others; of coroutines along tapes; and of requests that are added to
 //! its own.
 #![tactic(auto)]
 
@@ -6,13 +6,11 @@ mod asker;
 mod chains;
 mod extra;
 mod line;
-mod lives;
 mod next_turn;
 mod parts;
 mod running;
 mod said;
 mod scripts;
-mod step;
 mod still;
 mod tape_files;
 mod tapes;

@@ -1,6 +1,6 @@
 //! The cases.
+use crate::chains;
 use crate::still::Still;
-use crate::{chains, lives};
 use aio_base::Memory;
 use std::alloc::Global;
 use std::io;
@@ -9,52 +9,19 @@ use std::io;
 #[derive(Clone, Copy)]
 enum PartsCase {
     ManyWithDoneMember,
-    Chain,
-    ChainUpwards,
     ManyOfManys,
-    AwaitsAnother,
-    MustCancelIsUsedUp,
-    AwaitOfItself,
-    AwaitOfItsWaiter,
-    AwaitThroughMany,
-    CallbacksInOrder,
-    TimersByDeadline,
-    ManyTimers,
 }
 
-static CASES: [(&str, PartsCase); 12] = [
+static CASES: [(&str, PartsCase); 2] = [
     ("many_with_done_member", PartsCase::ManyWithDoneMember),
-    ("chain_of_100000_waits_is_cancelled", PartsCase::Chain),
-    (
-        "chain_of_100000_awaits_of_those_that_wait",
-        PartsCase::ChainUpwards,
-    ),
     ("many_of_1000_manys_is_cancelled", PartsCase::ManyOfManys),
-    ("awaits_another", PartsCase::AwaitsAnother),
-    ("mark_is_used_up", PartsCase::MustCancelIsUsedUp),
-    ("await_of_itself", PartsCase::AwaitOfItself),
-    ("await_of_its_waiter", PartsCase::AwaitOfItsWaiter),
-    ("await_through_many", PartsCase::AwaitThroughMany),
-    ("callbacks_in_order", PartsCase::CallbacksInOrder),
-    ("timers_by_deadline", PartsCase::TimersByDeadline),
-    ("100000_timers_fall_due", PartsCase::ManyTimers),
 ];
 
 impl PartsCase {
     fn run(self, alloc: Global, still: &mut Still) -> Result<bool, Memory> {
         match self {
             PartsCase::ManyWithDoneMember => chains::many_with_done_member(alloc, still),
-            PartsCase::Chain => chains::chain(alloc, 100_000, still),
-            PartsCase::ChainUpwards => chains::chain_upwards(alloc, 100_000, still),
             PartsCase::ManyOfManys => chains::many_of_manys(alloc, 1_000, still),
-            PartsCase::AwaitsAnother => lives::awaits_another(alloc, still),
-            PartsCase::MustCancelIsUsedUp => lives::must_cancel_is_used_up(alloc, still),
-            PartsCase::AwaitOfItself => lives::await_of_itself(alloc, still),
-            PartsCase::AwaitOfItsWaiter => lives::await_of_its_waiter(alloc, still),
-            PartsCase::AwaitThroughMany => lives::await_through_many(alloc, still),
-            PartsCase::CallbacksInOrder => lives::callbacks_in_order(alloc, still),
-            PartsCase::TimersByDeadline => lives::timers_by_deadline(alloc, still),
-            PartsCase::ManyTimers => lives::many_timers(alloc, 100_000, still),
         }
     }
 }

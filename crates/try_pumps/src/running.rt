@@ -4,7 +4,7 @@ ghost use Rattle.aio_inbox.specs.Naming.{table_of};
 
 use crate::reads::{READS, ReadRow};
 use crate::writes::{WRITES, WriteRow};
-use crate::{carry, exits, meeting};
+use crate::{carry, exits, failing, handed, meeting, sources};
 use aio_inbox::{Inbox, InboxName, Poster, Taker, UnnamedInbox};
 use std::alloc::Global;
 use std::io;
@@ -33,6 +33,34 @@ const OTHERS: [(&str, Row); 4] = [
     ("two pumps that need each other", Row::TwoThatNeedEachOther),
 ];
 
+/// A part of the outside in memory.
+#[derive(Clone, Copy)]
+enum Outside {
+    SourceInOrder,
+    HandedOn,
+    ReadsThatFail,
+    AsksThatFail,
+}
+
+const OUTSIDE: [(&str, Outside); 4] = [
+    ("source read in order", Outside::SourceInOrder),
+    ("bytes handed on", Outside::HandedOn),
+    ("listed reads of a source fail", Outside::ReadsThatFail),
+    ("listed asks of a wire fail", Outside::AsksThatFail),
+];
+
+impl Outside {
+    // Whether it does what it must.
+    fn is_right(self, alloc: Global) -> bool {
+        match self {
+            Outside::SourceInOrder => sources::is_read_in_order(alloc),
+            Outside::HandedOn => handed::are_handed_on(alloc),
+            Outside::ReadsThatFail => failing::listed_reads_fail(alloc),
+            Outside::AsksThatFail => failing::listed_asks_fail(alloc),
+        }
+    }
+}
+
 /// Whether so many pieces of 65,536 bytes come whole.
 pub fn carry_pieces<R: Threads + Wait + Clock + Sync>(rt: &R, alloc: Global, pieces: u64) -> bool {
     is_right(rt, alloc, Row::Carry(pieces))
@@ -55,6 +83,9 @@ pub fn run_rows<R: Print + Threads + Wait + Clock + Sync>(
     for (name, row) in OTHERS {
         let right = is_right(rt, alloc, row);
         tally.count(rt, name, right)?;
+    }
+    for (name, part) in OUTSIDE {
+        tally.count(rt, name, part.is_right(alloc))?;
     }
     tally.print(rt)
 }

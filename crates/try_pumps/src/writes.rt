@@ -33,7 +33,7 @@ pub struct WriteRow {
     pub posts: &'static [Shown],
 }
 
-pub static WRITES: [WriteRow; 5] = [
+pub static WRITES: [WriteRow; 6] = [
     WriteRow {
         name: "lane_and_sink",
         width: 1_000,
@@ -68,6 +68,20 @@ pub static WRITES: [WriteRow; 5] = [
         failing: &[2],
         writes: &[b"ab", b"c"],
         last: Last::Close,
+        told: Told {
+            moved: 1,
+            ending: Ending::Failed,
+            rings: 1,
+        },
+        taken: b"a",
+        posts: &[Shown::Broken],
+    },
+    WriteRow {
+        name: "broken_pumps: sink under one write",
+        width: 1,
+        failing: &[2],
+        writes: &[b"ab"],
+        last: Last::Nothing,
         told: Told {
             moved: 1,
             ending: Ending::Failed,

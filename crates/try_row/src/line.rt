@@ -21,6 +21,8 @@ pub enum RowLine<'a> {
     End(&'a [u8]),
     /// `times NUMBER TEXT`: so many times this text, without a newline.
     Times(&'a str),
+    /// `lines NUMBER TEXT`: so many lines of this text.
+    Lines(&'a str),
     /// Any other line: a comment, or an empty one.
     Comment,
 }
@@ -45,6 +47,7 @@ fn head_of(words: &str) -> RowLine<'_> {
         Some(("status", number)) => RowLine::Status(number),
         Some(("fails", call)) => RowLine::Fails(call),
         Some(("times", words)) => RowLine::Times(words),
+        Some(("lines", words)) => RowLine::Lines(words),
         _ if words == "written" => RowLine::Written,
         _ => RowLine::Comment,
     }

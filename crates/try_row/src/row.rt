@@ -69,7 +69,8 @@ impl Row {
                 self.add_text(alloc, b"\n")
             }
             RowLine::End(text) => self.add_text(alloc, text),
-            RowLine::Times(words) => self.add_times(alloc, words),
+            RowLine::Times(words) => self.add_times(alloc, words, b""),
+            RowLine::Lines(words) => self.add_times(alloc, words, b"\n"),
             RowLine::Row(_) | RowLine::Comment => Ok(()),
         }
     }
@@ -95,8 +96,8 @@ impl Row {
         Ok(())
     }
 
-    /// Adds a text so many times, as `12 x` says.
-    fn add_times(&mut self, alloc: Global, words: &str) -> Result<(), Memory> {
+    /// Adds a text with this end so many times, as `12 x` says.
+    fn add_times(&mut self, alloc: Global, words: &str, end: &[u8]) -> Result<(), Memory> {
         let Some((count, text)) = words.split_once(' ') else {
             return Ok(());
         };
@@ -105,6 +106,7 @@ impl Row {
         };
         for _ in 0..count {
             self.add_text(alloc, text.as_bytes())?;
+            self.add_text(alloc, end)?;
         }
         Ok(())
     }

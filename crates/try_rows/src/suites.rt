@@ -22,8 +22,6 @@ enum Suite {
     Playing,
     Extra,
     Parts,
-    Streams,
-    Children,
     Inbox,
     Hub,
     Pumps,
@@ -31,7 +29,7 @@ enum Suite {
 }
 
 /// The word that begins each.
-const SUITES: [(&str, Suite); 14] = [
+const SUITES: [(&str, Suite); 12] = [
     ("--rows", Suite::Rows),
     ("--tapes", Suite::Tapes),
     ("--words", Suite::Words),
@@ -40,8 +38,6 @@ const SUITES: [(&str, Suite); 14] = [
     ("--playing", Suite::Playing),
     ("--extra", Suite::Extra),
     ("--parts", Suite::Parts),
-    ("--streams", Suite::Streams),
-    ("--children", Suite::Children),
     ("--inbox", Suite::Inbox),
     ("--hub", Suite::Hub),
     ("--pumps", Suite::Pumps),
@@ -108,8 +104,6 @@ where
             try_loop::run_parts(&rt, alloc)?;
             Ok(0)
         }
-        Suite::Streams => Ok(try_streams::run_streams(&rt, alloc)?),
-        Suite::Children => Ok(try_streams::run_children(&rt, alloc)?),
         Suite::Inbox => Ok(run_inbox(rt, alloc, words)?),
         Suite::Hub => Ok(try_hub::run_hub(rt, alloc)?),
         Suite::Pumps => Ok(run_pumps(&rt, alloc, words)?),
