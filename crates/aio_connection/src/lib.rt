@@ -4,7 +4,7 @@
 mod connection;
 mod lost;
 
-pub use aio_receiver::{AllGot, StreamGot};
-pub use aio_sender::Drain;
+pub use aio_receiver::{AllGot, BareReceiver, StreamGot};
+pub use aio_sender::{Drain, LostSender};
 pub use connection::Connection;
 pub use lost::LostConnection;

@@ -73,8 +73,8 @@ use Rattle.aio_exchange.specs.Among.{AreTold}
 use Rattle.aio_exchange.specs.Exchanged.{Last, All, Met, Starved}
 use Rattle.aio_body.proofs.Asking.{come_none, comes_alone, comes_goes, comes_without}
 use Rattle.aio_body.specs.Asking.{Comes, ComesBy, WentBegins, before, or_stop}
-use Rattle.aio_streaming.specs.Acting as streaming
-use Rattle.aio_streaming.specs.Acting.{CallbackGoesOn}
+use Rattle.aio_step.specs.Acting as streaming
+use Rattle.aio_step.specs.Acting.{CallbackGoesOn}
 use Rattle.aio_core.specs.Running.{StepsBy, acting, goes_as, running_one}
 use Rattle.aio_body.proofs.Lasting.{spares_none, stands_on}
 use Rattle.aio_body.proofs.Left.{leaves_settle}

@@ -34,7 +34,7 @@ use Rattle.aio_body.specs.Slots.{HoldsMore}
 use Rattle.aio_body.specs.Stands.{profile_of, Stands, HasSlot, StandsAt, WaitsAs}
 use Rattle.aio_flat.specs.Code.{IsCodeOf}
 use Rattle.aio_timeout.specs.Kept.{AreTimeouts}
-use Rattle.aio_transports.specs.Standing.{TransportsStandFor as AreTransports}
+use Rattle.aio_step.specs.Standing.{TransportsStandFor as AreTransports}
 use Rattle.aio_group.specs.Held.{Held}
 use Rattle.aio_group.specs.Stands.{KeepsAt}
 use Rattle.aio_wire.specs.EventList.{EventList}

@@ -16,9 +16,9 @@ use aio_extra::Extra;
 use aio_flat::flatten;
 use aio_group::Groups;
 use aio_program::{Coroutine, Program};
+use aio_step::Transports;
 use aio_task::Parts;
 use aio_timeout::Timeouts;
-use aio_transports::Transports;
 use aio_wire::Events;
 use std::alloc::Global;
 

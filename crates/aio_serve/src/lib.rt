@@ -12,6 +12,7 @@ mod waiting;
 
 pub use added::{Answered, wake};
 pub use aio_body::or_stop;
+pub use aio_streaming::{act, connected, made, read_all_on, read_on, yielded};
 pub use groups::{child_done, leave_group};
 pub use table::reply;
 pub use timeouts::fire;

@@ -3,4 +3,6 @@
 
 mod steps;
 
+pub use aio_body::Transports;
+pub use aio_serve::{act, child_done, fire, made};
 pub use steps::{Started, Stepped, step};

@@ -13,11 +13,9 @@ mod callbacks;
 mod requests;
 
 use aio_base::Memory;
-use aio_connection::{Connection, LostConnection};
+use aio_connection::{BareReceiver, Connection, LostConnection, LostSender};
 use aio_flow::SpentFlow;
 use aio_reader::BareReader;
-use aio_receiver::BareReceiver;
-use aio_sender::LostSender;
 use aio_task::FutureId;
 use model_stream::Limited;
 use std::alloc::Global;

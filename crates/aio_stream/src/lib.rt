@@ -6,6 +6,7 @@ mod opened;
 mod server;
 mod streams;
 
+pub use aio_connection::{AllGot, Connection, Drain, StreamGot};
 pub use opened::Opened;
 pub use server::Server;
 pub use streams::Streams;

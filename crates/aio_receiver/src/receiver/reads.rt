@@ -8,9 +8,8 @@ ghost use Rattle.aio_receiver.specs.Gotten.{all_got};
 
 use super::{AllGot, Receiver, StreamGot};
 use aio_base::{Blob, Kind, Memory, exception};
-use aio_change::make_future;
+use aio_change::{Parts, make_future};
 use aio_reader::{ReadOp, Taken};
-use aio_task::Parts;
 use std::alloc::Global;
 
 const SECOND_WAITER: &str =

@@ -1,6 +1,6 @@
 use Rattle.std.proofs.Common.{subst}
 use Rattle.model_machine.specs.State as plain
-use Rattle.aio_transports.specs.Readers.{reader_as}
+use Rattle.aio_body.specs.Readers.{reader_as}
 use Rattle.aio_body.specs.Stands.{Possible}
 use Rattle.aio_body.specs.declared.resume_point.ResumePoint.TheVariants.{Leaving, Serving, Connecting, Yielding, Reading, ReadingAll}
 use Rattle.aio_step.specs.Stepping.{IsDecidingAs}
