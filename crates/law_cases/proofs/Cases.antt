@@ -7,8 +7,8 @@ use Rattle.model_value.specs.Request.{Request}
 use Rattle.model_value.specs.Value.{Value, Nothing, Exc, Outcome}
 use Rattle.model_loop.specs.Futures.{settle}
 use Rattle.model_loop.specs.Groups.{Refusal, exit_begin, group_of, next_group, refusal}
-use Rattle.model_loop.specs.Ledger.{ByScript, uncancel_by}
-use Rattle.model_loop.specs.Loop.{book}
+use Rattle.model_loop.specs.Ledger.{ByScript}
+use Rattle.model_loop.specs.Loop.{take_one_back}
 use Rattle.model_loop.specs.Tasks.{next_task}
 use Rattle.model_loop.specs.Timeouts.{is_active, next_timeout, timeout_of}
 use Rattle.model_machine.specs.Arguments.{as_future, as_awaited, as_task, as_timeout, as_group, as_int, as_delay, as_failure, as_list}
@@ -124,7 +124,7 @@ module _ {S : Type 0} (added : Extra S) (task : ℕ) (s : State S) where
   reply_is (request.Cancel x) other = given_is (request.Cancel x) refl (as_awaited s x) (requests task) (λ on e. cancels x on)
   reply_is (request.Cancelling x) other = given_is (request.Cancelling x) refl (as_task x) counted (λ other e. tells _ (λ n. refl) refl)
   reply_is (request.Uncancel x) other =
-      given_is (request.Uncancel x) refl (as_task x) (λ other now. counted other (in_loop (book (uncancel_by (ByScript task) other)) now))
+      given_is (request.Uncancel x) refl (as_task x) (λ other now. counted other (in_loop (take_one_back (ByScript task) other) now))
       (λ other e. uncancels x other)
   reply_is request.Current other = names_itself
   reply_is request.Time other = tells _ (λ n. refl) refl

@@ -1,31 +1,41 @@
 -- What timeouts and groups book themselves, and what the ledger then tells of them.
-use Rattle.std.proofs.Common.{◌≡◌, ℕ, Bool, List, None, Option, Some, [], ap, append_assoc, arith, cond, false, inl, inr, is_some, length, nat_eq, nat_lt, not}
-use Rattle.std.proofs.Common.{refl, subst, sym, true, ◌&&◌, ◌++◌, ◌+◌, ◌<◌, ◌==◌, ◌||◌, ◌∙◌, ◌∷◌, ◌⊎◌}
-use Rattle.model_loop.proofs.GroupCases.{abort_and_request_unless, abort_where, take_back_where}
+use Rattle.std.proofs.Common.{◌≡◌, ℕ, Bool, List, None, Option, Some, [], ap, append-nil, append_assoc, arith, cond, false, inl, inr, is_some, length, nat_eq}
+use Rattle.std.proofs.Common.{nat_lt, not}
+use Rattle.std.proofs.Common.{refl, slice_index_or, subst, sym, true, ◌&&◌, ◌++◌, ◌+◌, ◌<◌, ◌==◌, ◌||◌, ◌∙◌, ◌∷◌, ◌⊎◌}
+use Rattle.model_loop.proofs.GroupCases.{abort_and_request_unless, abort_where, take_back_where, wait_or_end_with}
+use Rattle.model_value.specs.Input.{Input}
+use Rattle.law_changes.proofs.BlockRows.{abort_in, heard_in, taken_in, wake_in}
 use Rattle.model_loop.proofs.TimeoutCases.{leave_from}
-use Rattle.model_loop.specs.Ledger.{Asked, Began, ByGroup, ByTimeout, LedgerEntry, Took, raised_among, uncancel_by}
+use Rattle.model_loop.specs.Ledger.{Asked, Began, ByGroup, ByTimeout, LedgerEntry, Origin, Took, raised_among}
 use Rattle.model_loop.specs.Timeouts.{exit_timeout, fire, has_expired, is_active, no_timeout, set_timeout, timeout_of, without_handle}
 use Rattle.std.proofs.lemmas.Bool.{cases_eq, eq-eqb, false≢true, ne_eqb}
 use Rattle.model_loop.specs.Cancel.{cancel}
 use Rattle.law_changes.specs.Changes.{ChangesTimeout, ChangesGroup}
-use Rattle.law_changes.proofs.Quietly.{abort_seen, abort_tells, change_tells, raised_entries, raised_none, seen-set}
-use Rattle.law_changes.proofs.Quietly.{wait_or_end_tells, wake_tells, without_tells}
-use Rattle.law_changes.proofs.Counting.{count-append, count-cons}
+use Rattle.law_changes.proofs.Quietly.{abort_seen, abort_tells, as_seen, change_tells, goes_on_open, heard_tells, raised_entries, raised_none, seen-set}
+use Rattle.law_changes.proofs.Quietly.{still_open, told_on, wait_tells, wake_tells, without_tells}
+use Rattle.law_changes.proofs.Counting.{count-append, count-cons, count-no}
 use Rattle.std.proofs.lemmas.List.{get_or-set_other, get_or-set_same}
 use Rattle.model_loop.specs.Tasks.{cancelling, future_of}
-use Rattle.model_loop.specs.Groups.{abort, abort_if_raised, begin_exit, blame, child_done, exit_begin, failure_of, group_of, new_group, only_cancelled}
-use Rattle.model_loop.specs.Groups.{request_parent, set_group, take_back, wake_exit, without_child}
+use Rattle.model_loop.specs.Groups.{abort, abort_if_raised, at_begin, at_end, begin_exit, blame, child_done, end_all, end_exit, exit_begin, exit_woken}
+use Rattle.model_loop.specs.Groups.{failure_of, group_of, new_group, only_cancelled, request_parent, set_group, take_back, wait_or_end, wake_exit}
+use Rattle.model_loop.specs.Groups.{without_child}
 use Rattle.model_value.specs.Value.{Exc}
 use Rattle.model_loop.specs.Balance.{GroupBalances, TimeoutBalances, asks, begins, is_by_group, is_by_timeout, is_expired, takes}
-use Rattle.law_changes.proofs.Asked.{ask_asked, begin_asked, quiet_asked}
+use Rattle.law_changes.proofs.Asked.{ask_asked, begin_asked, end_asked, quiet_asked}
 use Rattle.std.proofs.Math.ListN.{length-set}
-use Rattle.law_changes.specs.Telling.{BooksNone, Tells, is_open, seen_of_group, taken_back}
-use Rattle.model_loop.specs.Loop.{Active, Created, Expired, Expiring, Finished, Group, Loop, Timeout, TimeoutState, book}
+use Rattle.law_changes.specs.Telling.{BooksNone, BooksOf, IsOpen, Tells, is_open, seen_of_group, seen_of_timeout, taken_back}
+use Rattle.model_loop.specs.Loop.{Active, Created, Expired, Expiring, Finished, Group, Loop, Timeout, TimeoutState, book, take_one_back}
 use Rattle.model_loop.specs.Ways.{one_if}
 use Rattle.std.specs.List.{count_by}
 
 abbrev one : Bool → ℕ
 one b = cond b 1 0
+
+open_set : (id : ℕ) (l : Loop) (new : Group) → IsOpen id l → new.ended ≡ (group_of l id).ended → IsOpen id (set_group id new l)
+open_set id l new is same = record {
+  within = subst (λ (n : ℕ). id < n) (sym (length-set l.groups id new)) is.within;
+  open_ = ap (λ (g : Group). g.ended) (get_or-set_same l.groups id new (new_group 0) is.within) ∙ same ∙ is.open_;
+}
 
 is_mine : (id : ℕ) → ◌≡◌ {A = ℕ} (cond (nat_eq id id) 1 0) 1
 is_mine id = ap one (eq-eqb id id refl)
@@ -93,7 +103,7 @@ module _ (id : ℕ) (l : Loop) (within : id < length l.timeouts) (active : is_ac
   fire_tells = record {
     timeouts = λ j. timeouts j (cases_eq id j);
     groups = λ j.
-        quiet_asked j l.ledger (Asked (ByTimeout id) ∷ more) (group_of l j).requested (group_of l j).exiting
+        quiet_asked l.profile j l.ledger (Asked (ByTimeout id) ∷ more) (group_of l j).requested (group_of l j).exiting (group_of l j).ended
         (let b = count-cons (asks (is_by_group j)) (Asked (ByTimeout id)) more in let z = none.groups_ask j in omega (arith, b, z))
         (let b = count-cons (begins j) (Asked (ByTimeout id)) more in let z = none.groups_begin j in omega (arith, b, z))
         (let b = count-cons (takes (is_by_group j)) (Asked (ByTimeout id)) more in let z = none.groups_take j in omega (arith, b, z))
@@ -115,14 +125,14 @@ module _ (id : ℕ) (l : Loop) (within : id < length l.timeouts) (is : Tells l) 
   asked_same j = let a = count-append (asks (is_by_timeout j)) l.ledger (entry ∷ []) in omega (arith, a)
 
   over : Loop
-  over = set_timeout id (record (timeout_of l id) { state = Expired }) (book (uncancel_by (ByTimeout id) (timeout_of l id).task) l)
+  over = set_timeout id (record (timeout_of l id) { state = Expired }) (take_one_back (ByTimeout id) (timeout_of l id).task l)
 
   left_timeouts : (timeout_of l id).state ≡ Expiring → (j : ℕ) → (id ≡ j) ⊎ (id ≡ j → ⊥)
       → TimeoutBalances j (l.ledger ++ entry ∷ [])
-      (timeout_of (set_timeout id (record (timeout_of l id) { state = Expired }) (book (uncancel_by (ByTimeout id) (timeout_of l id).task) l)) j).state
+      (timeout_of (set_timeout id (record (timeout_of l id) { state = Expired }) (take_one_back (ByTimeout id) (timeout_of l id).task l)) j).state
   left_timeouts e j (inl same) =
       subst (λ i. TimeoutBalances i (l.ledger ++ entry ∷ [])
-      (timeout_of (set_timeout id (record (timeout_of l id) { state = Expired }) (book (uncancel_by (ByTimeout id) (timeout_of l id).task) l)) i).state) same
+      (timeout_of (set_timeout id (record (timeout_of l id) { state = Expired }) (take_one_back (ByTimeout id) (timeout_of l id).task l)) i).state) same
       (subst (λ (t : Timeout). TimeoutBalances id (l.ledger ++ entry ∷ []) t.state)
       (sym (get_or-set_same l.timeouts id (record (timeout_of l id) { state = Expired }) no_timeout within)) (record {
         asked =
@@ -145,10 +155,11 @@ module _ (id : ℕ) (l : Loop) (within : id < length l.timeouts) (is : Tells l) 
       })
 
   expired_tells : (timeout_of l id).state ≡ Expiring
-      → Tells (set_timeout id (record (timeout_of l id) { state = Expired }) (book (uncancel_by (ByTimeout id) (timeout_of l id).task) l))
+      → Tells (set_timeout id (record (timeout_of l id) { state = Expired }) (take_one_back (ByTimeout id) (timeout_of l id).task l))
   expired_tells e = record {
     timeouts = λ j. left_timeouts e j (cases_eq id j);
-    groups = λ j. quiet_asked j l.ledger (entry ∷ []) (group_of l j).requested (group_of l j).exiting refl refl refl (is.groups j);
+    groups = λ j.
+        quiet_asked l.profile j l.ledger (entry ∷ []) (group_of l j).requested (group_of l j).exiting (group_of l j).ended refl refl refl (is.groups j);
   }
 
   finished_tells : (has_expired (timeout_of l id).state ≡ false) → (is_expired (timeout_of l id).state ≡ false)
@@ -175,60 +186,77 @@ exit_tells raised id l within open_ is =
         ap (λ (t : Timeout). t.state)
         (get_or-set_same l.timeouts id (record (timeout_of l id) { tag = None }) no_timeout within)
 
--- ---- a group asks for its parent's cancel, once
-module _ (id : ℕ) (l : Loop) (within : id < length l.groups) (is : Tells l) where
-  abbrev parent_on : ℕ
-  parent_on = future_of l.parts (group_of l id).parent
+-- ---- what books of one group alone
+off : (id j : ℕ) → (id ≡ j → ⊥) → ◌≡◌ {A = ℕ} (cond (id == j) 1 0) 0
+off id j n = ap one (ne_eqb id j n)
 
+pub one_tells : (id : ℕ) (l q : Loop) (more : List LedgerEntry) → BooksOf id l q more
+    → GroupBalances l.profile id (l.ledger ++ more) (group_of q id).requested (group_of q id).exiting (group_of q id).ended → Tells l → Tells q
+one_tells id l q more b mine is = record {
+  timeouts = λ j. record {
+    asked = told_on (asks (is_by_timeout j)) l q more b.ledger (b.timeouts_ask j) _ _ (ap (λ (v : Bool × Bool). v.0) (b.timeouts j)) (is.timeouts j).asked;
+    took = told_on (takes (is_by_timeout j)) l q more b.ledger (b.timeouts_take j) _ _ (ap (λ (v : Bool × Bool). v.1) (b.timeouts j)) (is.timeouts j).took;
+  };
+  groups = λ j.
+      subst (λ ledger. GroupBalances q.profile j ledger (group_of q j).requested (group_of q j).exiting (group_of q j).ended) (sym b.ledger)
+      (subst (λ profile. GroupBalances profile j (l.ledger ++ more) (group_of q j).requested (group_of q j).exiting (group_of q j).ended) (sym b.profile)
+      (at j (cases_eq id j)));
+}
+  where
+    at : (j : ℕ) → (id ≡ j) ⊎ (id ≡ j → ⊥)
+        → GroupBalances l.profile j (l.ledger ++ more) (group_of q j).requested (group_of q j).exiting (group_of q j).ended
+    at j (inl same) =
+        subst (λ i. GroupBalances l.profile i (l.ledger ++ more) (group_of q i).requested (group_of q i).exiting (group_of q i).ended) same mine
+    at j (inr n) =
+        as_seen l.profile j (l.ledger ++ more) (group_of q j) (group_of l j) (b.groups j n)
+        (quiet_asked l.profile j l.ledger more (group_of l j).requested (group_of l j).exiting (group_of l j).ended (b.groups_ask j n)
+        (b.groups_begin j n) (b.groups_take j n) (is.groups j))
+
+abbrev balance_of : Loop → ℕ → List LedgerEntry → Group → Type 0
+balance_of l id ledger group = GroupBalances l.profile id ledger group.requested group.exiting group.ended
+
+-- ---- a group asks for its parent's cancel, once
+module _ (id : ℕ) (l : Loop) (open_ : IsOpen id l) (is : Tells l) where
   abbrev raised_more : List LedgerEntry
   raised_more = raised_entries (ByGroup id) (future_of l.parts (group_of l id).parent) l.parts
 
   quiet : BooksNone (raised_entries (ByGroup id) (future_of l.parts (group_of l id).parent) l.parts)
   quiet = raised_none (ByGroup id) (raised_among l.parts (cancel (future_of l.parts (group_of l id).parent) l.parts).seen)
 
-  request_groups : (group_of l id).requested ≡ false → (j : ℕ) → (id ≡ j) ⊎ (id ≡ j → ⊥)
-      → GroupBalances j (l.ledger ++ Asked (ByGroup id) ∷ raised_more) (group_of (request_parent id l) j).requested (group_of (request_parent id l) j).exiting
-  request_groups r j (inl same) =
-      subst (λ i. GroupBalances i (l.ledger ++ Asked (ByGroup id) ∷ raised_more) (group_of (request_parent id l) i).requested
-      (group_of (request_parent id l) i).exiting) same
-      (subst (λ (g : Group). GroupBalances id (l.ledger ++ Asked (ByGroup id) ∷ raised_more) g.requested g.exiting)
-      (sym (get_or-set_same l.groups id (record (group_of l id) { requested = true }) (new_group 0) within))
-      (ask_asked id l.ledger raised_more (group_of l id).exiting (quiet.groups_ask id) (quiet.groups_begin id) (quiet.groups_take id)
-      (subst (λ b. GroupBalances id l.ledger b (group_of l id).exiting) r (is.groups id))))
-  request_groups r j (inr n) =
-      subst (λ (g : Group). GroupBalances j (l.ledger ++ Asked (ByGroup id) ∷ raised_more) g.requested g.exiting)
-      (sym (get_or-set_other l.groups id j (record (group_of l id) { requested = true }) (new_group 0) (λ x. n (sym x))))
-      (quiet_asked j l.ledger (Asked (ByGroup id) ∷ raised_more) (group_of l j).requested (group_of l j).exiting
-      (let b = count-cons (asks (is_by_group j)) (Asked (ByGroup id)) raised_more in
-      let z = quiet.groups_ask j in
-      let w : one (id == j) ≡ 0 = ap one (ne_eqb id j n) in omega (arith, b, z, w))
-      (let b = count-cons (begins j) (Asked (ByGroup id)) raised_more in let z = quiet.groups_begin j in omega (arith, b, z))
-      (let b = count-cons (takes (is_by_group j)) (Asked (ByGroup id)) raised_more in let z = quiet.groups_take j in omega (arith, b, z))
-      (is.groups j))
-
-  pub request_tells : (group_of l id).requested ≡ false → Tells (request_parent id l)
-  request_tells r = record {
-    timeouts = λ j. record {
-      asked =
-          let a = count-append (asks (is_by_timeout j)) l.ledger (Asked (ByGroup id) ∷ raised_more) in
-          let b = count-cons (asks (is_by_timeout j)) (Asked (ByGroup id)) raised_more in
-          let z = quiet.timeouts_ask j in let w = (is.timeouts j).asked in omega (arith, a, b, z, w);
-      took =
-          let a = count-append (takes (is_by_timeout j)) l.ledger (Asked (ByGroup id) ∷ raised_more) in
-          let b = count-cons (takes (is_by_timeout j)) (Asked (ByGroup id)) raised_more in
-          let z = quiet.timeouts_take j in let w = (is.timeouts j).took in omega (arith, a, b, z, w);
-    };
-    groups = λ j. request_groups r j (cases_eq id j);
+  books : BooksOf id l (request_parent id l) (Asked (ByGroup id) ∷ raised_more)
+  books = record {
+    ledger = refl;
+    profile = refl;
+    timeouts = λ j. refl;
+    groups = λ j n. ap seen_of_group (get_or-set_other l.groups id j (record (group_of l id) { requested = true }) (new_group 0) (λ x. n (sym x)));
+    timeouts_ask = λ j.
+        let b = count-cons (asks (is_by_timeout j)) (Asked (ByGroup id)) raised_more in let z = quiet.timeouts_ask j in omega (arith, b, z);
+    timeouts_take = λ j.
+        let b = count-cons (takes (is_by_timeout j)) (Asked (ByGroup id)) raised_more in let z = quiet.timeouts_take j in omega (arith, b, z);
+    groups_ask = λ j n.
+        let b = count-cons (asks (is_by_group j)) (Asked (ByGroup id)) raised_more in
+        let z = quiet.groups_ask j in
+        let w = off id j n in omega (arith, b, z, w);
+    groups_take = λ j n.
+        let b = count-cons (takes (is_by_group j)) (Asked (ByGroup id)) raised_more in let z = quiet.groups_take j in omega (arith, b, z);
+    groups_begin = λ j n. let b = count-cons (begins j) (Asked (ByGroup id)) raised_more in let z = quiet.groups_begin j in omega (arith, b, z);
   }
 
--- ---- it is told of a child
-pub blame_tells : (fault : Option Exc) (id : ℕ) (l : Loop) → id < length l.groups → Tells l → Tells (blame fault id l)
-blame_tells None id l within is = is
-blame_tells (Some fault) id l within is = go (group_of l id).aborting (group_of l id).requested refl
-  where
-    heard : Loop
-    heard = set_group id (record (group_of l id) { errors = (group_of l id).errors ++ fault ∷ [] }) l
+  pub request_tells : (group_of l id).requested ≡ false → Tells (request_parent id l)
+  request_tells r =
+      one_tells id l (request_parent id l) (Asked (ByGroup id) ∷ raised_more) books
+      (subst (λ (g : Group). balance_of l id (l.ledger ++ Asked (ByGroup id) ∷ raised_more) g)
+      (sym (get_or-set_same l.groups id (record (group_of l id) { requested = true }) (new_group 0) open_.within))
+      (subst (λ b. GroupBalances l.profile id (l.ledger ++ Asked (ByGroup id) ∷ raised_more) true (group_of l id).exiting b) (sym open_.open_)
+      (ask_asked l.profile id l.ledger raised_more (group_of l id).exiting (quiet.groups_ask id) (quiet.groups_begin id) (quiet.groups_take id)
+      (subst (λ b. GroupBalances l.profile id l.ledger false (group_of l id).exiting b) open_.open_
+      (subst (λ b. GroupBalances l.profile id l.ledger b (group_of l id).exiting (group_of l id).ended) r (is.groups id)))))) is
 
+-- ---- it is told of a child
+pub blame_tells : (fault : Option Exc) (id : ℕ) (l : Loop) → IsOpen id l → Tells l → Tells (blame fault id l)
+blame_tells None id l open_ is = is
+blame_tells (Some fault) id l open_ is = go (group_of l id).aborting (group_of l id).requested refl
+  where
     noted : Tells (set_group id (record (group_of l id) { errors = (group_of l id).errors ++ fault ∷ [] }) l)
     noted = change_tells (ChangesGroup id (record (group_of l id) { errors = (group_of l id).errors ++ fault ∷ [] })) l refl is
 
@@ -239,82 +267,196 @@ blame_tells (Some fault) id l within is = go (group_of l id).aborting (group_of 
     go false true e = noted
     go false false e =
         let l1 = set_group id (record (group_of l id) { errors = (group_of l id).errors ++ fault ∷ [] }) l in
-        let w1 : id < length l1.groups = subst (λ (n : ℕ). id < n) (sym (length-set l.groups id _)) within in
+        let o1 : IsOpen id l1 = open_set id l _ open_ refl in
         let same : (group_of (abort id l1) id).requested ≡ false =
-        ap (λ (v : Bool × Bool). v.0) (abort_seen id l1 ∙ seen-set seen_of_group l.groups id _ (new_group 0) refl id) ∙ e in
-        request_tells id (abort id l1) (subst (λ (n : ℕ). id < n) (sym (length-set l1.groups id _)) w1)
-        (abort_tells id l1 noted) same
+        ap (λ (v : Bool × (Bool × Bool)). v.0) (abort_seen id l1 ∙ seen-set seen_of_group l.groups id _ (new_group 0) refl id) ∙ e in
+        request_tells id (abort id l1) (goes_on_open id (abort_in id l1) o1) (abort_tells id l1 noted) same
 
-pub child_done_tells : (id task : ℕ) (l : Loop) → id < length l.groups → Tells l → Tells (child_done id task l)
-child_done_tells id task l within is =
-    blame_tells (failure_of l.parts task) id (wake_exit id (without_child id task l))
-    (subst (λ (n : ℕ). id < n) (sym (length-set l.groups id _)) within)
-    (wake_tells id (without_child id task l) (change_tells (ChangesGroup id _) l refl is))
+pub child_done_tells : (id task : ℕ) (l : Loop) → IsOpen id l → Tells l → Tells (child_done id task l)
+child_done_tells id task l open_ is =
+    let l1 = without_child id task l in
+    let o1 : IsOpen id l1 = open_set id l _ open_ refl in
+    blame_tells (failure_of l.parts task) id (wake_exit id l1) (goes_on_open id (wake_in id l1) o1)
+    (wake_tells id l1 (change_tells (ChangesGroup id _) l refl is))
+
+-- ---- its exit ends, and may take its request back
+module _ (id : ℕ) (l : Loop) (open_ : IsOpen id l) (is : Tells l) where
+  abbrev last_entry : LedgerEntry
+  last_entry = Took (group_of l id).parent (ByGroup id) (nat_lt 0 (cancelling l.parts (group_of l id).parent))
+
+  abbrev last_taken : Bool → List LedgerEntry
+  last_taken b = taken_back b id (group_of l id).parent (nat_lt 0 (cancelling l.parts (group_of l id).parent))
+
+  record IsLast (b : Bool) (m : Loop) : Type 0 where
+    ledger : m.ledger ≡ l.ledger ++ last_taken b
+    profile : m.profile ≡ l.profile
+    timeouts : m.timeouts ≡ l.timeouts
+    others : (j : ℕ) → (id ≡ j → ⊥) → group_of m j ≡ group_of l j
+    requested : (group_of m id).requested ≡ (group_of l id).requested
+    exiting : (group_of m id).exiting ≡ (group_of l id).exiting
+    within : id < length m.groups
+
+  last_where : (b : Bool) → IsLast b (take_back_where b id l)
+  last_where false = record {
+    ledger = sym (append-nil l.ledger);
+    profile = refl;
+    timeouts = refl;
+    others = λ j n. refl;
+    requested = refl;
+    exiting = refl;
+    within = open_.within;
+  }
+  last_where true =
+      elim (cancelling taken.parts (group_of l id).parent == 0) as
+      (λ b. IsLast true (cond b (set_group id (record (group_of l id) { kept = None }) taken) taken)) [
+        | true ↦ record {
+          ledger = refl;
+          profile = refl;
+          timeouts = refl;
+          others = λ j n. get_or-set_other l.groups id j (record (group_of l id) { kept = None }) (new_group 0) (λ x. n (sym x));
+          requested = ap (λ (g : Group). g.requested) (get_or-set_same l.groups id (record (group_of l id) { kept = None }) (new_group 0) open_.within);
+          exiting = ap (λ (g : Group). g.exiting) (get_or-set_same l.groups id (record (group_of l id) { kept = None }) (new_group 0) open_.within);
+          within = subst (λ (n : ℕ). id < n) (sym (length-set l.groups id (record (group_of l id) { kept = None }))) open_.within;
+        }
+        | false ↦ record {
+          ledger = refl;
+          profile = refl;
+          timeouts = refl;
+          others = λ j n. refl;
+          requested = refl;
+          exiting = refl;
+          within = open_.within;
+        }
+      ]
+    where
+      taken : Loop
+      taken = take_one_back (ByGroup id) (group_of l id).parent l
+
+  -- the group as it ended
+  ended_tells : (b : Bool) → (at_end l.profile && (group_of l id).requested) ≡ b → (m : Loop) → IsLast b m → (new : Group)
+      → new.requested ≡ (group_of m id).requested → new.exiting ≡ (group_of m id).exiting → new.ended ≡ true → Tells (set_group id new m)
+  ended_tells b by m last new requested exiting ended = one_tells id l (set_group id new m) (last_taken b) books mine is
+    where
+      none_ask : (b : Bool) (f : Origin → Bool) → count_by (asks f) (last_taken b) ≡ 0
+      none_ask true f = refl
+      none_ask false f = refl
+
+      none_begin : (b : Bool) (j : ℕ) → count_by (begins j) (last_taken b) ≡ 0
+      none_begin true j = refl
+      none_begin false j = refl
+
+      none_timeout : (b : Bool) (j : ℕ) → count_by (takes (is_by_timeout j)) (last_taken b) ≡ 0
+      none_timeout true j = refl
+      none_timeout false j = refl
+
+      none_other : (b : Bool) (j : ℕ) → (id ≡ j → ⊥) → count_by (takes (is_by_group j)) (last_taken b) ≡ 0
+      none_other true j n = let c = count-cons (takes (is_by_group j)) last_entry [] in let z = off id j n in omega (arith, c, z)
+      none_other false j n = refl
+
+      books : BooksOf id l (set_group id new m) (last_taken b)
+      books = record {
+        ledger = last.ledger;
+        profile = last.profile;
+        timeouts = λ j. ap (λ (x : List Timeout). seen_of_timeout (slice_index_or x j no_timeout)) last.timeouts;
+        groups = λ j n. ap seen_of_group (get_or-set_other m.groups id j new (new_group 0) (λ x. n (sym x)) ∙ last.others j n);
+        timeouts_ask = λ j. none_ask b (is_by_timeout j);
+        timeouts_take = none_timeout b;
+        groups_ask = λ j n. none_ask b (is_by_group j);
+        groups_take = none_other b;
+        groups_begin = λ j n. none_begin b j;
+      }
+
+      mine : balance_of l id (l.ledger ++ last_taken b) (group_of (set_group id new m) id)
+      mine =
+          subst (λ (g : Group). balance_of l id (l.ledger ++ last_taken b) g) (sym (get_or-set_same m.groups id new (new_group 0) last.within))
+          (subst (λ r. GroupBalances l.profile id (l.ledger ++ last_taken b) r new.exiting new.ended) (sym (requested ∙ last.requested))
+          (subst (λ x. GroupBalances l.profile id (l.ledger ++ last_taken b) (group_of l id).requested x new.ended) (sym (exiting ∙ last.exiting))
+          (subst (λ e. GroupBalances l.profile id (l.ledger ++ last_taken b) (group_of l id).requested (group_of l id).exiting e) (sym ended)
+          (subst (λ b. GroupBalances l.profile id (l.ledger ++ last_taken b) (group_of l id).requested (group_of l id).exiting true) by
+          (end_asked l.profile id (group_of l id).parent (nat_lt 0 (cancelling l.parts (group_of l id).parent)) (group_of l id).requested
+          (group_of l id).exiting l.ledger
+          (subst (λ e. GroupBalances l.profile id l.ledger (group_of l id).requested (group_of l id).exiting e) open_.open_ (is.groups id)))))))
+
+  end_all_tells : Tells (end_all id l).loop
+  end_all_tells =
+      let b = at_end l.profile && (group_of l id).requested in
+      let m = take_back_where b id l in
+      at (group_of m id).kept (group_of m id).errors m (last_where b)
+    where
+      at : (kept : Option Exc) (errors : List Exc) (m : Loop) → IsLast (at_end l.profile && (group_of l id).requested) m
+          → Tells (end_exit kept errors id m).loop
+      at (Some fault) [] m last = ended_tells _ refl m last _ refl refl refl
+      at (Some fault) (error ∷ errors) m last = ended_tells _ refl m last _ refl refl refl
+      at None errors m last = ended_tells _ refl m last _ refl refl refl
+
+  pub wait_or_end_tells : Tells (wait_or_end id l).loop
+  wait_or_end_tells = at (group_of l id).children
+    where
+      at : (children : List ℕ) → Tells (wait_or_end_with children id l).loop
+      at [] = end_all_tells
+      at (child ∷ children) = wait_tells id l is
+
+pub woken_tells : (input : Input) (id : ℕ) (l : Loop) → IsOpen id l → Tells l → Tells (exit_woken input id l).loop
+woken_tells input id l open_ is = wait_or_end_tells id _ (goes_on_open id (heard_in id input l) open_) (heard_tells input id l is)
 
 -- ---- its exit begins
-module _ (raised : Option Exc) (id : ℕ) (l : Loop) (within : id < length l.groups) (outside : (group_of l id).exiting ≡ false) (is : Tells l) where
-  abbrev lowered : Bool
-  lowered = nat_lt 0 (cancelling l.parts (group_of l id).parent)
-
-  abbrev new : Group
-  new = record (group_of l id) { exiting = true; body = raised; kept = only_cancelled raised }
+module _ (raised : Option Exc) (id : ℕ) (l : Loop) (open_ : IsOpen id l) (outside : (group_of l id).exiting ≡ false) (is : Tells l) where
+  abbrev begun_new : Group
+  begun_new = record (group_of l id) { exiting = true; body = raised; kept = only_cancelled raised }
 
   abbrev begun : Loop
   begun = begin_exit raised id l
 
-  begun_same : group_of begun id ≡ new
-  begun_same = get_or-set_same l.groups id new (new_group 0) within
+  begun_same : group_of (begin_exit raised id l) id ≡ begun_new
+  begun_same = get_or-set_same l.groups id begun_new (new_group 0) open_.within
 
-  begun_other : (j : ℕ) → (id ≡ j → ⊥) → group_of begun j ≡ group_of l j
-  begun_other j n = get_or-set_other l.groups id j new (new_group 0) (λ x. n (sym x))
+  abbrev begun_taken : Bool → List LedgerEntry
+  begun_taken b = Began id ∷ taken_back b id (group_of begun id).parent (nat_lt 0 (cancelling l.parts (group_of begun id).parent))
 
-  -- with what is taken back, if it asked
-  told_as : (ledger : List LedgerEntry) (entries : List LedgerEntry) (q : Loop) → q.ledger ≡ l.ledger ++ entries
-      → ((j : ℕ) → (group_of q j).requested ≡ (group_of begun j).requested) → ((j : ℕ) → (group_of q j).exiting ≡ (group_of begun j).exiting)
-      → ((j : ℕ) → timeout_of q j ≡ timeout_of l j) → ((j : ℕ) → count_by (asks (is_by_timeout j)) entries ≡ 0)
-      → ((j : ℕ) → count_by (takes (is_by_timeout j)) entries ≡ 0)
-      → ((j : ℕ) → (id ≡ j → ⊥) → GroupBalances j (l.ledger ++ entries) (group_of l j).requested (group_of l j).exiting)
-      → GroupBalances id (l.ledger ++ entries) (group_of l id).requested true → Tells q
-  told_as ledger entries q e requested exiting timeouts asked took others mine = record {
-    timeouts = λ j. subst (λ x. TimeoutBalances j x (timeout_of q j).state) (sym e)
-        (subst (λ (t : Timeout). TimeoutBalances j (l.ledger ++ entries) t.state) (sym (timeouts j)) (record {
-          asked = let a = count-append (asks (is_by_timeout j)) l.ledger entries in let z = asked j in let w = (is.timeouts j).asked in
-              omega (arith, a, z, w);
-          took = let a = count-append (takes (is_by_timeout j)) l.ledger entries in let z = took j in let w = (is.timeouts j).took in omega (arith, a, z, w);
-        }));
-    groups = λ j.
-        subst (λ x. GroupBalances j x (group_of q j).requested (group_of q j).exiting) (sym e)
-        (subst (λ r. GroupBalances j (l.ledger ++ entries) r (group_of q j).exiting) (sym (requested j))
-        (subst (λ x. GroupBalances j (l.ledger ++ entries) (group_of begun j).requested x) (sym (exiting j)) (at j (cases_eq id j))));
+  begun_open : IsOpen id (begin_exit raised id l)
+  begun_open = record {
+    within = subst (λ (n : ℕ). id < n) (sym (length-set l.groups id begun_new)) open_.within;
+    open_ = ap (λ (g : Group). g.ended) begun_same ∙ open_.open_;
+  }
+
+  -- with what is taken back
+  begun_books : (b : Bool) (q : Loop) → q.ledger ≡ l.ledger ++ begun_taken b → q.profile ≡ l.profile → q.timeouts ≡ l.timeouts → q.groups ≡ begun.groups
+      → BooksOf id l q (begun_taken b)
+  begun_books b q ledger profile timeouts groups = record {
+    ledger = ledger;
+    profile = profile;
+    timeouts = λ j. ap (λ (x : List Timeout). seen_of_timeout (slice_index_or x j no_timeout)) timeouts;
+    groups = λ j n. ap (λ (x : List Group). seen_of_group (slice_index_or x j (new_group 0))) groups
+        ∙ ap seen_of_group (get_or-set_other l.groups id j begun_new (new_group 0) (λ x. n (sym x)));
+    timeouts_ask = λ j. none b (asks (is_by_timeout j)) refl refl;
+    timeouts_take = λ j. none b (takes (is_by_timeout j)) refl refl;
+    groups_ask = λ j n. none b (asks (is_by_group j)) refl refl;
+    groups_take = λ j n. none b (takes (is_by_group j)) refl (ne_eqb id j n);
+    groups_begin = λ j n. none b (begins j) (ne_eqb id j n) refl;
   }
     where
-      at : (j : ℕ) → (id ≡ j) ⊎ (id ≡ j → ⊥) → GroupBalances j (l.ledger ++ entries) (group_of begun j).requested (group_of begun j).exiting
-      at j (inl same) =
-          subst (λ i. GroupBalances i (l.ledger ++ entries) (group_of begun i).requested (group_of begun i).exiting) same
-          (subst (λ (g : Group). GroupBalances id (l.ledger ++ entries) g.requested g.exiting) (sym begun_same) mine)
-      at j (inr n) =
-          subst (λ (g : Group). GroupBalances j (l.ledger ++ entries) g.requested g.exiting) (sym (begun_other j n)) (others j n)
+      none : (b : Bool) (f : LedgerEntry → Bool) → f (Began id) ≡ false
+          → f (Took (group_of begun id).parent (ByGroup id) (nat_lt 0 (cancelling l.parts (group_of begun id).parent))) ≡ false
+          → count_by f (begun_taken b) ≡ 0
+      none false f x y = count-no f (Began id) [] x
+      none true f x y =
+          count-no f (Began id) (Took (group_of begun id).parent (ByGroup id) (nat_lt 0 (cancelling l.parts (group_of begun id).parent)) ∷ []) x
+          ∙ count-no f (Took (group_of begun id).parent (ByGroup id) (nat_lt 0 (cancelling l.parts (group_of begun id).parent))) [] y
 
-  was : GroupBalances id l.ledger (group_of l id).requested false
-  was = subst (λ x. GroupBalances id l.ledger (group_of l id).requested x) outside (is.groups id)
+  begun_balance : (b : Bool) → (at_begin l.profile && (group_of l id).requested) ≡ b → (q : Loop) → q.groups ≡ begun.groups
+      → balance_of l id (l.ledger ++ begun_taken b) (group_of q id)
+  begun_balance b by q groups =
+      subst (λ (x : List Group). balance_of l id (l.ledger ++ begun_taken b) (slice_index_or x id (new_group 0))) (sym groups)
+      (subst (λ (g : Group). balance_of l id (l.ledger ++ begun_taken b) g) (sym begun_same)
+      (subst (λ b. GroupBalances l.profile id (l.ledger ++ begun_taken b) (group_of l id).requested true (group_of l id).ended) by
+      (begin_asked l.profile id (group_of begun id).parent (nat_lt 0 (cancelling l.parts (group_of begun id).parent)) (group_of l id).requested
+      (group_of l id).ended l.ledger
+      (subst (λ x. GroupBalances l.profile id l.ledger (group_of l id).requested x (group_of l id).ended) outside (is.groups id)))))
 
-  began_other : (j : ℕ) → (id ≡ j → ⊥) → (entries : List LedgerEntry) → count_by (asks (is_by_group j)) entries ≡ 0
-      → count_by (begins j) entries ≡ 0 → count_by (takes (is_by_group j)) entries ≡ 0
-      → GroupBalances j (l.ledger ++ entries) (group_of l j).requested (group_of l j).exiting
-  began_other j n entries a b t =
-      quiet_asked j l.ledger entries (group_of l j).requested (group_of l j).exiting a b t (is.groups j)
-
-  off : (j : ℕ) → (id ≡ j → ⊥) → ◌≡◌ {A = ℕ} (cond (id == j) 1 0) 0
-  off j n = ap one (ne_eqb id j n)
-
-  taken_tells : (requested : Bool) → (group_of l id).requested ≡ requested → Tells (take_back_where requested id begun)
-  taken_tells false r =
-      told_as [] (Began id ∷ []) begun refl (λ j. refl) (λ j. refl) (λ j. refl) (λ j. refl) (λ j. refl)
-      (λ j n. began_other j n (Began id ∷ []) refl
-      (let c = count-cons (begins j) (Began id) [] in let z = off j n in omega (arith, c, z)) refl)
-      (subst (λ b. GroupBalances id (l.ledger ++ Began id ∷ taken_back b id (group_of l id).parent lowered) (group_of l id).requested true) r
-      (begin_asked id (group_of l id).parent lowered (group_of l id).requested l.ledger was))
-  taken_tells true r =
+  taken_tells : (b : Bool) → (at_begin l.profile && (group_of l id).requested) ≡ b → Tells (take_back_where b id begun)
+  taken_tells false by =
+      one_tells id l begun (begun_taken false) (begun_books false begun refl refl refl refl) (begun_balance false by begun refl) is
+  taken_tells true by =
       elim (cancelling taken.parts (group_of begun id).parent == 0) as
       (λ b. Tells (cond b (set_group id (record (group_of begun id) { kept = None }) taken) taken)) [
         | true ↦ change_tells (ChangesGroup id (record (group_of begun id) { kept = None })) taken refl told
@@ -322,28 +464,15 @@ module _ (raised : Option Exc) (id : ℕ) (l : Loop) (within : id < length l.gro
       ]
     where
       taken : Loop
-      taken = book (uncancel_by (ByGroup id) (group_of begun id).parent) begun
+      taken = take_one_back (ByGroup id) (group_of begun id).parent begun
 
-      told : Tells (book (uncancel_by (ByGroup id) (group_of begun id).parent) begun)
+      told : Tells (take_one_back (ByGroup id) (group_of begun id).parent begun)
       told =
-          told_as [] (Began id ∷ Took (group_of begun id).parent (ByGroup id) (nat_lt 0 (cancelling l.parts (group_of begun id).parent)) ∷ [])
-          (book (uncancel_by (ByGroup id) (group_of begun id).parent) begun)
+          one_tells id l (take_one_back (ByGroup id) (group_of begun id).parent begun) (begun_taken true)
+          (begun_books true (take_one_back (ByGroup id) (group_of begun id).parent begun)
           (append_assoc l.ledger (Began id ∷ [])
-          (Took (group_of begun id).parent (ByGroup id) (nat_lt 0 (cancelling l.parts (group_of begun id).parent)) ∷ []))
-          (λ j. refl) (λ j. refl) (λ j. refl) (λ j. refl) (λ j. refl)
-          (λ j n. began_other j n _ refl
-          (let c = count-cons (begins j) (Began id)
-          (Took (group_of begun id).parent (ByGroup id) (nat_lt 0 (cancelling l.parts (group_of begun id).parent)) ∷ []) in
-          let z = off j n in omega (arith, c, z))
-          (let c = count-cons (takes (is_by_group j)) (Began id)
-          (Took (group_of begun id).parent (ByGroup id) (nat_lt 0 (cancelling l.parts (group_of begun id).parent)) ∷ []) in
-          let d = count-cons (takes (is_by_group j))
-          (Took (group_of begun id).parent (ByGroup id) (nat_lt 0 (cancelling l.parts (group_of begun id).parent))) [] in
-          let z = off j n in omega (arith, c, d, z)))
-          (subst (λ b. GroupBalances id
-          (l.ledger ++ Began id ∷ taken_back b id (group_of begun id).parent (nat_lt 0 (cancelling l.parts (group_of begun id).parent)))
-          (group_of l id).requested true) r
-          (begin_asked id (group_of begun id).parent (nat_lt 0 (cancelling l.parts (group_of begun id).parent)) (group_of l id).requested l.ledger was))
+          (Took (group_of begun id).parent (ByGroup id) (nat_lt 0 (cancelling l.parts (group_of begun id).parent)) ∷ [])) refl refl refl)
+          (begun_balance true by (take_one_back (ByGroup id) (group_of begun id).parent begun) refl) is
 
   abort_where_tells : (b : Bool) (q : Loop) → Tells q → Tells (abort_where b id q)
   abort_where_tells true q t = abort_tells id q t
@@ -351,8 +480,10 @@ module _ (raised : Option Exc) (id : ℕ) (l : Loop) (within : id < length l.gro
 
   pub begin_tells : Tells (exit_begin raised id l).loop
   begin_tells =
-      let taken = take_back id begun in
-      let told : Tells (take_back id begun) =
-      subst (λ b. Tells (take_back_where b id begun)) (sym (ap (λ (g : Group). g.requested) begun_same)) (taken_tells (group_of l id).requested refl) in
+      let taken = take_back (at_begin l.profile) id (begin_exit raised id l) in
+      let told : Tells (take_back (at_begin l.profile) id (begin_exit raised id l)) =
+      subst (λ b. Tells (take_back_where (at_begin l.profile && b) id (begin_exit raised id l))) (sym (ap (λ (g : Group). g.requested) begun_same))
+      (taken_tells (at_begin l.profile && (group_of l id).requested) refl) in
       wait_or_end_tells id (abort_if_raised raised id taken)
+      (still_open id (taken_in id (at_begin l.profile) raised (begin_exit raised id l)) begun_open)
       (abort_where_tells (is_some raised && not (group_of taken id).aborting) taken told)

@@ -1,32 +1,37 @@
 -- Steps that are no timeout's and no group's book nothing of them.
 use Rattle.std.proofs.Common.{◌≡◌, ℕ, Bool, List, None, Option, Some, [], ap, append-nil, arith, false, map, option_map, refl}
-use Rattle.std.proofs.Common.{slice_index_or, slice_set, subst, suc, sym, true, zero, ℤ, ◌++◌, ◌∙◌, ◌∷◌, nat_lt}
+use Rattle.std.proofs.Common.{slice_index_or, slice_set, subst, suc, sym, true, zero, ℤ, ◌&&◌, ◌<◌, ◌++◌, ◌∙◌, ◌∷◌, nat_lt}
+use Rattle.std.proofs.Math.ListN.{length-set}
+use Rattle.std.proofs.lemmas.List.{get_or-set_same}
 use Rattle.model_loop.proofs.TimeoutCases.{reschedule_where}
 use Rattle.model_loop.specs.Handles.{deadline}
-use Rattle.model_loop.specs.Groups.{abort, create, exit_woken, group_of, new_group}
-use Rattle.model_loop.specs.Groups.{wait_or_end, wake_exit}
+use Rattle.model_loop.specs.Groups.{abort, create, group_of, hear, new_group, set_group}
+use Rattle.model_loop.specs.Groups.{wait_for_children, wake_exit}
+use Rattle.model_loop.specs.Futures.{new_plain, next_future}
 use Rattle.model_loop.specs.Cycles.{cycle}
 use Rattle.model_loop.specs.Timeouts.{enter_timeout, is_active, make_timeout, moment, next_timeout, no_timeout, reschedule, schedule, timeout_of}
 use Rattle.model_loop.specs.Timeouts.{without_handle}
 use Rattle.model_loop.specs.Tasks.{must_cancel_of, cancelling}
-use Rattle.model_loop.specs.Loop.{Loop, book}
+use Rattle.model_loop.specs.Loop.{Group, Loop, book, in_parts}
 use Rattle.model_loop.specs.Ledger.{Asked, Booked, ByAbort, ByWait, LedgerEntry, Origin, Raised, Took, ask_cancel, raised_among, request_each}
 use Rattle.model_loop.specs.Ledger.{uncancel_by}
 use Rattle.model_loop.specs.Suspend.{cancel_wait, suspend, wait_on}
 use Rattle.std.specs.List.{count_by}
 use Rattle.model_loop.specs.Ways.{one_if}
-use Rattle.law_changes.specs.Blocks.{OfSchedule, gives_up, fires_soon, fires_later, tags, GroupStage, OfGroup, changes, aborts, waits, wakes, OfEnding}
-use Rattle.law_changes.specs.Blocks.{in_ending, ends, OfCreating, in_creating, spawns, registers}
-use Rattle.law_changes.specs.Changes.{LoopChange, OfParts, MakesTimeout, ChangesTimeout, MakesGroup, ChangesGroup, AsksCancel, TakesBack, BeginsExit}
+use Rattle.law_changes.specs.Blocks.{OfSchedule, gives_up, fires_soon, fires_later, tags, GroupStage, OfGroup, changes, aborts, waits, wakes, OfTaking}
+use Rattle.law_changes.specs.Blocks.{in_taking, takes as takes_one}
+use Rattle.law_changes.specs.Blocks.{OfCreating, in_creating, spawns, registers}
+use Rattle.law_changes.specs.Changes.{LoopChange, MakesFuture, OfParts, MakesTimeout, ChangesTimeout, MakesGroup, ChangesGroup, AsksCancel, TakesBack}
+use Rattle.law_changes.specs.Changes.{BeginsExit}
 use Rattle.law_changes.specs.Changes.{made_of_loop}
 use Rattle.law_changes.specs.Reaches.{Reaches}
-use Rattle.law_changes.proofs.BlockRows.{abort_in, create_in, each_in, heard_in, schedule_in, wait_or_end_in, wake_in, without_in}
+use Rattle.law_changes.proofs.BlockRows.{abort_in, create_in, each_in, heard_in, schedule_in, wake_in, without_in}
 use Rattle.law_changes.proofs.Folds.{keep, widen}
-use Rattle.law_changes.specs.Telling.{BooksNone, BooksQuietly, IsOther, Tells, seen_of_group, seen_of_timeout}
+use Rattle.law_changes.specs.Telling.{BooksNone, BooksQuietly, IsOpen, IsOther, Tells, seen_of_group, seen_of_timeout}
 use Rattle.model_value.specs.Action.{CycleKind}
 use Rattle.model_loop.specs.Cancel.{cancel}
-use Rattle.model_loop.specs.Parts.{Parts}
-use Rattle.model_loop.specs.Balance.{GroupBalances, is_by_timeout, takes, asks, begins, is_by_group}
+use Rattle.model_loop.specs.Parts.{Parts, Plain, Profile, One, Two}
+use Rattle.model_loop.specs.Balance.{GroupBalances, has_taken, is_by_timeout, takes, asks, begins, is_by_group}
 use Rattle.law_changes.proofs.Asked.{quiet_asked}
 use Rattle.law_changes.proofs.Counting.{count-append, count-no}
 use Rattle.model_value.specs.Input.{Input}
@@ -76,8 +81,8 @@ request_none by id p other = record {
     none : BooksNone (map (λ task. Raised task by) (raised_among p (cancel id p).seen))
     none = raised_none by (raised_among p (cancel id p).seen)
 
-pub uncancel_none : (by : Origin) (task : ℕ) (p : Parts) → IsOther by → BooksNone (uncancel_by by task p).entries
-uncancel_none by task p other = record {
+pub uncancel_none : (profile : Profile) (by : Origin) (task : ℕ) (p : Parts) → IsOther by → BooksNone (uncancel_by profile by task p).entries
+uncancel_none profile by task p other = record {
   timeouts_ask = λ id. refl;
   timeouts_take = λ id. behind_zero (takes (is_by_timeout id)) (Took task by (nat_lt 0 (cancelling p task))) [] (other.timeout id) refl;
   groups_ask = λ id. refl;
@@ -103,39 +108,55 @@ suspend_none task on p = at (cycle p task on)
     at None = must_cancel (must_cancel_of p task)
 
 -- ---- such changes keep what the ledger tells
-told_on : (f : LedgerEntry → Bool) (l q : Loop) (b : BooksQuietly l q) → count_by f b.more ≡ 0 → (was now : Bool) → now ≡ was
-    → count_by f l.ledger ≡ one_if was → count_by f q.ledger ≡ one_if now
-told_on f l q b none was now same told =
-    let c = count-append f l.ledger b.more in
-    let e : count_by f q.ledger ≡ count_by f (l.ledger ++ b.more) = ap (count_by f) b.ledger in
+pub told_on : (f : LedgerEntry → Bool) (l q : Loop) (more : List LedgerEntry) → q.ledger ≡ l.ledger ++ more → count_by f more ≡ 0
+    → (was now : Bool) → now ≡ was → count_by f l.ledger ≡ one_if was → count_by f q.ledger ≡ one_if now
+told_on f l q more ledger none was now same told =
+    let c = count-append f l.ledger more in
+    let e : count_by f q.ledger ≡ count_by f (l.ledger ++ more) = ap (count_by f) ledger in
     let s : one_if now ≡ one_if was = ap one_if same in
     omega (arith, c, none, told, e, s)
+
+-- a group's balance is of what is seen of it
+pub as_seen : (profile : Profile) (id : ℕ) (ledger : List LedgerEntry) (g h : Group) → seen_of_group g ≡ seen_of_group h
+    → GroupBalances profile id ledger h.requested h.exiting h.ended → GroupBalances profile id ledger g.requested g.exiting g.ended
+as_seen profile id ledger g h same is = record {
+  asked = is.asked ∙ ap (λ (v : Bool × (Bool × Bool)). one_if v.0) (sym same);
+  began = is.began ∙ ap (λ (v : Bool × (Bool × Bool)). one_if v.1.0) (sym same);
+  took = is.took ∙ ap one_if (taken profile);
+}
+  where
+    taken : (profile : Profile) → has_taken profile id ledger h.requested h.ended ≡ has_taken profile id ledger g.requested g.ended
+    taken One = refl
+    taken Two = ap (λ (v : Bool × (Bool × Bool)). v.1.1) (sym same)
 
 quietly_tells : (l q : Loop) → BooksQuietly l q → Tells l → Tells q
 quietly_tells l q b is = record {
   timeouts = λ id. record {
-    asked = told_on (asks (is_by_timeout id)) l q b (b.none.timeouts_ask id) _ _ (ap (λ (v : Bool × Bool). v.0) (b.timeouts id)) (is.timeouts id).asked;
-    took = told_on (takes (is_by_timeout id)) l q b (b.none.timeouts_take id) _ _ (ap (λ (v : Bool × Bool). v.1) (b.timeouts id)) (is.timeouts id).took;
+    asked = told_on (asks (is_by_timeout id)) l q b.more b.ledger (b.none.timeouts_ask id) _ _
+        (ap (λ (v : Bool × Bool). v.0) (b.timeouts id)) (is.timeouts id).asked;
+    took = told_on (takes (is_by_timeout id)) l q b.more b.ledger (b.none.timeouts_take id) _ _
+        (ap (λ (v : Bool × Bool). v.1) (b.timeouts id)) (is.timeouts id).took;
   };
   groups = λ id.
-      subst (λ ledger. GroupBalances id ledger (group_of q id).requested (group_of q id).exiting) (sym b.ledger)
-      (subst (λ (v : Bool × Bool). GroupBalances id (l.ledger ++ b.more) v.0 v.1) (sym (b.groups id))
-      (quiet_asked id l.ledger b.more (group_of l id).requested (group_of l id).exiting (b.none.groups_ask id)
-      (b.none.groups_begin id) (b.none.groups_take id) (is.groups id)));
+      subst (λ ledger. GroupBalances q.profile id ledger (group_of q id).requested (group_of q id).exiting (group_of q id).ended) (sym b.ledger)
+      (as_seen q.profile id (l.ledger ++ b.more) (group_of q id) (group_of l id) (b.groups id)
+      (subst (λ profile. GroupBalances profile id (l.ledger ++ b.more) (group_of l id).requested (group_of l id).exiting (group_of l id).ended) (sym b.profile)
+      (quiet_asked l.profile id l.ledger b.more (group_of l id).requested (group_of l id).exiting (group_of l id).ended (b.none.groups_ask id)
+      (b.none.groups_begin id) (b.none.groups_take id) (is.groups id))));
 }
 
 book_quietly : (change : Parts → Booked) (l : Loop) → BooksNone (change l.parts).entries → BooksQuietly l (book change l)
 book_quietly change l none =
-    record { more = (change l.parts).entries; ledger = refl; none = none; groups = λ id. refl; timeouts = λ id. refl }
+    record { more = (change l.parts).entries; ledger = refl; none = none; profile = refl; groups = λ id. refl; timeouts = λ id. refl }
 
 pub book_tells : (change : Parts → Booked) (l : Loop) → BooksNone (change l.parts).entries → Tells l → Tells (book change l)
 book_tells change l none is = quietly_tells l (book change l) (book_quietly change l none) is
 
 -- one that books nothing
-unbooked_quietly : (l q : Loop) → q.ledger ≡ l.ledger → ((id : ℕ) → seen_of_group (group_of q id) ≡ seen_of_group (group_of l id))
+unbooked_quietly : (l q : Loop) → q.ledger ≡ l.ledger → q.profile ≡ l.profile → ((id : ℕ) → seen_of_group (group_of q id) ≡ seen_of_group (group_of l id))
     → ((id : ℕ) → seen_of_timeout (timeout_of q id) ≡ seen_of_timeout (timeout_of l id)) → BooksQuietly l q
-unbooked_quietly l q same groups timeouts =
-    record { more = []; ledger = same ∙ sym (append-nil l.ledger); none = none_nil; groups = groups; timeouts = timeouts }
+unbooked_quietly l q same profile groups timeouts =
+    record { more = []; ledger = same ∙ sym (append-nil l.ledger); none = none_nil; profile = profile; groups = groups; timeouts = timeouts }
 
 -- ---- what a list tells of its elements, after one was changed or appended as the view sees no change
 pub seen-set : {A Y : Type 0} (f : A → Y) (xs : List A) (i : ℕ) (new d : A) → f new ≡ f (slice_index_or xs i d) → (j : ℕ)
@@ -164,13 +185,13 @@ MayQuietly (BeginsExit id) l = ⊥
 MayQuietly _ l = Unit {0}
 
 quiet_change : (change : LoopChange) (l : Loop) → MayQuietly change l → BooksQuietly l (made_of_loop change l)
-quiet_change (OfParts change) l may = unbooked_quietly l _ refl (λ id. refl) (λ id. refl)
-quiet_change (MakesTimeout task) l may = unbooked_quietly l _ refl (λ id. refl) (seen-push seen_of_timeout l.timeouts _ no_timeout refl)
-quiet_change (ChangesTimeout id new) l may = unbooked_quietly l _ refl (λ id. refl) (seen-set seen_of_timeout l.timeouts id new no_timeout may)
-quiet_change (MakesGroup parent) l may = unbooked_quietly l _ refl (seen-push seen_of_group l.groups _ (new_group 0) refl) (λ id. refl)
-quiet_change (ChangesGroup id new) l may = unbooked_quietly l _ refl (seen-set seen_of_group l.groups id new (new_group 0) may) (λ id. refl)
+quiet_change (OfParts change) l may = unbooked_quietly l _ refl refl (λ id. refl) (λ id. refl)
+quiet_change (MakesTimeout task) l may = unbooked_quietly l _ refl refl (λ id. refl) (seen-push seen_of_timeout l.timeouts _ no_timeout refl)
+quiet_change (ChangesTimeout id new) l may = unbooked_quietly l _ refl refl (λ id. refl) (seen-set seen_of_timeout l.timeouts id new no_timeout may)
+quiet_change (MakesGroup parent) l may = unbooked_quietly l _ refl refl (seen-push seen_of_group l.groups _ (new_group 0) refl) (λ id. refl)
+quiet_change (ChangesGroup id new) l may = unbooked_quietly l _ refl refl (seen-set seen_of_group l.groups id new (new_group 0) may) (λ id. refl)
 quiet_change (AsksCancel by future) l may = book_quietly (ask_cancel by future) l (request_none by future l.parts may)
-quiet_change (TakesBack by task) l may = book_quietly (uncancel_by by task) l (uncancel_none by task l.parts may)
+quiet_change (TakesBack by task) l may = book_quietly (uncancel_by l.profile by task) l (uncancel_none l.profile by task l.parts may)
 quiet_change (BeginsExit id) l may = absurd may
 
 pub change_tells : (change : LoopChange) (l : Loop) → MayQuietly change l → Tells l → Tells (made_of_loop change l)
@@ -204,8 +225,8 @@ enter_tells task delay l is =
     schedule_tells (next_timeout l) (option_map (deadline l.parts.time) delay) (make_timeout task l) (change_tells (MakesTimeout task) l tt is)
 
 -- ---- groups
-abbrev seen_of_stage : GroupStage → Bool × Bool
-seen_of_stage it = (it.requested, it.exiting)
+abbrev seen_of_stage : GroupStage → Bool × (Bool × Bool)
+seen_of_stage it = (it.requested, (it.exiting, it.ended && it.requested))
 
 may_group : (id : ℕ) (change : LoopChange) (l : Loop) → OfGroup id change l → MayQuietly change l
 may_group id _ l (changes new same) = ap seen_of_stage same
@@ -213,9 +234,23 @@ may_group id _ l (aborts future) = by_abort id
 may_group id _ l waits = tt
 may_group id _ l (wakes future) = tt
 
-may_end : (id : ℕ) (change : LoopChange) (l : Loop) → OfEnding id change l → MayQuietly change l
-may_end id change l (in_ending it) = may_group id change l it
-may_end id _ l (ends errors) = refl
+-- and while a group goes on it has not ended
+open_change : (id : ℕ) (change : LoopChange) (l : Loop) → OfTaking id change l → IsOpen id l → IsOpen id (made_of_loop change l)
+open_change id _ l (in_taking (changes new same)) is = record {
+  within = subst (λ (n : ℕ). id < n) (sym (length-set l.groups id new)) is.within;
+  open_ =
+      ap (λ (g : Group). g.ended) (get_or-set_same l.groups id new (new_group 0) is.within) ∙ ap (λ (s : GroupStage). s.ended) same ∙ is.open_;
+}
+open_change id _ l (in_taking (aborts future)) is = record { within = is.within; open_ = is.open_ }
+open_change id _ l (in_taking waits) is = record { within = is.within; open_ = is.open_ }
+open_change id _ l (in_taking (wakes future)) is = record { within = is.within; open_ = is.open_ }
+open_change id _ l (takes_one task) is = record { within = is.within; open_ = is.open_ }
+
+pub still_open : (id : ℕ) {l m : Loop} → Reaches made_of_loop (OfTaking id) l m → IsOpen id l → IsOpen id m
+still_open id row is = keep (IsOpen id) (open_change id) row is
+
+pub goes_on_open : (id : ℕ) {l m : Loop} → Reaches made_of_loop (OfGroup id) l m → IsOpen id l → IsOpen id m
+goes_on_open id row is = still_open id (widen (λ change l it. in_taking it) row) is
 
 may_create : (id : ℕ) (change : LoopChange) (l : Loop) → OfCreating id change l → MayQuietly change l
 may_create id change l (in_creating it) = may_group id change l it
@@ -237,11 +272,14 @@ abort_seen id l =
 pub wake_tells : (id : ℕ) (l : Loop) → Tells l → Tells (wake_exit id l)
 wake_tells id l = row_tells (widen (may_group id) (wake_in id l))
 
-pub wait_or_end_tells : (id : ℕ) (l : Loop) → Tells l → Tells (wait_or_end id l).loop
-wait_or_end_tells id l = row_tells (widen (may_end id) (wait_or_end_in id l))
+pub wait_tells : (id : ℕ) (l : Loop) → Tells l → Tells (wait_for_children id l).loop
+wait_tells id l is =
+    change_tells (ChangesGroup id (record (group_of l id) { exit_future = Some (next_future l.parts) })) (in_parts new_plain l) refl
+    (change_tells (OfParts (MakesFuture Plain)) l tt is)
 
-pub woken_tells : (input : Input) (id : ℕ) (l : Loop) → Tells l → Tells (exit_woken input id l).loop
-woken_tells input id l is = wait_or_end_tells id _ (row_tells (widen (may_group id) (heard_in id input l)) is)
+pub heard_tells : (input : Input) (id : ℕ) (l : Loop) → Tells l
+    → Tells (hear input id (set_group id (record (group_of l id) { exit_future = None }) l))
+heard_tells input id l = row_tells (widen (may_group id) (heard_in id input l))
 
 -- a request for each of several tasks
 pub each_tells : (by : Origin) (tasks : List ℕ) (l : Loop) → IsOther by → Tells l → Tells (book (request_each by tasks) l)

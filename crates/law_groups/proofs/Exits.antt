@@ -1,5 +1,6 @@
 -- The exit of a group goes on after its wait: the whole stays sound.
-use Rattle.std.proofs.Common.{◌≡◌, ℕ, ◌<◌, ◌⊎◌, Bool, true, false, List, [], ◌∷◌, ◌++◌, Option, Some, None, length, refl, ap, sym, subst, ◌∙◌, inl, inr}
+use Rattle.std.proofs.Common.{◌≡◌, ℕ, ◌<◌, ◌⊎◌, Bool, true, false, ◌&&◌, ◌==◌, cond, List, [], ◌∷◌, ◌++◌, Option, Some, None, length, refl, ap, sym, subst, ◌∙◌}
+use Rattle.std.proofs.Common.{inl, inr}
 use Rattle.std.proofs.Common.{append-nil}
 use Rattle.std.proofs.Math.ListN.{length-set}
 use Rattle.std.proofs.lemmas.Bool.{cases_eq, false≢true}
@@ -7,16 +8,18 @@ use Rattle.std.proofs.lemmas.Option.{same_Some, none-some}
 use Rattle.model_value.specs.declared.input.Input.TheVariants.{Send, Throw}
 use Rattle.model_value.specs.Input.{Input}
 use Rattle.model_value.specs.Value.{Exc}
-use Rattle.model_loop.proofs.GroupCases.{wait_or_end_with, keep_and_abort_unless}
+use Rattle.model_loop.proofs.GroupCases.{wait_or_end_with, keep_and_abort_unless, take_back_where}
 use Rattle.model_loop.specs.Parts.{Plain}
-use Rattle.model_loop.specs.Loop.{Group, Loop, in_parts}
+use Rattle.model_loop.specs.Loop.{Group, Loop, in_parts, take_one_back}
 use Rattle.model_loop.specs.Futures.{next_future, new_plain}
-use Rattle.model_loop.specs.Ledger.{ByAbort}
-use Rattle.model_loop.specs.Groups.{group_of, set_group, abort, body_failure, end_exit, wait_for_children, wait_or_end, hear, exit_woken}
+use Rattle.model_loop.specs.Ledger.{ByAbort, ByGroup}
+use Rattle.model_loop.specs.Groups.{group_of, set_group, at_end, abort, body_failure, end_exit, wait_for_children, wait_or_end, hear, exit_woken}
 use Rattle.law_steps.specs.Frames.{Covers}
 use Rattle.law_groups.specs.Holds.{Holds}
 use Rattle.model_loop.specs.Children.{HasPlainExit, IsOrderly, body_at_end, failures}
-use Rattle.law_groups.proofs.Holding.{request_each_holds, group_same, group_other, Fits, fits_at, set_holds}
+use Rattle.model_loop.specs.Tasks.{cancelling, uncancel}
+use Rattle.law_steps.proofs.Stepping.{uncancel_fewer, uncancel_looks_same}
+use Rattle.law_groups.proofs.Holding.{looks_holds, request_each_holds, group_same, group_other, Fits, fits_at, set_holds}
 use Rattle.law_groups.proofs.ChildDone.{fits_again, flag_fits}
 use Rattle.law_steps.proofs.Making.{made_new}
 use Rattle.model_loop.specs.Owning.{is_plain}
@@ -131,11 +134,67 @@ module _ (running excused : Option ℕ) (covers : Covers running excused) (told 
         (λ e. absurd (false≢true (sym o.not_ended ∙ e)))) o.orderly;
   }
 
+  -- ---- its own request is taken back
+  taken_open : (l : Loop) → IsOpen l → IsOpen (take_one_back (ByGroup id) (group_of l id).parent l)
+  taken_open l o = record {
+    sound = looks_holds running excused told told (group_of l) l.parts (uncancel l.profile (group_of l id).parent l.parts)
+        (uncancel_looks_same l.profile (group_of l id).parent l.parts) (uncancel_fewer l.profile (group_of l id).parent l.parts) o.sound;
+    orderly = o.orderly;
+    within = o.within;
+    exiting = o.exiting;
+    not_ended = o.not_ended;
+    idle = o.idle;
+  }
+
+  unkept_open : (l : Loop) → IsOpen l → IsOpen (set_group id (record (group_of l id) { kept = None }) l)
+  unkept_open l o = record {
+    sound = set_at new l o.within
+        (flag_fits l.parts id (told id) (told id) (group_of l id) new refl refl refl refl refl refl refl (here l o.sound).errors (here l o.sound)) o.sound;
+    orderly = orderly_set id new l o.within
+        (open_orderly new o.exiting (entered l o) (λ fault e. absurd (none-some fault e)) (o.orderly id).body_aborts (λ e. o.idle)) o.orderly;
+    within = subst (λ (n : ℕ). id < n) (sym (length-set l.groups id new)) o.within;
+    exiting = ap (λ (g : Group). g.exiting) same ∙ o.exiting;
+    not_ended = ap (λ (g : Group). g.ended) same ∙ o.not_ended;
+    idle = ap (λ (g : Group). g.exit_future) same ∙ o.idle;
+  }
+    where
+      new : Group
+      new = record (group_of l id) { kept = None }
+
+      same : group_of (set_group id (record (group_of l id) { kept = None }) l) id ≡ record (group_of l id) { kept = None }
+      same = group_same id new l o.within
+
+  took_open : (b : Bool) (l : Loop) → IsOpen l → IsOpen (take_back_where b id l)
+  took_open false l o = o
+  took_open true l o =
+      elim (cancelling (uncancel l.profile (group_of l id).parent l.parts) (group_of l id).parent == 0) as (λ x.
+      IsOpen (cond x (set_group id (record (group_of l id) { kept = None }) (take_one_back (ByGroup id) (group_of l id).parent l))
+      (take_one_back (ByGroup id) (group_of l id).parent l))) [
+        | true ↦ unkept_open (take_one_back (ByGroup id) (group_of l id).parent l) (taken_open l o)
+        | false ↦ taken_open l o
+      ]
+
+  -- it leaves the children
+  took_children : (b : Bool) (l : Loop) → IsOpen l → (group_of (take_back_where b id l) id).children ≡ (group_of l id).children
+  took_children false l o = refl
+  took_children true l o =
+      elim (cancelling (uncancel l.profile (group_of l id).parent l.parts) (group_of l id).parent == 0) as (λ x.
+      (group_of (cond x (set_group id (record (group_of l id) { kept = None }) (take_one_back (ByGroup id) (group_of l id).parent l))
+      (take_one_back (ByGroup id) (group_of l id).parent l)) id).children ≡ (group_of l id).children) [
+        | true ↦
+            ap (λ (g : Group). g.children)
+            (group_same id (record (group_of l id) { kept = None }) (take_one_back (ByGroup id) (group_of l id).parent l) o.within)
+        | false ↦ refl
+      ]
+
   pub wait_or_end_well : (l : Loop) → IsOpen l → IsWell (wait_or_end id l).loop
   wait_or_end_well l o = at (group_of l id).children refl
     where
       at : (children : List ℕ) → (group_of l id).children ≡ children → IsWell (wait_or_end_with children id l).loop
-      at [] e = end_well (group_of l id).kept (group_of l id).errors l o e refl refl
+      at [] e =
+          let now : Bool = at_end l.profile && (group_of l id).requested in
+          let last = take_back_where now id l in
+          end_well (group_of last id).kept (group_of last id).errors last (took_open now l o) (took_children now l o ∙ e) refl refl
       at (child ∷ children) e = wait_well l o
 
   -- ---- a cancel of the parent while the exit waits

@@ -4,7 +4,8 @@ use Rattle.model_value.specs.Value.{Exc}
 use Rattle.model_loop.proofs.GroupCases.{wait_or_end_with}
 use Rattle.model_loop.specs.Loop.{Loop}
 use Rattle.model_loop.specs.Futures.{is_pending, is_pending_at}
-use Rattle.model_loop.specs.Groups.{GroupExit, Waits, raised_of, body_failure, end_exit, wait_or_end, group_of, abort_if_raised, take_back, begin_exit}
+use Rattle.model_loop.specs.Groups.{GroupExit, Waits, raised_of, body_failure, end_exit, wait_or_end, group_of, abort_if_raised, at_begin, at_end, take_back}
+use Rattle.model_loop.specs.Groups.{begin_exit}
 use Rattle.model_loop.specs.Groups.{exit_begin}
 use Rattle.std.proofs.lemmas.Option.{none-some, same_Some}
 use Rattle.law_cancel.proofs.Lookups.{get-push_last}
@@ -27,11 +28,12 @@ waits_pending id l on = at (group_of l id).children
   where
     at : (children : List ℕ) → (wait_or_end_with children id l).answer ≡ Waits on → is_pending (wait_or_end_with children id l).loop.parts on ≡ true
     at [] e =
-        absurd (none-some on (sym (ends_without (group_of l id).kept (group_of l id).errors id l) ∙ ap waits_for e))
+        let last = take_back (at_end l.profile) id l in
+        absurd (none-some on (sym (ends_without (group_of last id).kept (group_of last id).errors id last) ∙ ap waits_for e))
     at (child ∷ children) e =
         subst (λ i. is_pending (wait_or_end_with (child ∷ children) id l).loop.parts i ≡ true)
         (same_Some (length l.parts.futures) on (ap waits_for e)) (ap is_pending_at (get-push_last l.parts.futures _))
 
 pub exit_waits : (raised : Option Exc) (id : ℕ) (l : Loop) (on : ℕ) → (exit_begin raised id l).answer ≡ Waits on
     → is_pending (exit_begin raised id l).loop.parts on ≡ true
-exit_waits raised id l on = waits_pending id (abort_if_raised raised id (take_back id (begin_exit raised id l))) on
+exit_waits raised id l on = waits_pending id (abort_if_raised raised id (take_back (at_begin l.profile) id (begin_exit raised id l))) on

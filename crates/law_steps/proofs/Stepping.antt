@@ -1,6 +1,6 @@
 -- A step's beginning and its ends keep the parts sound.
-use Rattle.std.proofs.Common.{◌≡◌, ℕ, zero, suc, ◌+◌, ◌<◌, ◌⊎◌, Bool, true, false, cond, not, ◌&&◌, List, ◌∷◌, Option, Some, None, length, option_map}
-use Rattle.std.proofs.Common.{slice_get, slice_set, refl, ap, sym, subst, ◌∙◌, inl, inr, arith, ◌≤◌}
+use Rattle.std.proofs.Common.{◌≡◌, ℕ, zero, suc, ◌+◌, ◌-◌, ◌<◌, ◌⊎◌, Bool, true, false, cond, not, ◌&&◌, List, ◌∷◌, Option, Some, None, length, option_map}
+use Rattle.std.proofs.Common.{slice_get, slice_set, refl, ap, sym, subst, ◌∙◌, inl, inr, arith, ◌≤◌, ◌==◌}
 use Rattle.std.proofs.lemmas.Bool.{cases_eq, cases_Bool, false≢true, eqb-true, eq-eqb, ne_eqb}
 use Rattle.std.proofs.lemmas.Option.{same_Some, none-some, slice_get_past}
 use Rattle.std.proofs.lemmas.List.Sums.{sum_by-cons}
@@ -8,9 +8,10 @@ use Rattle.std.specs.List.{count_by}
 use Rattle.std.specs.Option.{option_map_or}
 use Rattle.model_value.specs.Action.{Action}
 use Rattle.model_value.specs.declared.action.Action.TheVariants.{Step, StepInCycle, Wakeup}
-use Rattle.model_loop.specs.Parts.{Handle, Future, Task, Parts}
+use Rattle.model_loop.specs.Parts.{Handle, Future, Task, Parts, Profile, One, Two}
 use Rattle.model_loop.specs.Futures.{is_pending, is_pending_at}
 use Rattle.model_loop.specs.Tasks.{lives, waiter_of, future_of, change_task, must_cancel_of, set_waiter, clear_must_cancel, begin_step, uncancel}
+use Rattle.model_loop.specs.Tasks.{must_still_cancel}
 use Rattle.model_loop.specs.Ways.{one_if, steps, steps_among, wakeups_on, is_running, wakeups_at, ways, wanted, resumes, wakes}
 use Rattle.model_loop.specs.Totals.{callbacks_at, pending_where}
 use Rattle.model_loop.specs.MustCancel.{MayKeepMustCancel}
@@ -68,12 +69,38 @@ clear_must_cancel_sound running excused id p is =
     same_sound running excused p (clear_must_cancel id p) (change_looks_same id _ p (λ t. refl) (λ t. refl)) (clear_must_cancel_fewer id p) is
 
 -- a count of cancels falls
-pub uncancel_looks_same : (task : ℕ) (p : Parts) → LooksSame p (uncancel task p)
-uncancel_looks_same task p = change_looks_same task _ p (λ t. refl) (λ t. refl)
+pub uncancel_looks_same : (profile : Profile) (task : ℕ) (p : Parts) → LooksSame p (uncancel profile task p)
+uncancel_looks_same profile task p = change_looks_same task _ p (λ t. refl) (λ t. refl)
 
-pub uncancel_fewer : (id : ℕ) (p : Parts) (task : ℕ) → must_cancel_of (uncancel id p) task ≡ true → must_cancel_of p task ≡ true
-uncancel_fewer id p task m =
-    sym (change_task-kept (λ (o : Option Task). option_map_or (λ (t : Task). t.must_cancel) o false) id _ p (λ t. refl) task) ∙ m
+still_cancels : (profile : Profile) (t : Task) → must_still_cancel profile t ≡ true → t.must_cancel ≡ true
+still_cancels One t m = m
+still_cancels Two t m = at (t.cancels == 1) m
+  where
+    at : (b : Bool) → cond b false t.must_cancel ≡ true → t.must_cancel ≡ true
+    at true m = absurd (false≢true m)
+    at false m = m
+
+abbrev must_cancel_at : Option Task → Bool
+must_cancel_at o = option_map_or (λ (t : Task). t.must_cancel) o false
+
+pub uncancel_fewer : (profile : Profile) (id : ℕ) (p : Parts) (task : ℕ) → must_cancel_of (uncancel profile id p) task ≡ true
+    → must_cancel_of p task ≡ true
+uncancel_fewer profile id p task m = go (cases_eq id task)
+  where
+    here : (o : Option Task) → slice_get p.tasks id ≡ o
+        → must_cancel_of (option_map_or (λ (t : Task). record p {
+          tasks = slice_set p.tasks id (record t { cancels = t.cancels - 1; must_cancel = must_still_cancel profile t });
+        }) o p) id ≡ true → must_cancel_at o ≡ true
+    here None e m = ap must_cancel_at (sym e) ∙ m
+    here (Some t) e m =
+        still_cancels profile t
+        (sym (ap must_cancel_at (get-set_same p.tasks id t (record t { cancels = t.cancels - 1; must_cancel = must_still_cancel profile t }) e)) ∙ m)
+
+    go : (id ≡ task) ⊎ (id ≡ task → ⊥) → must_cancel_of p task ≡ true
+    go (inl same) =
+        subst (λ t. must_cancel_of p t ≡ true) same
+        (here (slice_get p.tasks id) refl (subst (λ t. must_cancel_of (uncancel profile id p) t ≡ true) (sym same) m))
+    go (inr n) = sym (at_task must_cancel_at id _ p task n) ∙ m
 
 -- ---- which task an action steps
 pub steps_one : (action : Action) (a b : ℕ) → steps a action ≡ true → steps b action ≡ true → a ≡ b

@@ -9,8 +9,8 @@ use Rattle.model_loop.proofs.TimeoutCases.{leave_from, reschedule_where, with_de
 use Rattle.model_loop.specs.Deadlines.{fires, others_as}
 use Rattle.model_loop.specs.Entries.{entries}
 use Rattle.model_loop.specs.Handles.{later, soon}
-use Rattle.model_loop.specs.Ledger.{ByTimeout, uncancel_by}
-use Rattle.model_loop.specs.Loop.{TimeoutState, Created, Active, Expiring, Expired, Finished, Timeout, Loop, book, in_parts}
+use Rattle.model_loop.specs.Ledger.{ByTimeout}
+use Rattle.model_loop.specs.Loop.{TimeoutState, Created, Active, Expiring, Expired, Finished, Timeout, Loop, in_parts, take_one_back}
 use Rattle.model_loop.specs.Tasks.{future_of}
 use Rattle.model_loop.specs.Timeouts.{exit_timeout, fire, give_up, is_active, moment, reschedule, schedule, timeout_of, without_handle}
 use Rattle.model_machine.specs.Sound.{is_open}
@@ -111,4 +111,4 @@ module _ (test : Value → Bool) (nothing : test Nothing ≡ true) (grown : Bool
       at Expiring =
           let m = without_handle id l in
           ap (λ (t : Timeout). is_open t.state)
-          (timeout_same id (record (timeout_of m id) { state = Expired }) (book (uncancel_by (ByTimeout id) (timeout_of m id).task) m) there)
+          (timeout_same id (record (timeout_of m id) { state = Expired }) (take_one_back (ByTimeout id) (timeout_of m id).task m) there)
