@@ -1,3 +1,6 @@
+pub use Rattle.aio_transports.specs.Standing
+pub use Rattle.aio_transports.specs.Kept
+pub use Rattle.aio_transports.specs.Readers
 pub mod Near
 pub mod Held
 pub mod Stands

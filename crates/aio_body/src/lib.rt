@@ -10,6 +10,7 @@ mod resume_point;
 mod run_state;
 mod slots;
 
+pub use aio_transports::Transports;
 pub use arguments::{as_failure, as_group, as_int, as_task, as_timeout, is_list, is_program};
 pub use delay::{Delay, as_delay};
 pub use held::HeldSlot;

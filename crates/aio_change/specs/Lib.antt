@@ -1,2 +1,3 @@
+pub use Rattle.aio_task.specs.View
 pub mod Owned
 pub mod Seen

@@ -6,5 +6,6 @@ mod changing;
 pub mod laws;
 mod settling;
 
+pub use aio_task::{FutureId, Parts};
 pub use changing::{call_soon, make_future};
 pub use settling::{copy_of_outcome, settle_all};

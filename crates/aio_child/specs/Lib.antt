@@ -1,2 +1,3 @@
+pub use Rattle.aio_receiver.specs.Gotten
 pub mod Code
 pub mod Owned

@@ -4,6 +4,8 @@
 mod connection;
 mod lost;
 
+pub use aio_receiver::BareReceiver;
+pub use aio_sender::LostSender;
 pub use aio_receiver::{AllGot, StreamGot};
 pub use aio_sender::Drain;
 pub use connection::Connection;

@@ -34,7 +34,7 @@ use Rattle.aio_body.specs.Slots.{HoldsMore}
 use Rattle.aio_body.specs.Stands.{profile_of, Stands, HasSlot, StandsAt, WaitsAs}
 use Rattle.aio_flat.specs.Code.{IsCodeOf}
 use Rattle.aio_timeout.specs.Kept.{AreTimeouts}
-use Rattle.aio_transports.specs.Standing.{TransportsStandFor as AreTransports}
+use Rattle.aio_step.specs.Standing.{TransportsStandFor as AreTransports}
 use Rattle.aio_group.specs.Held.{Held}
 use Rattle.aio_group.specs.Stands.{KeepsAt}
 use Rattle.aio_wire.specs.EventList.{EventList}
@@ -165,7 +165,7 @@ module _ {X : Type 0} (a : Added X) (program : Program) (none held : RunState X)
     rest = refl;
     extra =
         subst (λ y. a.stands (callback_kept (profile_of program)).name_map first_parts y kept) (sym (ap (λ (b : RunState X). b.extra) holds.frame ∙ e.added))
-        (fresh (callback_kept (profile_of program)).name_map first_parts);
+        (fresh.stands (callback_kept (profile_of program)).name_map first_parts);
     count = ap (λ (b : RunState X). b.events.answers) holds.frame ∙ ap (λ (l : EventList). l.answers) e.events;
   }
     where
@@ -205,7 +205,7 @@ module _ {X : Type 0} (a : Added X) (program : Program) (none held : RunState X)
       stands = begins_at answers;
       called = refl;
       running = refl;
-      sound = begins_sound a.meaning most_ids kept program answers;
+      sound = begins_sound a.meaning most_ids kept program answers fresh.names;
     },
   )
 

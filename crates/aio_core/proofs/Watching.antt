@@ -10,8 +10,8 @@ use Rattle.model_machine.specs.Extra.{Extra}
 use Rattle.model_machine.specs.State.{State}
 use Rattle.model_machine.specs.Turn.{watched_by}
 use Rattle.refine_parts.specs.Waiting.{is_none_watched}
-use Rattle.aio_transports.specs.Kept.{Kept}
-use Rattle.aio_transports.specs.Standing.{TransportsStandFor as AreTransports}
+use Rattle.aio_step.specs.Kept.{Kept}
+use Rattle.aio_step.specs.Standing.{TransportsStandFor as AreTransports}
 use Rattle.aio_extra.specs.Added.{Added}
 use Rattle.aio_body.specs.declared.run_state.RunState.{RunState}
 use Rattle.aio_body.specs.Stands.{Context, Stands}

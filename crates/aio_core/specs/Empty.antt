@@ -5,7 +5,7 @@ use Rattle.model_tree.specs.Syntax.{Program}
 use Rattle.model_machine.specs.Replies.{most_ids}
 use Rattle.aio_flat.specs.Code.{IsCodeOf}
 use Rattle.aio_task.specs.View.{empty}
-use Rattle.aio_transports.specs.Standing.{TransportsStandFor as AreTransports}
+use Rattle.aio_step.specs.Standing.{TransportsStandFor as AreTransports}
 use Rattle.aio_body.specs.Stands.{profile_of}
 use Rattle.aio_body.specs.declared.run_state.RunState.{RunState}
 

@@ -18,7 +18,7 @@ use aio_group::Groups;
 use aio_program::{Coroutine, Program};
 use aio_task::Parts;
 use aio_timeout::Timeouts;
-use aio_transports::Transports;
+use aio_step::Transports;
 use aio_wire::Events;
 use std::alloc::Global;
 

@@ -21,7 +21,7 @@ use crate::copying::copy_of_action;
 use aio_base::{Action, CycleKind, Exc, Input, Kind, Memory, Outcome, Value, exception};
 use aio_body::{RunState, input_of, or_stop};
 use aio_extra::Extra;
-use aio_serve::{child_done, fire};
+use aio_step::{child_done, fire};
 use aio_step::{Stepped, step};
 use aio_task::Ticket;
 use aio_wire::{Event, Stop, Wire};
@@ -137,8 +137,8 @@ fn call_back<W: Wire, X: Extra>(
         | Action::Down(_)
         | Action::WritableChild(_)
         | Action::ChildItem { .. }
-        | Action::LostChild { .. } => goes(aio_streaming::act(body, alloc, wire, action)),
-        Action::Made(conn) => goes(or_stop(aio_streaming::made(body, alloc, *conn))),
+        | Action::LostChild { .. } => goes(aio_step::act(body, alloc, wire, action)),
+        Action::Made(conn) => goes(or_stop(aio_step::made(body, alloc, *conn))),
         Action::Step(_)
         | Action::StepInCycle { .. }
         | Action::Wakeup(_)

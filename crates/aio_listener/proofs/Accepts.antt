@@ -24,7 +24,7 @@ use Rattle.aio_change.specs.Owned.{IsOwn, KeepsOwn}
 use Rattle.aio_change.specs.Seen.{seen_changed}
 use Rattle.aio_change.proofs.AfterAsking.{asks_met, asks_on}
 use Rattle.aio_change.proofs.Owning.{own_changed, own_made}
-use Rattle.aio_connection.specs.Owned.{OwnsConnection}
+use Rattle.aio_stream.specs.Owned.{OwnsConnection}
 use Rattle.aio_stream.specs.Kept.{Kept, listening, may_connect as may_connect_kept, with_connection}
 use Rattle.aio_stream.specs.Owned.{OwnsStreams}
 use Rattle.aio_stream.specs.Standing.{Comes, StandsAfter, StreamStandsFor, Told}

@@ -9,7 +9,7 @@ ghost use Rattle.aio_stream.specs.Standing.{Comes, Told};
 use crate::answers::{forget_answer, is_conn};
 use aio_base::{Action, Memory};
 use aio_change::{call_soon, make_future};
-use aio_connection::Connection;
+use aio_stream::Connection;
 use aio_exchange::ask;
 use aio_stream::Streams;
 use aio_task::Parts;

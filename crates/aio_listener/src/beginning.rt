@@ -10,7 +10,7 @@ use crate::answers::{forget_answer, is_conn};
 use crate::connecting::Connecting;
 use aio_base::Memory;
 use aio_change::make_future;
-use aio_connection::Connection;
+use aio_stream::Connection;
 use aio_exchange::ask;
 use aio_stream::Streams;
 use aio_task::Parts;

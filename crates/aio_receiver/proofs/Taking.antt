@@ -8,7 +8,7 @@ use Rattle.model_stream.specs.Reading.{ReadOp, Taken, after_take, resume, take_r
 use Rattle.model_stream.specs.Receivers.{Receiver, StreamGot, AllGot, all_taken, read, read_all, read_as, second_waiter, wait_for_data}
 use Rattle.aio_exchange.specs.Tells.{Tells}
 use Rattle.aio_exchange.proofs.Telling.{tells_changed, tells_end, tells_then, tells_unless, tells_where}
-use Rattle.aio_task.specs.View.{View}
+use Rattle.aio_change.specs.View.{View}
 use Rattle.aio_change.specs.Owned.{IsOwnIfAny}
 use Rattle.aio_change.specs.Seen.{seen_changed}
 use Rattle.aio_change.proofs.Owning.{own_made}

@@ -7,7 +7,7 @@ use Rattle.model_stream.specs.Reading.{Reading}
 use Rattle.model_stream.specs.Receivers.{Receiver, wakes}
 use Rattle.aio_exchange.specs.Tells.{Tells}
 use Rattle.aio_exchange.specs.Ways.{Did}
-use Rattle.aio_task.specs.View.{View}
+use Rattle.aio_change.specs.View.{View}
 use Rattle.aio_change.specs.Seen.{seen_changed}
 use Rattle.aio_receiver.specs.Woken.{seen_woken}
 

@@ -13,7 +13,7 @@ mod wakes;
 use crate::bare::BareReceiver;
 use aio_base::{Blob, Exc, Memory, Outcome, Value};
 use aio_reader::{ReadOp, Reader, Taken};
-use aio_task::{FutureId, Parts};
+use aio_change::{FutureId, Parts};
 use std::alloc::Global;
 use std::marker::Model;
 

@@ -22,7 +22,7 @@ use Rattle.aio_body.specs.declared.run_state.RunState.{RunState}
 use Rattle.aio_body.specs.declared.reply.RequestReply.{RequestReply}
 use Rattle.aio_body.specs.declared.resume_point.ResumePoint.{ResumePoint}
 use Rattle.aio_body.specs.declared.resume_point.ResumePoint.TheVariants.{Asked, Sleeping}
-use Rattle.aio_streaming.specs.Resuming.{resuming}
+use Rattle.aio_serve.specs.Resuming.{resuming}
 use Rattle.aio_body.proofs.Growing.{decides_begins}
 use Rattle.aio_body.proofs.Unasked.{decides_told}
 use Rattle.aio_step.specs.Stepping.{DecidesAs, deciding}

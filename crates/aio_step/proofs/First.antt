@@ -18,7 +18,7 @@ use Rattle.law_replies.proofs.Counts.{lives_within}
 use Rattle.law_replies.specs.InStep.{RepliesInStep}
 use Rattle.law_runs.proofs.Kept.{reply_state, decides-keeps}
 use Rattle.aio_timer.specs.declared.live.TimerId.{TimerId}
-use Rattle.aio_transports.specs.Readers.{reader_as}
+use Rattle.aio_body.specs.Readers.{reader_as}
 use Rattle.aio_gen.specs.declared.generator.Gen.{Gen}
 use Rattle.aio_extra.specs.Added.{Added}
 use Rattle.aio_body.specs.declared.run_state.RunState.{RunState}

@@ -15,7 +15,7 @@ use Rattle.model_machine.specs.Replies.{decides}
 use Rattle.model_machine.specs.Step.{given_up, serve_all, step}
 use Rattle.model_machine.specs.Went.{Went, Goes, Stops}
 use Rattle.aio_gen.specs.declared.generator.Gen.{Gen}
-use Rattle.aio_transports.specs.Readers.{reader_as}
+use Rattle.aio_body.specs.Readers.{reader_as}
 use Rattle.aio_extra.specs.Added.{Added}
 use Rattle.aio_body.specs.declared.run_state.RunState.{RunState}
 use Rattle.aio_body.specs.declared.resume_point.ResumePoint.{ResumePoint}

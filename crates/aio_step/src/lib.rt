@@ -3,4 +3,7 @@
 
 mod steps;
 
+pub use aio_body::Transports;
+pub use aio_serve::{act, made};
+pub use aio_serve::{child_done, fire};
 pub use steps::{Started, Stepped, step};

@@ -13,7 +13,7 @@ use aio_body::{RequestReply, ResumePoint, RunState, Slot, reply_of};
 use aio_extra::Extra;
 use aio_gen::{Gen, GenOut};
 use aio_serve::{leave_group, or_stop, reply, wake};
-use aio_streaming::{connected, read_all_on, read_on, yielded};
+use aio_serve::{connected, read_all_on, read_on, yielded};
 use aio_task::Ticket;
 use aio_wire::{Stop, Wire};
 use std::alloc::Global;
@@ -113,7 +113,8 @@ fn decide<W: Wire, X: Extra>(
     resume_point: ResumePoint,
     input: Input,
 ) -> Result<RequestReply, Stop>
-    requires { Possible X.added (IsDecidingAs task resume_point) body.old }
+    requires deciding { Possible X.added (IsDecidingAs task resume_point) body.old }
+    requires made { HearsMade input body.old }
     ensures { Comes W.outside (deciding X.added task resume_point input body.old body.new)
         (ported wire.old body.old.events) (ported wire.new body.new.events) result }
 {

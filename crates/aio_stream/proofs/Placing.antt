@@ -24,7 +24,7 @@ use Rattle.aio_task.specs.View.{View}
 use Rattle.aio_change.specs.Owned.{KeepsOwn}
 use Rattle.aio_change.specs.Seen.{seen_changed}
 use Rattle.aio_change.proofs.Owning.{are_kept, is_kept_if_any, told_keeps, went_keeps}
-use Rattle.aio_sender.specs.Owned.{futures_of}
+use Rattle.aio_connection.specs.Owned.{futures_of}
 use Rattle.aio_connection.specs.Owned.{OwnsConnection}
 use Rattle.aio_stream.specs.Kept.{Kept}
 use Rattle.aio_stream.specs.Owned.{OwnsStreams}

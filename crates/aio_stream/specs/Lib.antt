@@ -1,3 +1,4 @@
+pub use Rattle.aio_connection.specs.Gotten
 pub mod Code
 pub mod Holdings
 pub mod Kept

@@ -21,7 +21,7 @@ use aio_body::{
     RequestReply, ResumePoint, RunState, as_int, bad_argument, or_stop, out_of_range, raises,
 };
 use aio_extra::Extra;
-use aio_listener::Connecting;
+use aio_transports::Connecting;
 use aio_wire::{Port, Stop, Wire};
 use std::alloc::Global;
 

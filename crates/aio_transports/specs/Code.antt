@@ -6,6 +6,7 @@ use Rattle.aio_children.specs.Kept.{Kept as Children}
 use Rattle.aio_children.specs.Code as children
 use Rattle.aio_stream.specs.Kept.{Kept as Streams}
 use Rattle.aio_stream.specs.Code as streams
+pub use Rattle.aio_stream.specs.Code.{coded_opened}
 use Rattle.aio_transports.specs.Kept.{Kept, Remaining}
 
 abbrev pub coded_remaining : Coded Remaining

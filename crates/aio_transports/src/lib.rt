@@ -6,5 +6,6 @@ pub mod laws;
 mod reader;
 mod transports;
 
+pub use aio_listener::Connecting;
 pub use reader::StreamReader;
 pub use transports::Transports;

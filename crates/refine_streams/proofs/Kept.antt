@@ -6,7 +6,7 @@ use Rattle.std.proofs.lemmas.List.Elements.{filter_agree}
 use Rattle.std.specs.Coded.{Coded-set, coded_list}
 use Rattle.model_stream.specs.Streams.{Opened, OpenedServer, OpenedConn, OpenedChild, Streams}
 use Rattle.law_over.specs.Gone.{holds_at, is_closed, is_gone, is_over, is_over_child}
-use Rattle.aio_stream.specs.Code.{coded_opened}
+use Rattle.aio_transports.specs.Code.{coded_opened}
 use Rattle.aio_transports.specs.Kept.{Kept}
 use Rattle.aio_transports.specs.Standing.{not_gone, TransportsStandFor}
 use Rattle.refine_streams.specs.Streams.{HasStreams, streams_of}

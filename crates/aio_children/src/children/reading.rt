@@ -3,7 +3,7 @@ ghost use Rattle.std.specs.Prelude.{◌≡◌, [], None, IfOk, OnOk, length};
 ghost use Rattle.model_stream.specs.declared.answers.StreamGot.TheVariants as got_as;
 ghost use Rattle.model_stream.specs.Requests as plain;
 ghost use Rattle.aio_task.specs.View.{View};
-ghost use Rattle.aio_receiver.specs.Gotten.{all_got};
+ghost use Rattle.aio_child.specs.Gotten.{all_got};
 ghost use Rattle.aio_children.specs.Owned.{OwnsChildren};
 ghost use Rattle.aio_children.specs.Standing.{Becomes, ToldWith};
 

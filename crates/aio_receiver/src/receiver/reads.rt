@@ -10,7 +10,7 @@ use super::{AllGot, Receiver, StreamGot};
 use aio_base::{Blob, Kind, Memory, exception};
 use aio_change::make_future;
 use aio_reader::{ReadOp, Taken};
-use aio_task::Parts;
+use aio_change::Parts;
 use std::alloc::Global;
 
 const SECOND_WAITER: &str =

@@ -7,7 +7,7 @@ ghost use Rattle.aio_change.specs.Seen.{seen_changed};
 
 use super::Receiver;
 use aio_base::{Exc, Memory};
-use aio_task::Parts;
+use aio_change::Parts;
 use std::alloc::Global;
 
 impl Receiver {

@@ -7,7 +7,7 @@ ghost use Rattle.model_stream.specs.Receivers as receivers;
 ghost use Rattle.aio_exchange.specs.Follows.{Follows, after_of, reach, with_after};
 ghost use Rattle.aio_exchange.specs.Tells.{Tells};
 ghost use Rattle.aio_change.specs.Seen.{seen_changed};
-ghost use Rattle.aio_receiver.specs.Gotten.{all_got};
+ghost use Rattle.aio_connection.specs.Gotten.{all_got};
 ghost use Rattle.aio_connection.specs.Owned.{OwnsConnection};
 
 use super::HeldConnection;

@@ -5,7 +5,7 @@ ghost use Rattle.model_wire.specs.declared.event.Handed.TheVariants as to;
 ghost use Rattle.model_stream.specs.Requests as plain;
 ghost use Rattle.aio_exchange.specs.Follows.{reach};
 ghost use Rattle.aio_task.specs.View.{View};
-ghost use Rattle.aio_receiver.specs.Gotten.{all_got};
+ghost use Rattle.aio_connection.specs.Gotten.{all_got};
 ghost use Rattle.aio_stream.specs.Owned.{OwnsStreams};
 ghost use Rattle.aio_stream.specs.Standing.{Answers, Becomes, Comes, Told, ToldWith};
 

@@ -2,7 +2,7 @@
 ghost use Rattle.std.specs.Prelude.{◌≡◌, None, IfOk, OnOk, length};
 ghost use Rattle.model_stream.specs.Requests as plain;
 ghost use Rattle.aio_task.specs.View.{View};
-ghost use Rattle.aio_receiver.specs.Gotten.{all_got};
+ghost use Rattle.aio_stream.specs.Gotten.{all_got};
 ghost use Rattle.aio_transports.specs.Owned.{OwnsTransports};
 ghost use Rattle.aio_transports.specs.Readers.{reader_as};
 ghost use Rattle.aio_transports.specs.Standing.{Becomes, ToldWith};
@@ -10,7 +10,7 @@ ghost use Rattle.aio_transports.specs.Standing.{Becomes, ToldWith};
 use super::Transports;
 use crate::reader::StreamReader;
 use aio_base::Memory;
-use aio_connection::{AllGot, StreamGot};
+use aio_stream::{AllGot, StreamGot};
 use aio_reader::ReadOp;
 use aio_task::{FutureId, Parts};
 use std::alloc::Global;

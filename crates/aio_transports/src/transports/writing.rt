@@ -8,7 +8,7 @@ ghost use Rattle.aio_transports.specs.Standing.{Answers, Comes, ToldWith};
 
 use super::Transports;
 use aio_base::Memory;
-use aio_connection::Drain;
+use aio_stream::Drain;
 use aio_task::Parts;
 use aio_wire::{Port, Stop, Wire};
 use model_stream::{Limited, Wrote};

@@ -3,7 +3,7 @@ use Rattle.model_value.specs.Action.{Action}
 use Rattle.law_cases.specs.Trees.{is_of_streams}
 use Rattle.aio_wire.specs.Port.{ported}
 use Rattle.aio_body.specs.Asking.{Comes}
-use Rattle.aio_streaming.specs.Acting as streaming
+use Rattle.aio_step.specs.Acting as streaming
 use Rattle.aio_core.specs.Running.{acting, goes_as}
 use Rattle.aio_core.proofs.Acting.{acts_alone, acts_made, acts_streaming}
 use Rattle.aio_core.proofs.handles.call_back.Goals as goal

@@ -4,7 +4,7 @@ use Rattle.model_stream.specs.Children.{its_pipe}
 use Rattle.model_stream.specs.Doing.{asked_on}
 use Rattle.model_stream.specs.Receivers as receivers
 use Rattle.model_stream.specs.Requests as requests
-use Rattle.aio_receiver.specs.Gotten.{all_got}
+use Rattle.aio_child.specs.Gotten.{all_got}
 use Rattle.aio_children.specs.Kept.{Kept}
 use Rattle.aio_children.specs.Owned.{OwnsChildren}
 use Rattle.aio_children.specs.Standing.{ToldWith}

@@ -4,7 +4,7 @@ use Rattle.model_stream.specs.Doing.{asked_on}
 use Rattle.model_stream.specs.Receivers.{read_all}
 use Rattle.aio_exchange.specs.Tells.{Tells}
 use Rattle.aio_change.specs.Seen.{seen_changed}
-use Rattle.aio_receiver.specs.Gotten.{all_got}
+use Rattle.aio_connection.specs.Gotten.{all_got}
 use Rattle.aio_stream.proofs.held.HeldConnection.read_all.Goals as goal
 
 pub returns-clause-tells : goal.returns-clause-tells

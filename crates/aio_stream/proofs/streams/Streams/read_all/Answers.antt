@@ -4,7 +4,7 @@ use Rattle.model_stream.specs.Connections.{its_receiver}
 use Rattle.model_stream.specs.Doing.{asked_on}
 use Rattle.model_stream.specs.Receivers as receivers
 use Rattle.model_stream.specs.Requests as requests
-use Rattle.aio_receiver.specs.Gotten.{all_got}
+use Rattle.aio_connection.specs.Gotten.{all_got}
 use Rattle.aio_stream.specs.Kept.{Kept, all_opened}
 use Rattle.aio_stream.specs.Owned.{OwnsStreams}
 use Rattle.aio_stream.specs.Standing.{ToldWith}

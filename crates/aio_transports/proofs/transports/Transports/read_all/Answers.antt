@@ -1,5 +1,5 @@
 use Rattle.std.proofs.Common.{IfOk, length, sym, subst}
-use Rattle.aio_receiver.specs.Gotten.{all_got}
+use Rattle.aio_stream.specs.Gotten.{all_got}
 use Rattle.model_stream.specs.Requests.{OfChild, OfConn}
 use Rattle.model_stream.specs.Requests as requests
 use Rattle.aio_transports.specs.declared.reader.StreamReader.{StreamReader}
