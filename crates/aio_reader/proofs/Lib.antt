@@ -1,1 +1,2 @@
+mod Needles
 mod Searches

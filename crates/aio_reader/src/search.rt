@@ -3,6 +3,8 @@ ghost use Rattle.std.specs.Prelude.{◌≡◌, ℕ, List, ◌+◌, ◌<◌, ◌�
 ghost use Rattle.model_stream.specs.Reading.{first_at};
 ghost use Rattle.aio_reader.specs.Searched.{shifted, Searched};
 
+use memchr::memmem;
+
 /// Where the separator first begins among the bytes, of which `sought` doesn't begin before `clear`.
 pub fn first_unsearched(
     separator: &[u8],
@@ -33,11 +35,8 @@ fn first_from(separator: &[u8], bytes: &[u8], from: usize) -> Option<usize>
     ensures first { result ≡ shifted from (first_at separator.now (drop from bytes.now)) }
     ensures whole { IfSome result (λ at. at + length separator.now ≤ length bytes.now) }
 {
-    let end = bytes.len().saturating_sub(separator.len() - 1);
-    for at in from..end {
-        if bytes[at..].starts_with(separator) {
-            return Some(at);
-        }
+    match memmem::find(&bytes[from..], separator) {
+        Some(at) => Some(at + from),
+        None => None,
     }
-    None
 }
