@@ -21,7 +21,7 @@ use Rattle.aio_extra.specs.Called.{CallsAs, IsServed}
 use Rattle.aio_body.specs.declared.run_state.RunState.{RunState}
 use Rattle.aio_body.specs.Stands.{IsOwnSleep, Context, Stands}
 use Rattle.aio_body.proofs.Blocks.{blocks_on}
-use Rattle.aio_body.proofs.Lasting.{parts_change, stands_after}
+use Rattle.aio_body.proofs.Lasting.{SameBlocks, parts_change, stands_after}
 use Rattle.aio_body.proofs.Leaving.{IsNew, Leaves, leaves_on, leaves_same}
 use Rattle.aio_body.proofs.Left.{leaves_handles, leaves_later, leaves_make, leaves_register, leaves_request, leaves_revoke, leaves_settle, leaves_uncancel}
 
@@ -37,7 +37,7 @@ step_leaves running told (CallsSoon key) l may sound = leaves_handles l.parts (m
 step_leaves running told (CallsLater when key) l may sound = leaves_later when (action.Extra key) l.parts
 step_leaves running told (Revokes tag) l may sound = leaves_revoke tag l.parts
 step_leaves running told (Cancels key future) l may sound = leaves_request (ByExtra key) future l.parts
-step_leaves running told (Uncancels key task) l may sound = leaves_uncancel task l.parts
+step_leaves running told (Uncancels key task) l may sound = leaves_uncancel l.profile task l.parts
 
 pub steps_leave : (running : Option ℕ) (told : ℕ → List ℕ) (steps : List ExtraStep) (l : Loop) → AreAllowed steps l → IsSound running told l
     → Leaves None l.parts (made_by_all steps l).parts
@@ -46,25 +46,25 @@ steps_leave running told (step ∷ steps) l may sound =
     leaves_on None l.parts (made_by step l).parts (made_by_all steps (made_by step l)).parts (step_leaves running told step l may.0 sound)
     (steps_leave running told steps (made_by step l) may.1 (step_sound running told step l may.0 sound))
 
--- no timeout and no group changes
-step_blocks : (step : ExtraStep) (l : Loop) → ((made_by step l).timeouts ≡ l.timeouts) × ((made_by step l).groups ≡ l.groups)
-step_blocks MakesPlain l = (refl, refl)
-step_blocks (MakesMany members) l = (refl, refl)
-step_blocks (Settles future outcome) l = (refl, refl)
-step_blocks (Releases future) l = (refl, refl)
-step_blocks (Registers future key) l = (refl, refl)
-step_blocks (CallsSoon key) l = (refl, refl)
-step_blocks (CallsLater when key) l = (refl, refl)
-step_blocks (Revokes tag) l = (refl, refl)
-step_blocks (Cancels key future) l = (refl, refl)
-step_blocks (Uncancels key task) l = (refl, refl)
+-- no timeout and no group changes, and the profile stays
+step_blocks : (step : ExtraStep) (l : Loop) → SameBlocks l (made_by step l)
+step_blocks MakesPlain l = (refl, (refl, refl))
+step_blocks (MakesMany members) l = (refl, (refl, refl))
+step_blocks (Settles future outcome) l = (refl, (refl, refl))
+step_blocks (Releases future) l = (refl, (refl, refl))
+step_blocks (Registers future key) l = (refl, (refl, refl))
+step_blocks (CallsSoon key) l = (refl, (refl, refl))
+step_blocks (CallsLater when key) l = (refl, (refl, refl))
+step_blocks (Revokes tag) l = (refl, (refl, refl))
+step_blocks (Cancels key future) l = (refl, (refl, refl))
+step_blocks (Uncancels key task) l = (refl, (refl, refl))
 
-steps_blocks : (steps : List ExtraStep) (l : Loop) → ((made_by_all steps l).timeouts ≡ l.timeouts) × ((made_by_all steps l).groups ≡ l.groups)
-steps_blocks [] l = (refl, refl)
+steps_blocks : (steps : List ExtraStep) (l : Loop) → SameBlocks l (made_by_all steps l)
+steps_blocks [] l = (refl, (refl, refl))
 steps_blocks (step ∷ steps) l =
     let one = step_blocks step l in
     let others = steps_blocks steps (made_by step l) in
-    (others.0 ∙ one.0, others.1 ∙ one.1)
+    (others.0 ∙ one.0, (others.1.0 ∙ one.1.0, others.1.1 ∙ one.1.1))
 
 -- ---- what is stood for
 module _ {X : Type 0} {a : Added X} where
@@ -77,6 +77,7 @@ module _ {X : Type 0} {a : Added X} where
     called = called;
     runs = is;
     sound = sound;
+    rules = h.profile.rules;
   }
 
 module _ {X : Type 0} {a : Added X} (running out : Option ℕ) (c : Context a) (old : RunState X) (s : State a.Kept) (v : View) (x : X) (call : ExtraCall a.Kept)
@@ -121,8 +122,8 @@ module _ {X : Type 0} {a : Added X} (running out : Option ℕ) (c : Context a) (
       stands_after None out c old s v old.timeouts old.groups x (called call s).loop call.state c.left h
       (record { name_map = r.name_map; keeps = r.keeps; extends = r.extends }) leaves
       (blocks_on h.name_map r.name_map old.timeouts old.groups s.loop (called call s).loop r.extends leaves.goes_on (steps_blocks call.steps s.loop).0
-      (steps_blocks call.steps s.loop).1 h.blocks)
-      own_called r.stands (r.below ∙ h.left) r.profile
+      (steps_blocks call.steps s.loop).1.0 h.blocks)
+      own_called r.stands (r.below ∙ h.left) r.profile (steps_blocks call.steps s.loop).1.1
 
   pub name_map_called : stands_called.name_map ≡ r.name_map
   unfolding stands_called stands_after parts_change

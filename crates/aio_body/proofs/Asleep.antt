@@ -208,10 +208,10 @@ module _ {X : Type 0} {a : Added X} where
       profile = ap (λ (x : View). x.profile) frame ∙ ap (λ (x : View). x.profile) alarm
 
       asleep : Stands (Some task) c (record old { parts = w }) (waits task on (unbooked_in (alarmed task (pos delay)) s))
-      asleep = stands_by (Some (task, on)) (Some task) c old s w (slept task delay on) h.stands kept leaves spares (refl, refl) c.left below profile
+      asleep = stands_by (Some (task, on)) (Some task) c old s w (slept task delay on) h.stands kept leaves spares (refl, (refl, refl)) c.left below profile
 
       name_map : asleep.name_map ≡ kept.name_map
-      name_map = by_name_map (Some (task, on)) (Some task) c old s w (slept task delay on) h.stands kept leaves spares (refl, refl) c.left below profile
+      name_map = by_name_map (Some (task, on)) (Some task) c old s w (slept task delay on) h.stands kept leaves spares (refl, (refl, refl)) c.left below profile
 
       plain_on : is_plain r on ≡ true
       plain_on = (leaves_suspend task on q).plain on (of_plain q on (record { kind = Plain; outcome = None; callbacks = [] }) (get-push_last p.futures _) refl)

@@ -7,7 +7,7 @@ use Rattle.model_loop.specs.Cancel.{cancel}
 use Rattle.model_loop.specs.Futures.{is_pending, new_plain, next_future}
 use Rattle.model_loop.specs.Handles.{later, revoke}
 use Rattle.model_loop.specs.Ledger.{Origin, request}
-use Rattle.model_loop.specs.Parts.{Parts, Plain, Task}
+use Rattle.model_loop.specs.Parts.{Parts, Plain, Profile, Task}
 use Rattle.model_loop.specs.Tasks.{begin_step, cancelling, cancelling_input, uncancel}
 use Rattle.refine_parts.proofs.Appending.{extends_still}
 use Rattle.refine_parts.proofs.Scheduling as scheduling
@@ -38,9 +38,13 @@ pub kept_plain : (t : NameMap) (v : View) (p : Parts) → Keeps t v p
     → Kept t p (record v { futures = v.futures ++ record { kind = Plain; outcome = None; callbacks = [] } ∷ [] }) (new_plain p)
 kept_plain t v p k = record { name_map = t; keeps = keeps_plain t v p k; extends = make_name_map t Plain p }
 
-pub kept_uncancel : (t : NameMap) (v w : View) (p : Parts) → Keeps t v p → (task : ℕ) → Becomes v w (uncancel task (parts v))
-    → Kept t p w (uncancel task p)
-kept_uncancel t v w p k task b = record { name_map = t; keeps = keeps_uncancel t v w p k task b; extends = uncancel_name_map t p task }
+pub kept_uncancel : (t : NameMap) (v w : View) (p : Parts) → Keeps t v p → (profile : Profile) (task : ℕ) → Becomes v w (uncancel profile task (parts v))
+    → Kept t p w (uncancel profile task p)
+kept_uncancel t v w p k profile task b = record {
+  name_map = t;
+  keeps = keeps_uncancel t v w p k profile task b;
+  extends = uncancel_name_map t p profile task;
+}
 
 pub kept_begin : (t : NameMap) (v w : View) (p : Parts) → Keeps t v p → (task : ℕ) (input : Input) → Becomes v w (begin_step task input (parts v)).parts
     → Kept t p w (begin_step task input p).parts

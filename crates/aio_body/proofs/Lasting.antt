@@ -1,9 +1,10 @@
 -- What is stood for goes on: through operations of the loop, and changes of what a task stands at.
 use Rattle.std.proofs.Common.{◌≡◌, ℕ, ◌≤◌, ◌⊎◌, true, List, Option, Some, None, length, ◌∙◌, refl, sym, ap, subst, inl, inr, arith}
 use Rattle.model_value.specs.Number.{most}
+use Rattle.model_tree.specs.Syntax.{Program}
 use Rattle.model_loop.specs.Loop.{Loop}
 use Rattle.model_loop.specs.Owning.{is_plain}
-use Rattle.model_loop.specs.Parts.{Parts}
+use Rattle.model_loop.specs.Parts.{Parts, Profile, profile_named}
 use Rattle.model_loop.specs.Tasks.{cancelling, lives, next_task, waiter_of}
 use Rattle.model_machine.specs.State as plain
 use Rattle.model_machine.specs.State.{State, generator_of, in_loop, with_loop}
@@ -17,7 +18,7 @@ use Rattle.aio_group.specs.Held.{Held}
 use Rattle.aio_body.specs.declared.run_state.RunState.{RunState}
 use Rattle.aio_body.specs.declared.resume_point.ResumePoint.{ResumePoint}
 use Rattle.aio_body.specs.declared.resume_point.ResumePoint.TheVariants.{Connecting, Sleeping}
-use Rattle.aio_body.specs.Stands.{AreBlocks, Context, Stands, IsOwnSleep, StandsAt}
+use Rattle.aio_body.specs.Stands.{AreBlocks, Context, IsRuled, Stands, IsOwnSleep, StandsAt}
 use Rattle.aio_body.proofs.Blocks.{blocks_on}
 use Rattle.aio_body.proofs.Leaving.{IsNew, Leaves}
 
@@ -78,14 +79,23 @@ goes_beside owned t u p q e plain on = record {
   owners = on.owners;
 }
 
--- the timeouts and the groups stay
+-- the timeouts, the groups and the profile stay
 abbrev pub SameBlocks : (l m : Loop) → Type 0
-SameBlocks l m = (m.timeouts ≡ l.timeouts) × (m.groups ≡ l.groups)
+SameBlocks l m = (m.timeouts ≡ l.timeouts) × ((m.groups ≡ l.groups) × (m.profile ≡ l.profile))
+
+-- what runs by a profile goes on so
+pub ruled_on : (program : Program) (number other : ℕ) (profile now : Profile) → other ≡ number → now ≡ profile → IsRuled program number profile
+    → IsRuled program other now
+ruled_on program number other profile now same still is = record {
+  named = same ∙ is.named;
+  rules = still ∙ is.rules ∙ ap profile_named (sym same);
+}
 
 -- Parts, blocks and what is added stand for a state by the name map u, after one for which they stood by the name map t; no task is new.
 pub record GoesAs {X : Type 0} (a : Added X) (t u : NameMap) (new : RunState X) (s now : State a.Kept) : Type 0 where
   pub keeps : Keeps u new.parts now.loop.parts
   pub blocks : AreBlocks u new.timeouts new.groups now.loop
+  pub profile : now.loop.profile ≡ s.loop.profile
   pub tasks : next_task now.loop.parts ≡ next_task s.loop.parts
   pub living : (task : ℕ) → lives now.loop.parts task ≡ true → lives s.loop.parts task ≡ true
   pub knows : (tag : ℕ) (timer : TimerId) → Knows t s.loop.parts tag (ByTimer timer) → Knows u now.loop.parts tag (ByTimer timer)
@@ -107,7 +117,7 @@ module _ {X : Type 0} {a : Added X} where
   parts_change out c old s u v timeouts groups x m it left bar h goes below at_bar same = record {
     name_map = u;
     code = h.code;
-    profile = same ∙ h.profile;
+    profile = ruled_on s.program old.parts.profile v.profile s.loop.profile m.profile same goes.profile h.profile;
     keeps = goes.keeps;
     left = below;
     bar = at_bar;
@@ -145,13 +155,14 @@ module _ {X : Type 0} {a : Added X} where
       → Leaves new s.loop.parts m.parts → AreBlocks kept.name_map timeouts groups m
       → ((sleeper : Option ℕ) (id : ℕ) → IsOwnSleep s.loop.parts (named_in a s) sleeper id
       → IsOwnSleep m.parts (named_in a (record s { loop = m; extra = it })) sleeper id)
-      → a.stands kept.name_map m.parts x it → length v.queue.below ≡ left → v.profile ≡ old.parts.profile
+      → a.stands kept.name_map m.parts x it → length v.queue.below ≡ left → v.profile ≡ old.parts.profile → m.profile ≡ s.loop.profile
       → Stands out (record c { left = left }) (record old { parts = v; timeouts = timeouts; groups = groups; extra = x })
       (record s { loop = m; extra = it })
-  stands_after new out c old s v timeouts groups x m it left h kept leaves blocks own extra below same =
+  stands_after new out c old s v timeouts groups x m it left h kept leaves blocks own extra below same still =
       parts_change out c old s kept.name_map v timeouts groups x m it left c.bar h (record {
         keeps = kept.keeps;
         blocks = blocks;
+        profile = still;
         tasks = leaves.tasks;
         living = leaves.living;
         knows = λ tag timer. knows_on h.name_map kept.name_map s.loop.parts m.parts tag timer kept.extends;
@@ -166,13 +177,13 @@ module _ {X : Type 0} {a : Added X} where
   pub stands_kept : (new : Option (ℕ × ℕ)) (out : Option ℕ) (c : Context a) (old : RunState X) (s : State a.Kept) (v : View) (timeouts : List Timeout)
       (groups : List Held) (m : Loop) (left : ℕ) (h : Stands out c old s) (kept : Kept h.name_map s.loop.parts v m.parts)
       → Leaves new s.loop.parts m.parts → Spares new s.loop.parts (named_in a s) → AreBlocks kept.name_map timeouts groups m
-      → length v.queue.below ≡ left → v.profile ≡ old.parts.profile
+      → length v.queue.below ≡ left → v.profile ≡ old.parts.profile → m.profile ≡ s.loop.profile
       → Stands out (record c { left = left }) (record old { parts = v; timeouts = timeouts; groups = groups }) (with_loop m s)
-  stands_kept new out c old s v timeouts groups m left h kept leaves spares blocks below same =
+  stands_kept new out c old s v timeouts groups m left h kept leaves spares blocks below same still =
       stands_after new out c old s v timeouts groups old.extra m s.extra left h kept leaves blocks
       (λ sleeper id. own_on new s.loop.parts m.parts (named_in a s) sleeper id leaves spares)
       (a.goes_on h.name_map kept.name_map s.loop.parts m.parts old.extra s.extra h.extra
-      (goes_beside (a.owns s.extra) h.name_map kept.name_map s.loop.parts m.parts kept.extends leaves.plain leaves.goes_on)) below same
+      (goes_beside (a.owns s.extra) h.name_map kept.name_map s.loop.parts m.parts kept.extends leaves.plain leaves.goes_on)) below same still
 
   -- An operation on the parts alone, whose view is `v` then, with so many handles before the bar.
   pub stands_by : (new : Option (ℕ × ℕ)) (out : Option ℕ) (c : Context a) (old : RunState X) (s : State a.Kept) (v : View) (change : Loop → Loop)
@@ -182,7 +193,8 @@ module _ {X : Type 0} {a : Added X} where
       → Stands out (record c { left = left }) (record old { parts = v }) (in_loop change s)
   stands_by new out c old s v change h kept leaves spares same left below profile =
       stands_kept new out c old s v old.timeouts old.groups (change s.loop) left h kept leaves spares
-      (blocks_on h.name_map kept.name_map old.timeouts old.groups s.loop (change s.loop) kept.extends leaves.goes_on same.0 same.1 h.blocks) below profile
+      (blocks_on h.name_map kept.name_map old.timeouts old.groups s.loop (change s.loop) kept.extends leaves.goes_on same.0 same.1.0 h.blocks) below profile
+      same.1.1
 
   -- It stands by the name map that the parts stand by then.
   pub by_name_map : (new : Option (ℕ × ℕ)) (out : Option ℕ) (c : Context a) (old : RunState X) (s : State a.Kept) (v : View) (change : Loop → Loop)

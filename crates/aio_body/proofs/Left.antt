@@ -16,10 +16,10 @@ use Rattle.model_loop.specs.Futures.{is_pending, is_pending_at, make_future, new
 use Rattle.model_loop.specs.Handles.{later, revoke, soon, soon_all}
 use Rattle.model_loop.specs.Ledger.{Origin, request}
 use Rattle.model_loop.specs.Owning.{owner_at, owner_of, is_main_done}
-use Rattle.model_loop.specs.Parts.{Future, FutureKind, Parts, Plain, Task}
+use Rattle.model_loop.specs.Parts.{Future, FutureKind, Parts, Plain, Profile, Task}
 use Rattle.model_loop.specs.Suspend.{cancel_wait, suspend, wait_on}
 use Rattle.model_loop.specs.Tasks.{begin_step, cancelling, change_task, finish, future_of, must_cancel_of, lives, next_task, one_more, pause, set_waiter}
-use Rattle.model_loop.specs.Tasks.{uncancel}
+use Rattle.model_loop.specs.Tasks.{must_still_cancel, uncancel}
 use Rattle.model_loop.specs.Tasks.{clear_must_cancel, waiter_of}
 use Rattle.model_loop.proofs.FutureCases.{is_plain_at, registered, registered_on, settled, settled_as}
 use Rattle.law_cancel.proofs.SuspendCases.{suspend_unless}
@@ -303,11 +303,14 @@ leaves_request by id p =
 fewer : (n : ℕ) → n ≤ most → n - 1 ≤ most
 fewer n h = omega (arith, h)
 
-pub leaves_uncancel : (task : ℕ) (p : Parts) → Leaves None p (uncancel task p)
-leaves_uncancel task p =
-    leaves_by p (uncancel task p) (change_after any false None task (λ (it : Task). record it { cancels = it.cancels - 1 }) p (λ it. refl))
-    (made_change task _ p) (before_uncancel task p) (soon_time p (uncancel task p) (appends (changes_task task _ p)))
-    (counts_change task _ p (λ it h. fewer it.cancels h)) (uncancel_on task p)
+pub leaves_uncancel : (profile : Profile) (task : ℕ) (p : Parts) → Leaves None p (uncancel profile task p)
+leaves_uncancel profile task p =
+    leaves_by p (uncancel profile task p) (change_after any false None task lowered p (λ it. refl))
+    (made_change task lowered p) (before_uncancel profile task p) (soon_time p (uncancel profile task p) (appends (changes_task task lowered p)))
+    (counts_change task lowered p (λ it h. fewer it.cancels h)) (uncancel_on profile task p)
+  where
+    lowered : Task → Task
+    lowered it = record it { cancels = it.cancels - 1; must_cancel = must_still_cancel profile it }
 
 -- ---- steps
 abbrev cleared : Task → Task

@@ -38,7 +38,7 @@ module _ {X : Type 0} {a : Added X} where
         stands_on None (Some task) c old s v (in_parts (settle id outcome)) h.stands
         (subst (λ x. Kept h.stands.name_map s.loop.parts x (settle id outcome s.loop.parts)) (sym is)
         (kept_settle h.stands.name_map old.parts s.loop.parts h.stands.keeps id outcome))
-        (leaves_settle id outcome s.loop.parts none) (spares_none s.loop.parts (named_in a s)) (refl, refl)
+        (leaves_settle id outcome s.loop.parts none) (spares_none s.loop.parts (named_in a s)) (refl, (refl, refl))
         (ap (λ (x : View). length x.queue.below) is ∙ ap length (below_soon_all (called id old.parts.futures) old.parts.queue))
         (ap (λ (x : View). x.profile) is);
     called = ap (λ (x : View). x.called) is ∙ h.called;
@@ -108,7 +108,7 @@ module _ {X : Type 0} {a : Added X} where
             (in_parts new_plain) named
             (subst (λ x. Kept named.name_map s.loop.parts x (new_plain s.loop.parts)) (sym is) (kept_plain named.name_map old.parts s.loop.parts named.keeps))
             (leaves_plain s.loop.parts (own_there s.loop.parts owns))
-            (spares_none s.loop.parts (named_in a (record s { futures = s.futures ++ next_future s.loop.parts ∷ [] }))) (refl, refl)
+            (spares_none s.loop.parts (named_in a (record s { futures = s.futures ++ next_future s.loop.parts ∷ [] }))) (refl, (refl, refl))
             (ap (λ (x : View). length x.queue.below) is) (ap (λ (x : View). x.profile) is);
         called = ap (λ (x : View). x.called) is ∙ h.called;
         running = ap (λ (x : View). x.running) is ∙ h.running;

@@ -42,7 +42,7 @@ module _ {X : Type 0} {a : Added X} where
           time = ap (λ (x : View). x.time) frame;
           schedule = ap (λ (x : View). x.schedule) frame;
         }))
-        (leaves_pause task s.loop.parts) (spares_none s.loop.parts (named_in a s)) (refl, refl) (ap (λ (x : View). length x.queue.below) frame)
+        (leaves_pause task s.loop.parts) (spares_none s.loop.parts (named_in a s)) (refl, (refl, refl)) (ap (λ (x : View). length x.queue.below) frame)
         (ap (λ (x : View). x.profile) frame);
     called = ap (λ (x : View). x.called) frame ∙ h.called;
     running = ap (λ (x : View). x.running) frame;
@@ -63,7 +63,7 @@ module _ {X : Type 0} {a : Added X} where
           time = ap (λ (x : View). x.time) frame;
           schedule = ap (λ (x : View). x.schedule) frame;
         }))
-        (leaves_suspend task on s.loop.parts) spares (refl, refl) (below_appended old.parts.queue v.queue appended)
+        (leaves_suspend task on s.loop.parts) spares (refl, (refl, refl)) (below_appended old.parts.queue v.queue appended)
         (ap (λ (x : View). x.profile) frame);
     called = ap (λ (x : View). x.called) frame ∙ h.called;
     running = ap (λ (x : View). x.running) frame;
@@ -83,7 +83,7 @@ module _ {X : Type 0} {a : Added X} where
           time = ap (λ (x : View). x.time) frame;
           schedule = ap (λ (x : View). x.schedule) frame;
         }))
-        (leaves_request by id s.loop.parts) (spares_none s.loop.parts (named_in a s)) (refl, refl) (below_appended old.parts.queue v.queue appended)
+        (leaves_request by id s.loop.parts) (spares_none s.loop.parts (named_in a s)) (refl, (refl, refl)) (below_appended old.parts.queue v.queue appended)
         (ap (λ (x : View). x.profile) frame);
     called = ap (λ (x : View). x.called) frame ∙ h.called;
     running = ap (λ (x : View). x.running) frame ∙ h.running;

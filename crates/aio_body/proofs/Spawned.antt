@@ -29,7 +29,7 @@ use Rattle.aio_body.specs.Slots.{HoldsMore}
 use Rattle.aio_body.specs.Stands.{AreBlocks, HasSlot, IsOwnSleep, Context, Stands, StandsAt, WaitsAs, coroutine_in}
 use Rattle.aio_body.specs.declared.run_state.RunState.{RunState}
 use Rattle.aio_body.specs.declared.resume_point.Slot.{Slot}
-use Rattle.aio_body.proofs.Lasting.{goes_beside, knows_on, own_by, stands_at_by}
+use Rattle.aio_body.proofs.Lasting.{goes_beside, knows_on, own_by, ruled_on, stands_at_by}
 use Rattle.aio_body.proofs.Left.{AreOwnMade, any, living_made}
 
 -- what an operation leaves that makes a task
@@ -79,13 +79,13 @@ module _ {X : Type 0} {a : Added X} where
       (coroutine : ℕ) (arguments : List Value) (h : Stands out c old s) (kept : Kept h.name_map s.loop.parts v (change s.loop).parts)
       → LeavesMore s.loop.parts (change s.loop).parts → AreBlocks kept.name_map old.timeouts groups (change s.loop)
       → length v.queue.below ≡ length old.parts.queue.below → HoldsMore coroutine arguments old held → length old.slots.items + 1 < 2 ^ 32
-      → v.profile ≡ old.parts.profile → is_running out (next_task s.loop.parts) ≡ false
+      → v.profile ≡ old.parts.profile → (change s.loop).profile ≡ s.loop.profile → is_running out (next_task s.loop.parts) ≡ false
       → Stands out c (record held { parts = v; groups = groups }) (with_coroutine coroutine arguments (in_loop change s))
-  stands_made out c old held s v groups change coroutine arguments h kept more blocks below holds few profile other =
+  stands_made out c old held s v groups change coroutine arguments h kept more blocks below holds few profile still other =
       subst (λ (b : RunState X). Stands out c (record b { parts = v; groups = groups }) now) (sym holds.frame) (record {
         name_map = kept.name_map;
         code = h.code;
-        profile = profile ∙ h.profile;
+        profile = ruled_on s.program old.parts.profile v.profile s.loop.profile (change s.loop).profile profile still h.profile;
         keeps = kept.keeps;
         left = below ∙ h.left;
         bar = kept.extends.bar ∙ h.bar;

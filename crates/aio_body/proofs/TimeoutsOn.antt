@@ -47,14 +47,18 @@ leaves_schedule id (Some when) l =
     let p : Parts = give_up (timeout_of l id).tag l.parts in
     leaves_on None l.parts p (fires_at id when p) (leaves_given_up (timeout_of l id).tag l.parts) (leaves_fires id when p)
 
-schedule_groups : (id : ℕ) (when : Option ℕ) (l : Loop) → (schedule id when l).groups ≡ l.groups
-schedule_groups id None l = refl
-schedule_groups id (Some when) l = refl
+-- the groups and the profile stay
+abbrev pub SameGroups : (l m : Loop) → Type 0
+SameGroups l m = (m.groups ≡ l.groups) × (m.profile ≡ l.profile)
+
+schedule_groups : (id : ℕ) (when : Option ℕ) (l : Loop) → SameGroups l (schedule id when l)
+schedule_groups id None l = (refl, refl)
+schedule_groups id (Some when) l = (refl, refl)
 
 module _ {X : Type 0} {a : Added X} where
   -- ---- the state after a change of the timeouts and of the parts, whose view is `v` then
   pub stands_timed : (out : Option ℕ) (c : Context a) (old : RunState X) (s : State a.Kept) (v : View) (timeouts : List Timeout) (m : Loop)
-      → (h : Stands out c old s) → KeptTimeouts h.name_map s.loop timeouts v m → Leaves None s.loop.parts m.parts → m.groups ≡ s.loop.groups
+      → (h : Stands out c old s) → KeptTimeouts h.name_map s.loop timeouts v m → Leaves None s.loop.parts m.parts → SameGroups s.loop m
       → length v.queue.below ≡ length old.parts.queue.below → v.profile ≡ old.parts.profile
       → Stands out c (record old { parts = v; timeouts = timeouts }) (with_loop m s)
   stands_timed out c old s v timeouts m h kept leaves groups below profile =
@@ -63,9 +67,9 @@ module _ {X : Type 0} {a : Added X} where
       (record {
         timeouts = kept.keeps.timeouts;
         groups =
-            subst (λ (gs : List Group). (id : ℕ) → KeepsAt kept.name_map m.parts (slice_get old.groups id) (slice_get gs id)) (sym groups)
+            subst (λ (gs : List Group). (id : ℕ) → KeepsAt kept.name_map m.parts (slice_get old.groups id) (slice_get gs id)) (sym groups.0)
             (groups_on h.name_map kept.name_map s.loop.parts m.parts leaves.goes_on kept.extends.gone old.groups s.loop.groups h.blocks.groups);
-      }) (below ∙ h.left) profile
+      }) (below ∙ h.left) profile groups.1
 
   pub timeouts_of : (out : Option ℕ) (c : Context a) (body : RunState X) (s : State a.Kept) → (h : Stands out c body s)
       → KeepsTimeouts h.name_map body.timeouts body.parts s.loop
@@ -74,7 +78,7 @@ module _ {X : Type 0} {a : Added X} where
   -- in a step of a task
   pub goes_timed : (task : ℕ) (c : Context a) (old : RunState X) (s : State a.Kept) (v : View) (timeouts : List Timeout) (m : Loop)
       → (h : IsInStep task c old s) → KeptTimeouts h.stands.name_map s.loop timeouts v m → Leaves None s.loop.parts m.parts
-      → m.groups ≡ s.loop.groups → length v.queue.below ≡ length old.parts.queue.below → IsSameStep old.parts v
+      → SameGroups s.loop m → length v.queue.below ≡ length old.parts.queue.below → IsSameStep old.parts v
       → IsInStep task c (record old { parts = v; timeouts = timeouts }) (with_loop m s)
   goes_timed task c old s v timeouts m h kept leaves groups below same = record {
     stands = stands_timed (Some task) c old s v timeouts m h.stands kept leaves groups below same.profile;
@@ -86,7 +90,7 @@ module _ {X : Type 0} {a : Added X} where
 pub leaves_enter : (task : ℕ) (delay : Option ℤ) (l : Loop) → Leaves None l.parts (enter_timeout task delay l).parts
 leaves_enter task delay l = leaves_schedule (length l.timeouts) (option_map (deadline l.parts.time) delay) (make_timeout task l)
 
-pub enter_groups : (task : ℕ) (delay : Option ℤ) (l : Loop) → (enter_timeout task delay l).groups ≡ l.groups
+pub enter_groups : (task : ℕ) (delay : Option ℤ) (l : Loop) → SameGroups l (enter_timeout task delay l)
 enter_groups task delay l = schedule_groups (length l.timeouts) (option_map (deadline l.parts.time) delay) (make_timeout task l)
 
 pub leaves_reschedule : (id : ℕ) (when : Option ℤ) (l : Loop) → Leaves None l.parts (reschedule id when l).parts
@@ -96,18 +100,18 @@ leaves_reschedule id when l = at (is_active (timeout_of l id).state)
     at true = leaves_schedule id (option_map moment when) l
     at false = leaves_same l.parts
 
-pub reschedule_groups : (id : ℕ) (when : Option ℤ) (l : Loop) → (reschedule id when l).groups ≡ l.groups
+pub reschedule_groups : (id : ℕ) (when : Option ℤ) (l : Loop) → SameGroups l (reschedule id when l)
 reschedule_groups id when l = at (is_active (timeout_of l id).state)
   where
-    at : (b : Bool) → (reschedule_where b id when l).groups ≡ l.groups
+    at : (b : Bool) → SameGroups l (reschedule_where b id when l)
     at true = schedule_groups id (option_map moment when) l
-    at false = refl
+    at false = (refl, refl)
 
 pub leaves_fire : (id : ℕ) (l : Loop) → Leaves None l.parts (fire id l).parts
 leaves_fire id l = leaves_request (ByTimeout id) (future_of l.parts (timeout_of l id).task) l.parts
 
-pub fire_groups : (id : ℕ) (l : Loop) → (fire id l).groups ≡ l.groups
-fire_groups id l = refl
+pub fire_groups : (id : ℕ) (l : Loop) → SameGroups l (fire id l)
+fire_groups id l = (refl, refl)
 
 pub leaves_exit : (raised : Option Exc) (id : ℕ) (l : Loop) → Leaves None l.parts (exit_timeout raised id l).loop.parts
 leaves_exit raised id l = at (timeout_of l id).state
@@ -123,16 +127,16 @@ leaves_exit raised id l = at (timeout_of l id).state
     at Active = first
     at Expiring =
         let task : ℕ = (timeout_of (without_handle id l) id).task in
-        leaves_on None l.parts p (uncancel task p) first (leaves_uncancel task p)
+        leaves_on None l.parts p (uncancel l.profile task p) first (leaves_uncancel l.profile task p)
     at Expired = first
     at Finished = first
 
-pub exit_groups : (raised : Option Exc) (id : ℕ) (l : Loop) → (exit_timeout raised id l).loop.groups ≡ l.groups
+pub exit_groups : (raised : Option Exc) (id : ℕ) (l : Loop) → SameGroups l (exit_timeout raised id l).loop
 exit_groups raised id l = at (timeout_of l id).state
   where
-    at : (state : TimeoutState) → (leave_from state raised id (without_handle id l)).loop.groups ≡ l.groups
-    at Created = refl
-    at Active = refl
-    at Expiring = refl
-    at Expired = refl
-    at Finished = refl
+    at : (state : TimeoutState) → SameGroups l (leave_from state raised id (without_handle id l)).loop
+    at Created = (refl, refl)
+    at Active = (refl, refl)
+    at Expiring = (refl, refl)
+    at Expired = (refl, refl)
+    at Finished = (refl, refl)

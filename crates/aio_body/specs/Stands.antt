@@ -6,7 +6,7 @@ use Rattle.model_tree.specs.Syntax.{Program}
 use Rattle.model_wire.specs.Event.{Event}
 use Rattle.model_wire.specs.Journal.{Entry}
 use Rattle.model_loop.specs.Loop.{Loop}
-use Rattle.model_loop.specs.Parts.{Parts}
+use Rattle.model_loop.specs.Parts.{Parts, Profile, profile_named}
 use Rattle.model_loop.specs.Owning.{is_plain}
 use Rattle.model_loop.specs.Tasks.{cancelling, lives, next_task, waiter_of}
 use Rattle.model_loop.specs.Ways.{is_running}
@@ -34,6 +34,11 @@ use Rattle.aio_body.specs.declared.resume_point.ResumePoint.TheVariants.{Asked, 
 -- The profile that a program runs by: its own. The parts have a byte for it.
 abbrev pub profile_of : Program → ℕ
 profile_of program = min program.profile (2 ^ 8 - 1)
+
+-- The parts run by the profile that a program names, and so does the loop.
+pub record IsRuled (program : Program) (number : ℕ) (profile : Profile) : Type 0 where
+  pub named : number ≡ profile_of program
+  pub rules : profile ≡ profile_named number
 
 -- The future of a sleep or of a connect, which nobody else waits for: no script names it, it is no own one of what is added, and
 -- no connection and no child keeps it, but for one that is being made by the connect. `sleeper` is the task that waits, if it
@@ -103,7 +108,7 @@ holding coroutine c = record c { coroutine = Some coroutine }
 pub record Stands {X : Type 0} {a : Added X} (out : Option ℕ) (c : Context a) (body : RunState X) (s : State a.Kept) : Type 0 where
   pub name_map : NameMap
   pub code : IsCodeOf s.program body.code
-  pub profile : body.parts.profile ≡ profile_of s.program
+  pub profile : IsRuled s.program body.parts.profile s.loop.profile
   pub keeps : Keeps name_map body.parts s.loop.parts
   pub left : length body.parts.queue.below ≡ c.left
   pub bar : name_map.bar ≡ c.bar

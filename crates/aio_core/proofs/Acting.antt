@@ -303,7 +303,7 @@ module _ {X : Type 0} {a : Added X} (task future : ℕ) (c : Context a) (body : 
         }) (in_parts (settle future (Returned Nothing))) h.stands
         (kept_settle h.stands.name_map body.parts s.loop.parts h.stands.keeps future (Returned Nothing))
         (leaves_settle future (Returned Nothing) s.loop.parts (plain_within s.loop.parts future sleeps_plainly).0)
-        (spares_none s.loop.parts (named_in a s)) (refl, refl) (ap length (below_soon_all (called future body.parts.futures) body.parts.queue))
+        (spares_none s.loop.parts (named_in a s)) (refl, (refl, refl)) (ap length (below_soon_all (called future body.parts.futures) body.parts.queue))
         refl;
     called = h.called;
     running = h.running;

@@ -153,7 +153,7 @@ module _ {X : Type 0} {a : Added X} where
           after = refl;
           stands =
               stands_left None None c body s w (in_parts (λ q. record q { pending = handles })) h.stands (pending_kept t w p handles runs.3)
-              (pending_leaves p handles) (spares_none p (named_in a s)) (refl, refl) (ap (λ (x : View). x.profile) is);
+              (pending_leaves p handles) (spares_none p (named_in a s)) (refl, (refl, refl)) (ap (λ (x : View). x.profile) is);
           called = ap (λ (x : View). x.called) is ∙ ap stepped_at next;
           running = ap (λ (x : View). x.running) is ∙ h.running;
         };
@@ -195,7 +195,7 @@ module _ {X : Type 0} {a : Added X} where
     between = record {
       stands =
           stands_left None None c body s w (in_parts (λ q. record q { pending = skips.left })) h.stands (pending_kept t w p skips.left skips.runs.1)
-          (pending_leaves p skips.left) (spares_none p (named_in a s)) (refl, refl) (ap (λ (x : View). x.profile) is);
+          (pending_leaves p skips.left) (spares_none p (named_in a s)) (refl, (refl, refl)) (ap (λ (x : View). x.profile) is);
       called = ap (λ (x : View). x.called) is ∙ ap stepped_at next;
       running = ap (λ (x : View). x.running) is ∙ h.running;
       sound = deads_sound a t.bar skips.dead skips.left s skips.pending skips.are_dead h.sound;

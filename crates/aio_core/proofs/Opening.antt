@@ -1,7 +1,8 @@
 -- A run begins: what is made stands for the machine's first state.
-use Rattle.std.proofs.Common.{◌≡◌, ℕ, zero, suc, ◌^◌, ◌<◌, ◌≤◌, Bool, true, false, List, [], ◌∷◌, ◌++◌, None, length, slice_get, ◌∙◌, refl, sym, ap, subst}
-use Rattle.std.proofs.Common.{arith}
-use Rattle.std.proofs.lemmas.Bool.{false≢true}
+use Rattle.std.proofs.Common.{◌≡◌, ℕ, zero, suc, ◌^◌, ◌-◌, ◌<◌, ◌≤◌, ◌⊎◌, Bool, true, false, List, [], ◌∷◌, ◌++◌, None, length, slice_get, ◌∙◌, refl, sym, ap, subst}
+use Rattle.std.proofs.Common.{arith, inl, inr, if◌then◌else◌}
+use Rattle.std.specs.Prelude.{min}
+use Rattle.std.proofs.lemmas.Bool.{cases_eq, false≢true, ne_eqb}
 use Rattle.std.proofs.lemmas.List.Elements.{All-nil}
 use Rattle.model_value.specs.Number.{most}
 use Rattle.model_value.specs.Value.{Value}
@@ -11,7 +12,7 @@ use Rattle.model_text.specs.SecondPass.{main_text}
 use Rattle.model_says.specs.Requests.{place_of}
 use Rattle.model_stream.specs.Streams.{no_streams}
 use Rattle.model_wire.specs.Journal.{Entry}
-use Rattle.model_loop.specs.Parts.{OfTask, Future, Parts, Task}
+use Rattle.model_loop.specs.Parts.{OfTask, Future, Parts, Profile, Two, One, Task, profile_named}
 use Rattle.model_loop.specs.Start.{first_parts, no_parts}
 use Rattle.model_loop.specs.Tasks.{cancelling, future_of, lives, spawn}
 use Rattle.model_machine.specs.Replies.{most_ids}
@@ -122,6 +123,18 @@ registered_so profile v w is after =
       queue = soon_if_done (future_of (parts x) 0) MainDone x.futures x.queue;
     }) is
 
+-- a byte is enough to tell the profiles apart
+byte_named : (number : ℕ) → profile_named number ≡ profile_named (min number (2 ^ 8 - 1))
+byte_named number = at (cases_eq number 2)
+  where
+    named : Bool → Profile
+    named is_two = if is_two then Two else One
+
+    at : (number ≡ 2) ⊎ (number ≡ 2 → ⊥) → profile_named number ≡ profile_named (min number (2 ^ 8 - 1))
+    at (inl same) = subst (λ (n : ℕ). profile_named n ≡ profile_named (min n (2 ^ 8 - 1))) (sym same) refl
+    at (inr other) =
+        ap named (ne_eqb number 2 other) ∙ sym (ap named (ne_eqb (min number (2 ^ 8 - 1)) 2 (λ e. other (omega (arith, e)))))
+
 -- ---- the whole
 module _ {X : Type 0} (a : Added X) (program : Program) (none held : RunState X) (x : X) (kept : a.Kept) (fresh : KeepsNothing a x kept)
     (e : IsEmpty program x none)
@@ -137,7 +150,7 @@ module _ {X : Type 0} (a : Added X) (program : Program) (none held : RunState X)
   begins_at answers = record {
     name_map = (callback_kept (profile_of program)).name_map;
     code = subst (IsCodeOf program) (sym (ap (λ (b : RunState X). b.code) holds.frame)) e.code;
-    profile = refl;
+    profile = record { named = refl; rules = byte_named program.profile };
     keeps = (callback_kept (profile_of program)).keeps;
     left = refl;
     bar = refl;

@@ -153,7 +153,7 @@ module _ {X : Type 0} {a : Added X} where
               time = ap (λ (x : View). x.time) frame;
               schedule = ap (λ (x : View). x.schedule) frame;
             }))
-            (leaves_request ByEnd own p) (spares_none p (named_in a t)) (refl, refl) (below_appended body.parts.queue v.queue appended)
+            (leaves_request ByEnd own p) (spares_none p (named_in a t)) (refl, (refl, refl)) (below_appended body.parts.queue v.queue appended)
             (ap (λ (x : View). x.profile) frame);
         called = ap (λ (x : View). x.called) frame ∙ so.called;
         running = ap (λ (x : View). x.running) frame ∙ so.running;

@@ -97,6 +97,7 @@ module _ {X : Type 0} {a : Added X} where
           timeouts = timeouts_stay h.name_map u p q body.timeouts s.loop.timeouts (λ tag below. refl) (omega arith) h.blocks.timeouts;
           groups = groups_on h.name_map u p q on refl body.groups s.loop.groups h.blocks.groups;
         };
+        profile = refl;
         tasks = refl;
         living = λ task l. l;
         knows = λ tag timer. knows_timed h.name_map p now bar tag timer;
@@ -204,7 +205,7 @@ module _ {X : Type 0} {a : Added X} (c : Context a) (body : RunState X) (s : Sta
       stands_left None None d (record body { parts = at_now }) timed heard (in_parts (soon_all actions)) h
       (kept_soon_all h.name_map at_now timed.loop.parts actions h.keeps)
       (leaves_handles timed.loop.parts (soon_all actions timed.loop.parts) is.0 is.1 is.2)
-      (spares_none timed.loop.parts (named_in a timed)) (refl, refl)
+      (spares_none timed.loop.parts (named_in a timed)) (refl, (refl, refl))
       refl
 
   fell_stands : (d : Context a) (h : Stands None d (record body { parts = heard }) told)
@@ -219,7 +220,7 @@ module _ {X : Type 0} {a : Added X} (c : Context a) (body : RunState X) (s : Sta
         extends = due_name_map h.name_map told.loop.parts;
       })
       (leaves_handles told.loop.parts (due told.loop.parts) is.0 is.1 is.2) (spares_none told.loop.parts (named_in a told))
-      (refl, refl) refl
+      (refl, (refl, refl)) refl
 
   all_stand : (d : Context a) (h : Stands None d (record body { parts = due_view now heard }) fell)
       → Stands None (record d { left = length fell.loop.parts.pending; bar = fell.loop.parts.next_stamp })

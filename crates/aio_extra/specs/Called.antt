@@ -2,6 +2,7 @@
 use Rattle.std.specs.Prelude.{◌≡◌, ℕ, ◌≤◌, ◌⊎◌, true, false, Option, None, length}
 use Rattle.model_loop.specs.Futures.{next_future}
 use Rattle.model_loop.specs.Owning.{is_plain}
+use Rattle.model_loop.specs.Parts.{profile_named}
 use Rattle.model_loop.specs.Sound.{IsSound}
 use Rattle.model_machine.specs.Extra as extra
 use Rattle.model_machine.specs.Extra.{ExtraAnswer, ExtraCall, ExtraSaid, called}
@@ -20,6 +21,8 @@ pub record IsServed {X : Type 0} (a : Added X) (running : Option ℕ) (t : NameM
   pub called : v.called ≡ None
   pub runs : v.running ≡ running
   pub sound : IsSound running (told_in s.events) s.loop
+  -- by the same profile
+  pub rules : s.loop.profile ≡ profile_named v.profile
 
 -- There is such a state. Which one it is doesn't matter to what a call may do.
 abbrev pub MayServe : {X : Type 0} → Added X → (running : Option ℕ) → X → View → Type 0

@@ -8,6 +8,7 @@ use Rattle.model_loop.proofs.GroupCases.{create_unless}
 use Rattle.model_loop.specs.Cancel.{has_seen}
 use Rattle.model_loop.specs.Groups.{Exited, Refusal, NotEntered, IsFinished, IsShuttingDown, new_group, group_of, refusal, create}
 use Rattle.model_loop.specs.Loop.{Loop}
+use Rattle.model_loop.specs.Parts.{profile_named}
 use Rattle.model_loop.specs.Tasks.{next_task}
 use Rattle.aio_task.specs.View.{View}
 use Rattle.aio_task.specs.Keeps.{NameMap}
@@ -67,9 +68,9 @@ module _ {items seen : List Held} {id : ℕ} {held : Held} (f : Found items seen
 
     pub exit_came : {E : Type 0} (result : Result GroupExit E) (step : ℕ → Loop → Exited)
         → IfOk result (λ exit. Exits held v new w step exit)
-        → IfOk result (λ exit. (t : NameMap) (l : Loop) → GroupsStand t seen v l
+        → IfOk result (λ exit. (t : NameMap) (l : Loop) → GroupsStand t seen v l → l.profile ≡ profile_named v.profile
         → Came t l (slice_set items id new) w (step id l).loop × (exit_of exit ≡ (step id l).answer))
-    exit_came result step = IfOk-weaker result _ _ (λ exit steps t l s. steps t items id l f.at (found_stands t v l s))
+    exit_came result step = IfOk-weaker result _ _ (λ exit steps t l s ruled. steps t items id l f.at (found_stands t v l s) ruled)
 
     pub err_came : {T E : Type 0} (result : Result T E) → OnErr result ((new ≡ held) × (w ≡ v))
         → OnErr result ((slice_set items id new ≡ seen) × (w ≡ v))

@@ -14,13 +14,14 @@ use Rattle.model_loop.specs.Groups.{with_child}
 use Rattle.model_loop.specs.Ledger.{Origin, request_where, request_each}
 use Rattle.model_loop.specs.Owning.{owner_at}
 use Rattle.model_loop.specs.Parts as plain
-use Rattle.model_loop.specs.Parts.{OfTask, FutureKind, Future, Task, Parts}
+use Rattle.model_loop.specs.Parts.{OfTask, FutureKind, Future, Task, Parts, Profile}
 use Rattle.model_loop.specs.Tasks.{future_of, lives, next_task, spawn, uncancel}
 use Rattle.model_loop.proofs.FutureCases.{registered, registered_on}
 use Rattle.law_cancel.proofs.Counting.{goes-done}
 use Rattle.law_cancel.proofs.Lookups.{get_within, get-push_other, get-set_kept}
 use Rattle.law_cancel.proofs.Trace.{goes-tasks}
-use Rattle.law_steps.proofs.Looks.{future_of-same, change_looks_same}
+use Rattle.law_steps.proofs.Looks.{future_of-same}
+use Rattle.law_steps.proofs.Stepping.{uncancel_looks_same}
 use Rattle.law_steps.proofs.Settling.{IsSettled, settle_cases}
 use Rattle.law_steps.proofs.Spreading.{as_row, with_spread}
 use Rattle.law_groups.proofs.Holding.{KeepsOwners, settled_names, looks_names, cancels_names}
@@ -95,10 +96,10 @@ settle_on id outcome p = settle_cases (PartsGoOn p) id outcome p (same_on p) set
         stay j d (inl same) = absurd (false≢true (sym d ∙ subst (λ i. is_pending p i ≡ true) same s.was))
         stay j d (inr n) = ap outcome_at (s.others j n)
 
-pub uncancel_on : (task : ℕ) (p : Parts) → PartsGoOn p (uncancel task p)
-uncancel_on task p =
-    let looks = change_looks_same task (λ (t : Task). record t { cancels = t.cancels - 1 }) p (λ t. refl) (λ t. refl) in
-    named_on p (uncancel task p) (looks_names p (uncancel task p) looks) looks.tasks (λ id d. looks.outcomes id)
+pub uncancel_on : (profile : Profile) (task : ℕ) (p : Parts) → PartsGoOn p (uncancel profile task p)
+uncancel_on profile task p =
+    let looks = uncancel_looks_same profile task p in
+    named_on p (uncancel profile task p) (looks_names p (uncancel profile task p) looks) looks.tasks (λ id d. looks.outcomes id)
 
 -- ---- what is made
 -- a future more

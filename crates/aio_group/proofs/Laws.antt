@@ -6,8 +6,8 @@ use Rattle.model_value.specs.Value.{Outcome}
 use Rattle.model_loop.specs.Cancel.{cancel}
 use Rattle.model_loop.specs.Futures.{settle, register, new_plain, next_future, outcome_at, future_outcome}
 use Rattle.model_loop.specs.Ledger.{Origin, request}
-use Rattle.model_loop.specs.Parts.{Plain, Task, Parts}
-use Rattle.model_loop.specs.Tasks.{spawn, uncancel, future_of, next_task}
+use Rattle.model_loop.specs.Parts.{Plain, Task, Parts, Profile}
+use Rattle.model_loop.specs.Tasks.{spawn, must_still_cancel, uncancel, future_of, next_task}
 use Rattle.aio_ready.specs.Queue.{soon_all}
 use Rattle.aio_future.specs.Settled as settled
 use Rattle.aio_future.specs.Settled.{called, registered, soon_if_done}
@@ -21,21 +21,23 @@ pub kept_request : (t : NameMap) (v w : View) (p : Parts) (by : Origin) (id : �
     → Becomes v w (cancel id (parts v)).parts → Kept t p w (request by id p).booked.parts
 kept_request t v w p by id k becomes = calls.kept_request t v w p k by id becomes
 
-uncancel-tag : (task : ℕ) (p : Parts) → (uncancel task p).next_tag ≡ p.next_tag
-uncancel-tag task p = at (slice_get p.tasks task)
+uncancel-tag : (profile : Profile) (task : ℕ) (p : Parts) → (uncancel profile task p).next_tag ≡ p.next_tag
+uncancel-tag profile task p = at (slice_get p.tasks task)
   where
     at : (o : Option Task)
-        → (option_map_or (λ (t : Task). record p { tasks = slice_set p.tasks task (record t { cancels = t.cancels - 1 }) }) o p).next_tag
+        → (option_map_or (λ (t : Task). record p {
+          tasks = slice_set p.tasks task (record t { cancels = t.cancels - 1; must_cancel = must_still_cancel profile t });
+        }) o p).next_tag
         ≡ p.next_tag
     at None = refl
     at (Some t) = refl
 
-pub kept_uncancel : (t : NameMap) (v w : View) (p : Parts) (task : ℕ) → Keeps t v p
-    → Becomes v w (uncancel task (parts v)) → Kept t p w (uncancel task p)
-kept_uncancel t v w p task k becomes = record {
+pub kept_uncancel : (t : NameMap) (v w : View) (p : Parts) (profile : Profile) (task : ℕ) → Keeps t v p
+    → Becomes v w (uncancel profile task (parts v)) → Kept t p w (uncancel profile task p)
+kept_uncancel t v w p profile task k becomes = record {
   name_map = t;
-  keeps = calls.keeps_uncancel t v w p k task becomes;
-  extends = extends_still t p (uncancel task p) (uncancel-tag task p);
+  keeps = calls.keeps_uncancel t v w p k profile task becomes;
+  extends = extends_still t p (uncancel profile task p) (uncancel-tag profile task p);
 }
 
 pub kept_settle : (t : NameMap) (v : View) (p : Parts) (id : ℕ) (outcome : Outcome) → Keeps t v p

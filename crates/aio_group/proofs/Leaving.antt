@@ -10,11 +10,11 @@ use Rattle.model_loop.proofs.GroupCases.{take_back_where, keep_and_abort_unless}
 use Rattle.model_loop.specs.Groups.{group_of, set_group, only_cancelled, abort, take_back, begin_exit, abort_if_raised, hear}
 use Rattle.model_loop.specs.Ledger.{ByGroup, uncancel_by}
 use Rattle.model_loop.specs.Loop.{Loop, book}
-use Rattle.model_loop.specs.Parts.{Task, Parts}
-use Rattle.model_loop.specs.Tasks.{cancelling, uncancel}
+use Rattle.model_loop.specs.Parts.{Task, Parts, Profile}
+use Rattle.model_loop.specs.Tasks.{cancelling, must_still_cancel, uncancel}
 use Rattle.aio_task.specs.View.{View, parts}
 use Rattle.aio_task.specs.Keeps.{NameMap, Keeps, Kept}
-use Rattle.aio_group.specs.Exits.{heard}
+use Rattle.aio_group.specs.Exits.{heard, ruled, taken_back}
 use Rattle.aio_group.specs.Held.{Held, failing}
 use Rattle.aio_group.specs.Stands.{GroupSteps}
 use Rattle.aio_group.proofs.Flags.{parent_same, aborting_same, requested_same, keeps_this, wakes_up, begins}
@@ -47,16 +47,22 @@ begin_steps a v raised =
     (λ p group. record group { exiting = true; body = raised; kept = only_cancelled raised }) (λ id l. refl) (λ id l. refl)
     (λ t p group k is. begins is raised)
 
-pub take_back_stays : (a : Held) (v : View) → a.requested ≡ false → GroupSteps a v a v take_back
-take_back_stays a v e = as_step a a v v (λ id l. l) take_back (no_step a v) (λ t id l h k.
-    let c : (group_of l id).requested ≡ false = sym (requested_same h.is) ∙ e in
-    (rw c refl, rw c refl))
+-- whether it is time for it, and there is a request
+is_due : (now : Bool) (a b : Bool) (due : Bool) → a ≡ b → (now && a) ≡ due → (now && b) ≡ due
+is_due now a b due same e = ap (λ r. now && r) (sym same) ∙ e
 
-uncancel-tasks : (task : ℕ) (p q : Parts) → p.tasks ≡ q.tasks → (uncancel task p).tasks ≡ (uncancel task q).tasks
-uncancel-tasks task p q e = at (slice_get p.tasks task) (slice_get q.tasks task) (ap (λ ts. slice_get ts task) e)
+pub take_back_stays : (profile : Profile) (now : Bool) (a : Held) (v : View) → (now && a.requested) ≡ false
+    → GroupSteps a v a v (taken_back profile now)
+take_back_stays profile now a v e = as_step a a v v (λ id l. l) (taken_back profile now) (no_step a v) (λ t id l h k.
+    let c : (now && (group_of l id).requested) ≡ false = is_due now a.requested (group_of l id).requested false (requested_same h.is) e in
+    let same : take_back now id (ruled profile l) ≡ ruled profile l = ap (λ b. take_back_where b id (ruled profile l)) c in
+    (ap (λ (m : Loop). m.parts) (sym same), ap (λ (m : Loop). m.groups) (sym same)))
+
+uncancel-tasks : (profile : Profile) (task : ℕ) (p q : Parts) → p.tasks ≡ q.tasks → (uncancel profile task p).tasks ≡ (uncancel profile task q).tasks
+uncancel-tasks profile task p q e = at (slice_get p.tasks task) (slice_get q.tasks task) (ap (λ ts. slice_get ts task) e)
   where
     change : Task → Task
-    change t = record t { cancels = t.cancels - 1 }
+    change t = record t { cancels = t.cancels - 1; must_cancel = must_still_cancel profile t }
 
     at : (o r : Option Task) → o ≡ r
         → (option_map_or (λ (t : Task). record p { tasks = slice_set p.tasks task (change t) }) o p).tasks
@@ -66,60 +72,59 @@ uncancel-tasks task p q e = at (slice_get p.tasks task) (slice_get q.tasks task)
     at (Some t) None d = absurd (cc)
     at (Some t) (Some u) d = let same : t ≡ u = cc in rw (same, e) refl
 
-abbrev took : ℕ → Loop → Loop
-took id l = book (uncancel_by (ByGroup id) (group_of l id).parent) l
+module _ (profile : Profile) (now : Bool) (a : Held) (v w : View) (due : (now && a.requested) ≡ true)
+    (e : parts w ≡ uncancel profile a.parent (parts v)) (frame : w ≡ record v { tasks = w.tasks }) where
+  abbrev took : ℕ → Loop → Loop
+  took id l = book (uncancel_by profile (ByGroup id) (group_of l id).parent) (ruled profile l)
 
-abbrev dropped_if : Bool → ℕ → Loop → Loop
-dropped_if b id l = if b then set_group id (record (group_of l id) { kept = None }) (took id l) else took id l
+  abbrev dropped_if : Bool → ℕ → Loop → Loop
+  dropped_if b id l = if b then set_group id (record (group_of l id) { kept = None }) (took id l) else took id l
 
-taken_back : (id : ℕ) (l : Loop) → (group_of l id).requested ≡ true
-    → take_back id l ≡ dropped_if (cancelling (took id l).parts (group_of l id).parent == 0) id l
-taken_back id l e = ap (λ b. take_back_where b id l) e
+  taken_so : (t : NameMap) (id : ℕ) (l : Loop) → There t a id l
+      → taken_back profile now id l ≡ dropped_if (cancelling (took id l).parts (group_of l id).parent == 0) id l
+  taken_so t id l h =
+      ap (λ b. take_back_where b id (ruled profile l)) (is_due now a.requested (group_of l id).requested true (requested_same h.is) due)
 
-module _ (a : Held) (v w : View) (requested : a.requested ≡ true) (e : parts w ≡ uncancel a.parent (parts v))
-    (frame : w ≡ record v { tasks = w.tasks }) where
   took_steps : GroupSteps a v a w took
   took_steps = parts_steps a v w took (λ t id l h k. (
-    subst (λ (i : ℕ). Kept t l.parts w (uncancel i l.parts)) (parent_same h.is)
-        (kept_uncancel t v w l.parts a.parent k (record {
+    subst (λ (i : ℕ). Kept t l.parts w (uncancel profile i l.parts)) (parent_same h.is)
+        (kept_uncancel t v w l.parts profile a.parent k (record {
           parts = e;
           queue = ([], ap (λ (x : View). x.queue) frame);
           time = ap (λ (x : View). x.time) frame;
           schedule = ap (λ (x : View). x.schedule) frame;
         })),
-    (uncancel_on (group_of l id).parent l.parts, refl),
+    (uncancel_on profile (group_of l id).parent l.parts, refl),
   ))
 
   -- the count in code is the machine's
   left : (t : NameMap) (id : ℕ) (l : Loop) → There t a id l → Keeps t v l.parts
       → cancelling (parts w) a.parent ≡ cancelling (took id l).parts (group_of l id).parent
   left t id l h k =
-      let tasks : (uncancel a.parent (parts v)).tasks ≡ (uncancel a.parent l.parts).tasks =
-      uncancel-tasks a.parent (parts v) l.parts k.tasks in
+      let tasks : (uncancel profile a.parent (parts v)).tasks ≡ (uncancel profile a.parent l.parts).tasks =
+      uncancel-tasks profile a.parent (parts v) l.parts k.tasks in
       ap (λ (p : Parts). cancelling p a.parent) e
       ∙ ap (λ (ts : List Task). option_map_or (λ (t : Task). t.cancels) (slice_get ts a.parent) 0) tasks
-      ∙ ap (λ (i : ℕ). cancelling (uncancel i l.parts) i) (parent_same h.is)
+      ∙ ap (λ (i : ℕ). cancelling (uncancel profile i l.parts) i) (parent_same h.is)
 
-  pub take_back_steps : (0 < cancelling (parts w) a.parent) → GroupSteps a v a w take_back
-  take_back_steps some = as_step a a v w took take_back took_steps (λ t id l h k.
-      let c : (group_of l id).requested ≡ true = sym (requested_same h.is) ∙ requested in
+  pub take_back_steps : (0 < cancelling (parts w) a.parent) → GroupSteps a v a w (taken_back profile now)
+  take_back_steps some = as_step a a v w took (taken_back profile now) took_steps (λ t id l h k.
       let n = left t id l h k in
       let d : (cancelling (took id l).parts (group_of l id).parent == 0) ≡ false =
       ne_eqb (cancelling (took id l).parts (group_of l id).parent) 0 (λ z. absurd (omega (arith, some, n, z))) in
-      let e = taken_back id l c ∙ ap (λ b. dropped_if b id l) d in
+      let e = taken_so t id l h ∙ ap (λ b. dropped_if b id l) d in
       (ap (λ (m : Loop). m.parts) (sym e), ap (λ (m : Loop). m.groups) (sym e)))
 
-  pub take_back_drops : cancelling (parts w) a.parent ≡ 0 → GroupSteps a v (record a { kept = None }) w take_back
+  pub take_back_drops : cancelling (parts w) a.parent ≡ 0 → GroupSteps a v (record a { kept = None }) w (taken_back profile now)
   take_back_drops none =
       let b : Held = record a { kept = None } in
-      as_step a b v w (λ id l. drops id (took id l)) take_back
+      as_step a b v w (λ id l. drops id (took id l)) (taken_back profile now)
       (then_steps a a b v w w took drops took_steps
       (set_steps a b w drops (λ p group. record group { kept = None }) (λ id l. refl) (λ id l. refl) (λ t p group k is. keeps_this is None)))
       (λ t id l h k.
-      let c : (group_of l id).requested ≡ true = sym (requested_same h.is) ∙ requested in
       let d : (cancelling (took id l).parts (group_of l id).parent == 0) ≡ true =
       eq-eqb (cancelling (took id l).parts (group_of l id).parent) 0 (sym (left t id l h k) ∙ none) in
-      let e = taken_back id l c ∙ ap (λ b. dropped_if b id l) d in
+      let e = taken_so t id l h ∙ ap (λ b. dropped_if b id l) d in
       (ap (λ (m : Loop). m.parts) (sym e), ap (λ (m : Loop). m.groups) (sym e)))
     where
       drops : ℕ → Loop → Loop

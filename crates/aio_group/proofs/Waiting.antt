@@ -14,12 +14,12 @@ use Rattle.model_value.specs.Value.{Outcome, Exc}
 use Rattle.model_loop.proofs.GroupCases.{abort_where, take_back_where, keep_and_abort_unless}
 use Rattle.model_loop.specs.Cancel.{CancelRequest, Canceller, answers, has_seen, cancel_each, cancel_by, cancel_below, cancel_within, cancel}
 use Rattle.model_loop.specs.Futures.{is_pending_at, is_pending, made_before, mark_asked, new_plain, next_future, settle, with_future}
-use Rattle.model_loop.specs.Groups.{group_of, set_group, only_cancelled, abort, take_back, begin_exit, abort_if_raised}
+use Rattle.model_loop.specs.Groups.{group_of, set_group, only_cancelled, abort, at_begin, begin_exit, abort_if_raised}
 use Rattle.model_loop.specs.Handles.{soon, soon_all}
 use Rattle.model_loop.specs.Ledger.{Origin, ByAbort, ByGroup, Asked, Raised, Booked, raised_among, request_where, request_each, uncancel_by}
 use Rattle.model_loop.specs.Loop.{Group, Loop, in_parts, book}
-use Rattle.model_loop.specs.Parts.{FutureKind, Plain, OfTask, Many, Future, Task, Parts}
-use Rattle.model_loop.specs.Tasks.{cancelling, change_task, future_of, lives, next_task, raise_count, waiter_of}
+use Rattle.model_loop.specs.Parts.{FutureKind, Plain, OfTask, Many, Future, Task, Parts, Profile}
+use Rattle.model_loop.specs.Tasks.{cancelling, change_task, future_of, lives, must_still_cancel, next_task, raise_count, waiter_of}
 use Rattle.model_loop.proofs.FutureCases.{settled, settled_as}
 use Rattle.law_cancel.proofs.CancelCases.{asked_where, must_cancel_unless, cancel_waiter, cancel_unseen, cancel_task_where, cancel_kind, cancel_until}
 use Rattle.law_cancel.proofs.CancelCases.{cancel_at}
@@ -27,7 +27,7 @@ use Rattle.law_cancel.proofs.Counting.{change_task-kept}
 use Rattle.law_cancel.proofs.Effects.{done_as, asked_as, settle-futures, settle-tasks, mark_asked-futures, mark_asked-tasks, change_task-futures}
 use Rattle.law_cancel.proofs.Lookups.{get-push_other, get-set_same}
 use Rattle.law_cancel.proofs.Trace.{Goes, begins, settles, asks, raises, sets_must_cancel, IsRow, each_row, below_row, within_row, with_row}
-use Rattle.aio_group.specs.Exits.{WaitsMade, begun, heard}
+use Rattle.aio_group.specs.Exits.{WaitsMade, begun, heard, ruled, taken_back}
 use Rattle.aio_group.specs.GoesOn.{PartsGoOn}
 use Rattle.aio_group.proofs.Going.{own_there, request_where_on, uncancel_on}
 use Rattle.aio_group.proofs.Listing.{all_to}
@@ -312,12 +312,15 @@ abort_where_passes true id l made all = abort_passes id l made all
 abort_where_passes false id l made all = record { same = refl; leaves = same_leaves l.parts }
 
 -- a cancel is taken back
-module _ (id : ℕ) (l : Loop) where
+module _ (profile : Profile) (id : ℕ) (l : Loop) where
   abbrev group : Group
   group = group_of l id
 
   abbrev taken : Loop
-  taken = book (uncancel_by (ByGroup id) group.parent) l
+  taken = book (uncancel_by profile (ByGroup id) group.parent) (ruled profile l)
+
+  abbrev lowered : Task → Task
+  lowered t = record t { cancels = t.cancels - 1; must_cancel = must_still_cancel profile t }
 
   abbrev dropped : Loop → Loop
   dropped m = if cancelling m.parts group.parent == 0 then set_group id (record group { kept = None }) m else m
@@ -329,8 +332,8 @@ module _ (id : ℕ) (l : Loop) where
   dropped_passes true = refl
   dropped_passes false = refl
 
-  taken_passes : book (uncancel_by (ByGroup id) group.parent) (in_parts new_plain l) ≡ in_parts new_plain taken
-  taken_passes = ap (λ (p : Parts). record taken { parts = p }) (change-new group.parent (λ (t : Task). record t { cancels = t.cancels - 1 }) l.parts)
+  taken_passes : book (uncancel_by profile (ByGroup id) group.parent) (ruled profile (in_parts new_plain l)) ≡ in_parts new_plain taken
+  taken_passes = ap (λ (p : Parts). record taken { parts = p }) (change-new group.parent lowered l.parts)
 
   dropped_parts : (b : Bool) → (dropped_if b taken).parts ≡ taken.parts
   dropped_parts true = refl
@@ -341,9 +344,9 @@ module _ (id : ℕ) (l : Loop) where
   dropped_children false at = refl
 
   taken_leaves : WaitLeaves l.parts taken.parts
-  taken_leaves = changed_leaves group.parent (λ (t : Task). record t { cancels = t.cancels - 1 }) l.parts (λ t. refl)
+  taken_leaves = changed_leaves group.parent lowered l.parts (λ t. refl)
 
-  take_back_passes : (b : Bool) → Passes (take_back_where b id) l
+  take_back_passes : (b : Bool) → Passes (λ m. take_back_where b id (ruled profile m)) l
   take_back_passes false = record { same = refl; leaves = same_leaves l.parts }
   take_back_passes true =
       let b = cancelling taken.parts group.parent == 0 in
@@ -353,32 +356,33 @@ module _ (id : ℕ) (l : Loop) where
       }
 
   -- the tasks of the group are there afterwards
-  take_back_made : (b : Bool) → slice_get l.groups id ≡ Some group → AreMade id l → AreMade id (take_back_where b id l)
+  take_back_made : (b : Bool) → slice_get l.groups id ≡ Some group → AreMade id l → AreMade id (take_back_where b id (ruled profile l))
   take_back_made false at all = all
   take_back_made true at all =
       let b = cancelling taken.parts group.parent == 0 in
       subst (λ cs. Each (IsMade (dropped_if b taken).parts) cs) (sym (dropped_children b at))
       (subst (λ q. Each (IsMade q) group.children) (sym (dropped_parts b))
-      (all_to (IsMade l.parts) (IsMade taken.parts) group.children (made_on l.parts taken.parts (uncancel_on group.parent l.parts)) all))
+      (all_to (IsMade l.parts) (IsMade taken.parts) group.children (made_on l.parts taken.parts (uncancel_on profile group.parent l.parts)) all))
 
-pub begun_passes : (raised : Option Exc) (id : ℕ) (l : Loop) → WaitsMade l.parts → AreMade id l → slice_get l.groups id ≡ Some (group_of l id)
-    → Passes (begun raised id) l
-begun_passes raised id l made all at =
+pub begun_passes : (profile : Profile) (raised : Option Exc) (id : ℕ) (l : Loop) → WaitsMade l.parts → AreMade id l
+    → slice_get l.groups id ≡ Some (group_of l id) → Passes (begun profile raised id) l
+begun_passes profile raised id l made all at =
     let begin = begin_exit raised id l in
     let g : Group = record (group_of l id) { exiting = true; body = raised; kept = only_cancelled raised } in
     let there : group_of begin id ≡ g = group_same id g l at in
     let now : slice_get begin.groups id ≡ Some (group_of begin id) =
     get-set_same l.groups id (group_of l id) g at ∙ ap Some (sym there) in
     let ready : AreMade id begin = subst (λ cs. Each (IsMade l.parts) cs) (sym (ap (λ (h : Group). h.children) there)) all in
-    let back = take_back_passes id begin (group_of begin id).requested in
-    let m = take_back id begin in
+    let due = at_begin profile && (group_of begin id).requested in
+    let back = take_back_passes profile id begin due in
+    let m = taken_back profile (at_begin profile) id begin in
     let first : Passes (begin_exit raised id) l = record { same = refl; leaves = same_leaves l.parts } in
-    let second : Passes (λ k. take_back id (begin_exit raised id k)) l =
-    then_passes (begin_exit raised id) (take_back id) l first (record { same = back.same; leaves = back.leaves }) in
+    let second : Passes (λ k. taken_back profile (at_begin profile) id (begin_exit raised id k)) l =
+    then_passes (begin_exit raised id) (taken_back profile (at_begin profile) id) l first (record { same = back.same; leaves = back.leaves }) in
     let third = abort_where_passes (is_some raised && not (group_of m id).aborting) id m
     (waits_left l.parts m.parts second.leaves made)
-    (take_back_made id begin (group_of begin id).requested now ready) in
-    then_passes (λ k. take_back id (begin_exit raised id k)) (abort_if_raised raised id) l second
+    (take_back_made profile id begin due now ready) in
+    then_passes (λ k. taken_back profile (at_begin profile) id (begin_exit raised id k)) (abort_if_raised raised id) l second
     (record { same = third.same; leaves = third.leaves })
 
 module _ (fault : Exc) (id : ℕ) (l : Loop) (at : slice_get l.groups id ≡ Some (group_of l id)) where

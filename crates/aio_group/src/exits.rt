@@ -4,10 +4,11 @@ ghost use Rattle.std.specs.Option.{option_copied};
 ghost use Rattle.model_value.specs.Value.{Exc as PlainExc};
 ghost use Rattle.model_value.specs.declared.input.Input.TheVariants as input;
 ghost use Rattle.model_loop.specs.Groups as plain;
+ghost use Rattle.model_loop.specs.Parts.{profile_named};
 ghost use Rattle.aio_group.specs.Held.{failing};
 ghost use Rattle.aio_group.specs.Answers.{fault_of};
 ghost use Rattle.aio_group.specs.GoesOn.{Moves};
-ghost use Rattle.aio_group.specs.Exits.{begun, heard, IsNext, Exits};
+ghost use Rattle.aio_group.specs.Exits.{begun, heard, last_step, taken_back, IsNext, Exits};
 ghost use Rattle.aio_group.specs.Stands.{Belongs, GroupSteps};
 ghost use Rattle.aio_group.specs.declared.exit.ExitStep.TheVariants as next;
 
@@ -53,14 +54,26 @@ fn failure_in(raised: &Option<Exc>) -> Option<&Exc>
     }
 }
 
-// The group's own request is taken back. Where no other cancel of the parent is left, nothing is
-// kept.
-fn take_back(group: &mut Group, parts: &mut Parts)
+// Whether a group takes its request back as its exit ends, and not as it begins: in profile 2.
+fn is_taken_back_last(parts: &Parts) -> bool
+    ensures begin { not result ≡ plain.at_begin (profile_named parts.now.profile) }
+    ensures end { result ≡ plain.at_end (profile_named parts.now.profile) }
+{
+    parts.profile() == 2
+}
+
+// The group's own request is taken back, where it is time to. Where no other cancel of the parent
+// is left, nothing is kept.
+fn take_back(now: bool, group: &mut Group, parts: &mut Parts)
     requires idle { parts.old.called ≡ None }
     ensures same { group.new ≡ record group.old { kept = group.new.kept } }
     ensures moves { Moves parts.old parts.new }
-    ensures steps { GroupSteps group.old parts.old group.new parts.new plain.take_back }
+    ensures steps { GroupSteps group.old parts.old group.new parts.new
+        (taken_back (profile_named parts.old.profile) now) }
 {
+    if !now {
+        return;
+    }
     if !group.has_requested() {
         return;
     }
@@ -97,11 +110,13 @@ fn begin(group: &mut Group, raised: Option<Exc>, parts: &mut Parts)
       kept = group.new.kept;
     } }
     ensures moves { Moves parts.old parts.new }
-    ensures steps { GroupSteps group.old parts.old group.new parts.new (begun raised) }
+    ensures steps { GroupSteps group.old parts.old group.new parts.new
+        (begun (profile_named parts.old.profile) raised) }
 {
     let failed = raised.is_some();
     group.set_exiting(raised);
-    take_back(group, parts);
+    let now = !is_taken_back_last(parts);
+    take_back(now, group, parts);
     abort_if(failed, group, parts);
 }
 
@@ -141,6 +156,23 @@ fn hear(group: &mut Group, input: Input, parts: &mut Parts)
     }
 }
 
+// What is done last, before the exit waits or ends.
+fn before_next(next: &ExitStep, group: &mut Group, parts: &mut Parts)
+    requires idle { parts.old.called ≡ None }
+    ensures same { group.new ≡ record group.old { kept = group.new.kept } }
+    ensures moves { Moves parts.old parts.new }
+    ensures steps { GroupSteps group.old parts.old group.new parts.new
+        (last_step (profile_named parts.old.profile) next.now) }
+{
+    match next {
+        ExitStep::Waits(_future) => {}
+        ExitStep::Ends(_fault) => {
+            let now = is_taken_back_last(parts);
+            take_back(now, group, parts);
+        }
+    }
+}
+
 /// The block ends, by an exception or by none.
 pub fn exit_begin(
     alloc: Global,
@@ -159,6 +191,7 @@ pub fn exit_begin(
 {
     let next = next(alloc, group, failure_in(&raised), parts)?;
     begin(group, raised, parts);
+    before_next(&next, group, parts);
     Ok(group.go_on(next))
 }
 
@@ -180,5 +213,6 @@ pub fn exit_woken(
 {
     let next = next(alloc, group, group.body(), parts)?;
     hear(group, input, parts);
+    before_next(&next, group, parts);
     Ok(group.go_on(next))
 }

@@ -3,6 +3,7 @@ ghost use Rattle.std.specs.Prelude.{◌≡◌, ◌++◌, ◌∷◌, ◌&&◌, no
 ghost use Rattle.model_loop.specs.Cancel.{has_seen};
 ghost use Rattle.model_loop.specs.Loop.{Loop};
 ghost use Rattle.model_loop.specs.Groups as plain;
+ghost use Rattle.model_loop.specs.Parts.{profile_named};
 ghost use Rattle.model_loop.specs.Tasks.{next_task};
 ghost use Rattle.aio_task.specs.Keeps.{NameMap};
 ghost use Rattle.aio_task.specs.View.{View};
@@ -144,6 +145,7 @@ impl Groups {
         ensures moves { Moves parts.old parts.new }
         ensures stands { IfOk result (λ exit. (t : NameMap) (l : Loop)
             → GroupsStand t self.old parts.old l
+            → l.profile ≡ profile_named parts.old.profile
             → Came t l self.new parts.new (plain.exit_begin raised id l).loop
             × (exit_of exit ≡ (plain.exit_begin raised id l).answer)) }
         ensures err { OnErr result ((self.new ≡ self.old) × (parts.new ≡ parts.old)) }
@@ -170,6 +172,7 @@ impl Groups {
         ensures moves { Moves parts.old parts.new }
         ensures stands { IfOk result (λ exit. (t : NameMap) (l : Loop)
             → GroupsStand t self.old parts.old l
+            → l.profile ≡ profile_named parts.old.profile
             → Came t l self.new parts.new (plain.exit_woken input id l).loop
             × (exit_of exit ≡ (plain.exit_woken input id l).answer)) }
         ensures err { OnErr result ((self.new ≡ self.old) × (parts.new ≡ parts.old)) }

@@ -155,7 +155,7 @@ module _ {X : Type 0} {a : Added X} (task id coroutine : ℕ) (arguments : List 
         subst (λ b. Stands (Some task) c b s) (sym frame)
         (subst (λ (l : Loop). Stands (Some task) c (record old { parts = mid.parts; groups = mid.groups }) (record s { loop = l })) same
         (stands_stepped (Some task) c old s mid.parts mid.groups (create id) h.in_step.stands came
-        (subst (λ l. StepLeaves s.loop l) (sym same) (step_same s.loop s.loop refl refl)) profile_is));
+        (subst (λ l. StepLeaves s.loop l) (sym same) (step_same s.loop s.loop refl refl refl)) profile_is));
     called = called_is;
     running = running_is;
   }
@@ -184,7 +184,7 @@ module _ {X : Type 0} {a : Added X} (task id coroutine : ℕ) (arguments : List 
               subst (λ (b : RunState X). WaitsAs program b.code (generator coroutine arguments) holds.slot.coroutine) frame
               (holds.waits program (subst (λ (b : RunState X). IsCodeOf program b.code) (sym frame) code));
         })
-        few profile_is (runs_no_other task (next_task p) (λ e. let within = within_going task c old s h in omega (arith, within, e))));
+        few profile_is (ap (λ (l : Loop). l.profile) same) (runs_no_other task (next_task p) (λ e. let within = within_going task c old s h in omega (arith, within, e))));
     called = ap (λ (b : RunState X). b.parts.called) holds.frame ∙ called_is;
     running = ap (λ (b : RunState X). b.parts.running) holds.frame ∙ running_is;
   }

@@ -68,10 +68,12 @@ waits_freshly : (l m : Loop) (id : ℕ) → next_future l.parts ≤ next_future 
 waits_freshly l m id more = at (group_of m id).children
   where
     at : (children : List ℕ) → WaitsFreshly l (wait_or_end_with children id m)
-    at [] = record {
-      fresh = λ on e. absurd (end_never (group_of m id).kept (group_of m id).errors id m on e);
-      pends = λ on e. absurd (end_never (group_of m id).kept (group_of m id).errors id m on e);
-    }
+    at [] =
+        let last = plain.take_back (plain.at_end m.profile) id m in
+        record {
+          fresh = λ on e. absurd (end_never (group_of last id).kept (group_of last id).errors id last on e);
+          pends = λ on e. absurd (end_never (group_of last id).kept (group_of last id).errors id last on e);
+        }
     at (child ∷ children) = record {
       fresh = λ on e. let same = same_future (next_future m.parts) on e in omega (arith, same, more);
       pends = λ on e. subst (λ k. is_pending (new_plain m.parts) k ≡ true) (same_future (next_future m.parts) on e) (new_pends m.parts);
@@ -79,7 +81,7 @@ waits_freshly l m id more = at (group_of m id).children
 
 pub begins_freshly : (raised : Option Exc) (id : ℕ) (l : Loop) → WaitsFreshly l (exit_begin raised id l)
 begins_freshly raised id l =
-    waits_freshly l (plain.abort_if_raised raised id (plain.take_back id (plain.begin_exit raised id l))) id
+    waits_freshly l (plain.abort_if_raised raised id (plain.take_back (plain.at_begin l.profile) id (plain.begin_exit raised id l))) id
     (begun_leaves raised id l).parts.goes_on.futures
 
 pub woken_freshly : (input : Input) (id : ℕ) (l : Loop) → WaitsFreshly l (exit_woken input id l)
@@ -141,7 +143,7 @@ module _ {X : Type 0} {a : Added X} (task group : ℕ) (c : Context a) (old mid 
       (below_appended mid.parts.queue new.parts.queue is.queue
       ∙ below_kept h.stands.name_map came.name_map old.parts mid.parts s.loop.parts exited.loop.parts h.stands.keeps came.stands.keeps came.extends.bar
       leaves.handles)
-      (ap (λ (v : View). v.profile) is.parts ∙ ap (λ (v : View). v.profile) moves.frame)
+      (ap (λ (v : View). v.profile) is.parts ∙ ap (λ (v : View). v.profile) moves.frame) leaves.profile
 
   waits_at_exit : (future : ℕ) → next_future s.loop.parts ≤ future → WaitsAtExit task group future mid new
       → HasSuspended task c new (stands (resume_point.Leaving group) task (waits task future (with_loop exited.loop s)))

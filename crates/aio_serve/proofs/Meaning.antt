@@ -6,8 +6,8 @@ use Rattle.model_value.specs.declared.request.Request.TheVariants as request
 use Rattle.model_value.specs.Value.{Value, Exc, Nothing, Truth, Int, Task, Outcome}
 use Rattle.model_wire.specs.declared.event.Event.TheVariants as event
 use Rattle.model_loop.specs.Futures.{future_outcome, settle}
-use Rattle.model_loop.specs.Ledger.{ByScript, request as asked, uncancel_by}
-use Rattle.model_loop.specs.Loop.{book}
+use Rattle.model_loop.specs.Ledger.{ByScript, request as asked}
+use Rattle.model_loop.specs.Loop.{book, take_one_back}
 use Rattle.model_loop.specs.Tasks.{cancelling}
 use Rattle.model_says.specs.Operations.{out_of_range}
 use Rattle.model_says.specs.Requests.{bad_argument}
@@ -109,8 +109,8 @@ module _ {S : Type 0} (added : Extra S) (task : ℕ) (s : State S) where
 
   pub uncancel_means : (x : Value) (other : ℕ) → as_task x ≡ Some other
       → reply added task (request.Uncancel x) s
-      ≡ Answers (Int (pos (cancelling (uncancel_by (ByScript task) other s.loop.parts).parts other)))
-      (in_loop (book (uncancel_by (ByScript task) other)) s)
+      ≡ Answers (Int (pos (cancelling (take_one_back (ByScript task) other s.loop).parts other)))
+      (in_loop (take_one_back (ByScript task) other) s)
   unfolding reply
   uncancel_means x other e = rw e refl
 

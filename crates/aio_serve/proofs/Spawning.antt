@@ -31,7 +31,7 @@ module _ {X : Type 0} {a : Added X} where
   spawns_so task coroutine arguments c old held s v h holds few after queued frame = record {
     stands =
         stands_made (Some task) c old held s v held.groups (in_parts spawn) coroutine arguments h.in_step.stands kept more blocks below holds few
-        (ap (λ (x : View). x.profile) frame ∙ ap (λ (x : View). x.profile) same)
+        (ap (λ (x : View). x.profile) frame ∙ ap (λ (x : View). x.profile) same) refl
         (runs_no_other task (next_task p) (λ same. let within = within_going task c old s h in omega (arith, within, same)));
     called = ap (λ (x : View). x.called) frame ∙ ap (λ (x : View). x.called) same ∙ h.in_step.called;
     running = ap (λ (x : View). x.running) frame ∙ ap (λ (x : View). x.running) same ∙ h.in_step.running;

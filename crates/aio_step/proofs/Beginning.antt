@@ -59,6 +59,7 @@ module _ {X : Type 0} {a : Added X} where
       parts_change out c body s (release id h.name_map) (release_of id body.parts) body.timeouts body.groups body.extra s.loop s.extra c.left c.bar h (record {
         keeps = keeps_release h.name_map body.parts s.loop.parts h.keeps id (plain_within s.loop.parts id own.plain).1 done;
         blocks = blocks_released h.name_map body.timeouts body.groups s.loop id owns own.plain h.blocks;
+        profile = refl;
         tasks = refl;
         living = λ other l. l;
         knows = λ tag timer k. record { given = k.given; known = k.known };

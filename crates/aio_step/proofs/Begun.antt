@@ -138,7 +138,7 @@ module _ {X : Type 0} {a : Added X} (task : ℕ) (input : Input) (c : Context a)
         time = ap (λ (x : View). x.time) frame;
         schedule = ap (λ (x : View). x.schedule) frame;
       }))
-      (leaves_begin task input s.loop.parts) (spares_none s.loop.parts (named_in a s)) (refl, refl)
+      (leaves_begin task input s.loop.parts) (spares_none s.loop.parts (named_in a s)) (refl, (refl, refl))
       (ap (λ (x : View). length x.queue.below) frame) (ap (λ (x : View). x.profile) frame)
 
   same_parts : given_up stood begun.loop.parts ≡ (begun_by task input s).parts

@@ -85,7 +85,7 @@ module _ {X : Type 0} {a : Added X} where
       revoked : Stands None c (record body { parts = cancelled }) (unbooked_in (revoke tag) s)
       revoked =
           stands_on None None c body s cancelled (in_parts (revoke tag)) h (kept_revoked h.name_map body.parts p h.keeps tag timer at.0) (leaves_revoke tag p)
-          (spares_none p (named_in a s)) (refl, refl)
+          (spares_none p (named_in a s)) (refl, (refl, refl))
           (below_cancelled (schedule.lives timer body.parts.schedule.live) (name.Timer timer.number) body.parts.queue) refl
 
       go : (b : Bool) → is_some (outcome_at (slice_get body.parts.futures future)) ≡ b

@@ -104,7 +104,7 @@ module _ {X : Type 0} {a : Added X} (task : ℕ) (fresh : Bool) (input : Input) 
             time = ap (λ (x : View). x.time) frame;
             schedule = ap (λ (x : View). x.schedule) frame;
           }))
-          (leaves_finish task end s.loop.parts) (spares_none s.loop.parts (named_in a s)) (refl, refl) (below_appended body.parts.queue v.queue appended)
+          (leaves_finish task end s.loop.parts) (spares_none s.loop.parts (named_in a s)) (refl, (refl, refl)) (below_appended body.parts.queue v.queue appended)
           (ap (λ (x : View). x.profile) frame))
           (finish_done task end s.loop.parts))
           (finish_done task end s.loop.parts);

@@ -189,14 +189,14 @@ module _ {X : Type 0} (a : Added X) (conn : ℕ) (old : RunState X) where
         begins =
             stands_made None c old held s v held.groups (in_parts spawn) coroutine (Conn conn ∷ []) h.stands spawned more blocks
             (ap (λ (q : queue.Queue). length q.below) queued ∙ ap (λ (x : View). length x.queue.below) same) holds
-            (omega (arith, few)) (ap (λ (x : View). x.profile) frame ∙ ap (λ (x : View). x.profile) same) refl
+            (omega (arith, few)) (ap (λ (x : View). x.profile) frame ∙ ap (λ (x : View). x.profile) same) refl refl
 
         -- its end will be told
         awaits : Stands None c (record held { parts = registered_ }) (unbooked_in (register id done) begun)
         awaits =
             stands_on None None c (record held { parts = v }) begun registered_ (in_parts (register id done)) begins
             (kept_register begins.name_map v (spawn p) begins.keeps id done) (leaves_register id done (spawn p) refl)
-            (spares_none (spawn p) (named_in a begun)) (refl, refl) (ap length (below_registered id done v.futures v.queue)) refl
+            (spares_none (spawn p) (named_in a begun)) (refl, (refl, refl)) (ap length (below_registered id done v.futures v.queue)) refl
 
         task_is : task ≡ next_task p
         task_is = number ∙ ap (λ (x : View). length x.tasks) same ∙ ap length h.stands.keeps.tasks

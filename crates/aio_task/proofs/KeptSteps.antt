@@ -8,7 +8,7 @@ use Rattle.model_value.specs.Action.{Action}
 use Rattle.model_value.specs.Input.{Input}
 use Rattle.model_value.specs.Value.{Value, Exc}
 use Rattle.model_value.specs.declared.action.Action.TheVariants.{Step, StepInCycle, Wakeup}
-use Rattle.model_loop.specs.Parts.{OfTask, Handle, Future, Task, Parts}
+use Rattle.model_loop.specs.Parts.{OfTask, Handle, Future, Task, Parts, Profile}
 use Rattle.model_loop.specs.Futures.{is_pending, is_pending_at}
 use Rattle.model_loop.specs.Tasks.{spawn, begin_step, pause, finish, uncancel}
 use Rattle.model_loop.specs.Suspend.{suspend}
@@ -106,15 +106,16 @@ cancel_kept v b target idle same appended is =
     (cancel_sound v.running v.running (λ t h. h) target (bare (parts v)) (at_rest v.running v.called (parts v) idle is.sound)))
     is
 
-pub uncancel_kept : (v : View) (b : cancel.Awaitables) (task : ℕ) → v.called ≡ None → cancel.parts b ≡ uncancel task (parts v)
-    → Appended v.queue b.queue → IsKept v → IsKept (record v { queue = b.queue; futures = b.futures; tasks = b.tasks })
-uncancel_kept v b task idle same appended is =
+pub uncancel_kept : (profile : Profile) (v : View) (b : cancel.Awaitables) (task : ℕ) → v.called ≡ None
+    → cancel.parts b ≡ uncancel profile task (parts v) → Appended v.queue b.queue → IsKept v
+    → IsKept (record v { queue = b.queue; futures = b.futures; tasks = b.tasks })
+uncancel_kept profile v b task idle same appended is =
     let sound = at_rest v.running v.called (parts v) idle is.sound in
-    moved_kept v b (uncancel task (parts v)) idle same appended
-    (same_no_cycle (parts v) (uncancel task (parts v)) (uncancel_looks_same task (parts v)) is.no_cycle)
+    moved_kept v b (uncancel profile task (parts v)) idle same appended
+    (same_no_cycle (parts v) (uncancel profile task (parts v)) (uncancel_looks_same profile task (parts v)) is.no_cycle)
     (subst (ArePartsSound v.running v.running) (change-bare task _ (parts v))
-    (same_sound v.running v.running (bare (parts v)) (uncancel task (bare (parts v))) (uncancel_looks_same task (bare (parts v)))
-    (uncancel_fewer task (bare (parts v))) sound))
+    (same_sound v.running v.running (bare (parts v)) (uncancel profile task (bare (parts v))) (uncancel_looks_same profile task (bare (parts v)))
+    (uncancel_fewer profile task (bare (parts v))) sound))
     is
 
 -- ---- a step begins

@@ -3,6 +3,7 @@ ghost use Rattle.std.specs.Prelude.{◌≡◌, ℕ, ◌≤◌, ◌<◌, true, no
 ghost use Rattle.model_value.specs.Number.{most};
 ghost use Rattle.model_value.specs.declared.action.Action.TheVariants as action;
 ghost use Rattle.model_loop.specs.Futures.{is_pending_at};
+ghost use Rattle.model_loop.specs.Parts.{profile_named};
 ghost use Rattle.model_loop.specs.Tasks as tasks;
 ghost use Rattle.model_loop.specs.MustCancel.{MustCancelWaits};
 ghost use Rattle.model_loop.specs.Owning.{OwnsFutures};
@@ -117,7 +118,7 @@ impl Parts {
         self.time
     }
 
-    /// The profile of the script: which revision of asyncio it is run by.
+    /// The profile of the script: by which rules it is run.
     pub fn profile(&self) -> u8
         ensures { result ≡ self.now.profile }
     {
@@ -263,14 +264,16 @@ impl Parts {
     }
 
     /// A positive count falls by one, and the answer is the count then. What waits for the task's
-    /// next step goes on waiting.
+    /// next step goes on waiting; in profile 2 no more where the count falls to 0 by it
+    /// (`uncancel` of `tasks.py` is that of profile 1).
     pub fn uncancel(&mut self, task: u32) -> u64
         requires idle { self.old.called ≡ None }
-        ensures after { parts self.new ≡ tasks.uncancel task (parts self.old) }
+        ensures after { parts self.new
+            ≡ tasks.uncancel (profile_named self.old.profile) task (parts self.old) }
         ensures answer { result ≡ tasks.cancelling (parts self.new) task }
         ensures frame { self.new ≡ record self.old { tasks = self.new.tasks } }
     {
-        uncancel(&mut self.body, task);
+        uncancel(&mut self.body, self.profile, task);
         cancels_of(&self.body, task)
     }
 

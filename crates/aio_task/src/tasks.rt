@@ -1,6 +1,7 @@
 //! What steps change of the queue, the futures and the tasks.
-ghost use Rattle.std.specs.Prelude.{◌≡◌, false, None, Some, IfOk, OnOk, OnErr, Ok, Err, length, if◌then◌else◌};
+ghost use Rattle.std.specs.Prelude.{◌≡◌, ◌-◌, false, None, Some, IfOk, OnOk, OnErr, Ok, Err, length, if◌then◌else◌};
 ghost use Rattle.model_loop.specs.Handles as handles;
+ghost use Rattle.model_loop.specs.Parts.{profile_named};
 ghost use Rattle.model_loop.specs.Tasks as tasks;
 ghost use Rattle.model_loop.specs.Suspend.{wait_on};
 ghost use Rattle.model_value.specs.declared.action.Action.TheVariants as action;
@@ -76,15 +77,31 @@ pub fn set_waiter(body: &mut Awaitables, task: u32, waiter: Option<FutureId>)
     }
 }
 
-/// A positive count of requests to cancel a task falls by one.
-pub fn uncancel(body: &mut Awaitables, task: u32)
-    ensures after { parts body.new ≡ tasks.uncancel task (parts body.old) }
+/// A positive count of requests to cancel a task falls by one. In profile 2, where it falls to 0 by
+/// it, no cancel waits for the task's next step any more.
+pub fn uncancel(body: &mut Awaitables, profile: u8, task: u32)
+    ensures after { parts body.new
+        ≡ tasks.uncancel (profile_named profile) task (parts body.old) }
     ensures queue { body.new.queue ≡ body.old.queue }
     ensures futures { body.new.futures ≡ body.old.futures }
 {
     if let Some(task) = body.tasks.get_mut(task as usize) {
-        task.lower();
+        lower(profile, task);
     }
+}
+
+// One request less is counted, and by profile 2 the last of them takes along what waits for the
+// next step.
+fn lower(profile: u8, task: &mut Task)
+    ensures { task.new ≡ record task.old {
+      cancels = task.old.cancels - 1;
+      must_cancel = tasks.must_still_cancel (profile_named profile) task.old;
+    } }
+{
+    if profile == 2 && task.cancels() == 1 {
+        task.clear_must_cancel();
+    }
+    task.lower();
 }
 
 /// `call_soon`, in the memory of a ticket.

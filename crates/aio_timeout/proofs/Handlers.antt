@@ -6,9 +6,9 @@ use Rattle.std.specs.Option.{option_map_or}
 use Rattle.std.proofs.lemmas.Bool.{le-leb, lt-leb, and_right}
 use Rattle.std.proofs.lemmas.List.Folds.{list_any-append}
 use Rattle.model_value.specs.declared.action.Action.TheVariants.{Fires}
-use Rattle.model_loop.specs.Parts.{Task, Parts}
+use Rattle.model_loop.specs.Parts.{Task, Parts, Profile}
 use Rattle.model_loop.specs.Handles.{soon, later, revoke}
-use Rattle.model_loop.specs.Tasks.{uncancel}
+use Rattle.model_loop.specs.Tasks.{must_still_cancel, uncancel}
 use Rattle.model_loop.specs.Timeouts.{give_up}
 use Rattle.aio_ready.specs.declared.handle.Handle.{Handle}
 use Rattle.aio_ready.specs.declared.handle.HandleId.{HandleId}
@@ -36,11 +36,13 @@ pub give_up_extends : (t : NameMap) (p : Parts) (old : Option ℕ) → Extends p
 give_up_extends t p None = extends_same t p
 give_up_extends t p (Some tag) = extends_still t p (revoke tag p) refl
 
-pub uncancel_extends : (t : NameMap) (p : Parts) (task : ℕ) → Extends p t (uncancel task p) t
-uncancel_extends t p task = extends_still t p (uncancel task p) (same (slice_get p.tasks task))
+pub uncancel_extends : (t : NameMap) (p : Parts) (profile : Profile) (task : ℕ) → Extends p t (uncancel profile task p) t
+uncancel_extends t p profile task = extends_still t p (uncancel profile task p) (same (slice_get p.tasks task))
   where
     same : (o : Option Task)
-        → (option_map_or (λ (it : Task). record p { tasks = slice_set p.tasks task (record it { cancels = it.cancels - 1 }) }) o p).next_tag ≡ p.next_tag
+        → (option_map_or (λ (it : Task). record p {
+          tasks = slice_set p.tasks task (record it { cancels = it.cancels - 1; must_cancel = must_still_cancel profile it });
+        }) o p).next_tag ≡ p.next_tag
     same None = refl
     same (Some it) = refl
 

@@ -5,7 +5,7 @@ use Rattle.std.specs.Option.{option_map_or}
 use Rattle.std.proofs.lemmas.Option.{slice_get_within, get_or_from_slice_get}
 use Rattle.model_value.specs.Value.{Exc}
 use Rattle.model_loop.proofs.TimeoutCases.{reschedule_where}
-use Rattle.model_loop.specs.Parts.{Task, Parts}
+use Rattle.model_loop.specs.Parts.{Task, Parts, Profile}
 use Rattle.model_loop.specs.Loop as loop
 use Rattle.model_loop.specs.Loop.{Loop}
 use Rattle.model_loop.specs.Handles.{deadline}
@@ -209,38 +209,41 @@ module _ (t : NameMap) (l : Loop) (timeouts : List Timeout) (v : View) (id : ℕ
       pub finished_passes : (exit_timeout raised id l).timed_out ≡ false
       finished_passes = early_answer raised id l there inactive
 
-    module _ (late : is_expiring (state_of timeout.state) ≡ true) (w : View) (becomes : Becomes x w (uncancel timeout.task (parts x))) where
+    module _ (late : is_expiring (state_of timeout.state) ≡ true) (profile : Profile) (ruled : l.profile ≡ profile) (w : View)
+        (becomes : Becomes x w (uncancel profile timeout.task (parts x))) where
       over : it.state ≡ loop.Expiring
       over = expiring_is it.state (ap is_expiring (sym is.state) ∙ late)
 
-      taken : Keeps t w (uncancel it.task (give_up it.tag l.parts))
+      taken : Keeps t w (uncancel profile it.task (give_up it.tag l.parts))
       taken =
-          subst (λ (task : ℕ). Keeps t w (uncancel task (give_up it.tag l.parts))) is.task
-          (keeps_uncancel t x w (give_up it.tag l.parts) bare timeout.task becomes)
+          subst (λ (task : ℕ). Keeps t w (uncancel profile task (give_up it.tag l.parts))) is.task
+          (keeps_uncancel t x w (give_up it.tag l.parts) bare profile timeout.task becomes)
 
       pub expired : KeptTimeouts t l (slice_set timeouts id (record timeout { state = code.Expired; handler = None })) w
           (exit_timeout raised id l).loop
       expired =
-          kept_set t l (exit_timeout raised id l).loop timeouts w (uncancel it.task (give_up it.tag l.parts)) id
+          kept_set t l (exit_timeout raised id l).loop timeouts w (uncancel profile it.task (give_up it.tag l.parts)) id
           (record timeout { state = code.Expired; handler = None }) (record it { state = loop.Expired; tag = None })
-          (late_parts raised id l there over) (late_timeouts raised id l there over)
+          (late_parts raised id l there over ∙ ap (λ (r : Profile). uncancel r it.task (give_up it.tag l.parts)) ruled) (late_timeouts raised id l there over)
           (record {
             name_map = t;
             keeps = taken;
             extends =
-                extends_on t t t l.parts (give_up it.tag l.parts) (uncancel it.task (give_up it.tag l.parts))
-                (give_up_extends t l.parts it.tag) (uncancel_extends t (give_up it.tag l.parts) it.task);
+                extends_on t t t l.parts (give_up it.tag l.parts) (uncancel profile it.task (give_up it.tag l.parts))
+                (give_up_extends t l.parts it.tag) (uncancel_extends t (give_up it.tag l.parts) profile it.task);
           }) keeps.timeouts
           (record { state = refl; task = is.task; stored = is.stored; handler = tt })
 
       pub expired_says : (count : ℕ) → count ≡ cancelling (parts w) timeout.task
           → (nat_le count timeout.stored && option_map_or is_cancelled raised false) ≡ (exit_timeout raised id l).timed_out
       expired_says count counted =
-          let q : Parts = uncancel it.task (give_up it.tag l.parts) in
+          let q : Parts = uncancel profile it.task (give_up it.tag l.parts) in
           let same : count ≡ cancelling q it.task =
           counted ∙ count_kept t w q timeout.task taken ∙ ap (cancelling q) is.task in
           ap (λ (n : ℕ). nat_le n timeout.stored && option_map_or is_cancelled raised false) same
           ∙ ap (λ (n : ℕ). nat_le (cancelling q it.task) n && option_map_or is_cancelled raised false) is.stored
+          ∙ ap (λ (r : Profile). nat_le (cancelling (uncancel r it.task (give_up it.tag l.parts)) it.task) it.stored
+          && option_map_or is_cancelled raised false) (sym ruled)
           ∙ sym (late_answer raised id l there over)
 
 -- ---- `expired()`

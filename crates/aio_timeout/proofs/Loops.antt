@@ -136,10 +136,10 @@ module _ (raised : Option Exc) (id : ℕ) (l : Loop) (within : id < length l.tim
 
   module _ (expiring : (timeout_of l id).state ≡ Expiring) where
     pub late_parts : (exit_timeout raised id l).loop.parts
-        ≡ uncancel (timeout_of l id).task (give_up (timeout_of l id).tag l.parts)
+        ≡ uncancel l.profile (timeout_of l id).task (give_up (timeout_of l id).tag l.parts)
     late_parts =
         ap (λ (s : TimeoutState). (leave_from s raised id (without_handle id l)).loop.parts) expiring
-        ∙ ap (λ (t : Timeout). uncancel t.task (give_up it.tag l.parts)) bare
+        ∙ ap (λ (t : Timeout). uncancel l.profile t.task (give_up it.tag l.parts)) bare
 
     pub late_timeouts : (exit_timeout raised id l).loop.timeouts
         ≡ slice_set l.timeouts id (record (timeout_of l id) { state = Expired; tag = None })
@@ -149,12 +149,12 @@ module _ (raised : Option Exc) (id : ℕ) (l : Loop) (within : id < length l.tim
         ∙ set-set l.timeouts id (record it { tag = None }) (record it { state = Expired; tag = None })
 
     pub late_answer : (exit_timeout raised id l).timed_out
-        ≡ nat_le (cancelling (uncancel (timeout_of l id).task (give_up (timeout_of l id).tag l.parts)) (timeout_of l id).task)
+        ≡ nat_le (cancelling (uncancel l.profile (timeout_of l id).task (give_up (timeout_of l id).tag l.parts)) (timeout_of l id).task)
         (timeout_of l id).stored
         && option_map_or is_cancelled raised false
     late_answer =
         ap (λ (s : TimeoutState). (leave_from s raised id (without_handle id l)).timed_out) expiring
-        ∙ ap (λ (t : Timeout). nat_le (cancelling (uncancel t.task (give_up it.tag l.parts)) t.task) t.stored
+        ∙ ap (λ (t : Timeout). nat_le (cancelling (uncancel l.profile t.task (give_up it.tag l.parts)) t.task) t.stored
         && option_map_or is_cancelled raised false) bare
 
   module _ (early : is_expiring (timeout_of l id).state ≡ false) where

@@ -3,6 +3,7 @@ ghost use Rattle.std.specs.Prelude.{◌≡◌, ◌+◌, ◌<◌, [], false, None
 ghost use Rattle.std.specs.Option.{option_map_or};
 ghost use Rattle.model_loop.specs.Tasks.{cancelling, uncancel, is_cancelled};
 ghost use Rattle.model_loop.specs.Loop.{Loop};
+ghost use Rattle.model_loop.specs.Parts.{profile_named};
 ghost use Rattle.model_loop.specs.Timeouts as timeouts;
 ghost use Rattle.model_loop.specs.Timeouts.{has_expired, timeout_of};
 ghost use Rattle.aio_task.specs.View as view;
@@ -147,8 +148,10 @@ impl Timeouts {
         requires live { id < length self.old }
         requires steps_none { StepsNone parts.old.queue (handler_at id self.old) }
         ensures answer { (t : NameMap) (l : Loop) → KeepsTimeouts t self.old parts.old l
+            → l.profile ≡ profile_named parts.old.profile
             → has_timed_out result ≡ (timeouts.exit_timeout raised id l).timed_out }
         ensures after { (t : NameMap) (l : Loop) → KeepsTimeouts t self.old parts.old l
+            → l.profile ≡ profile_named parts.old.profile
             → KeptTimeouts t l self.new parts.new (timeouts.exit_timeout raised id l).loop }
         ensures given_up { handler_at id self.new ≡ None }
         ensures count { length self.new ≡ length self.old }
@@ -191,7 +194,8 @@ fn ended(timeout: Timeout, state: TimeoutState) -> Timeout
 // The cancel that a timeout asked for is taken back. The answer is the task's count then.
 fn take_back(task: u32, parts: &mut Parts) -> u64
     requires idle { parts.old.called ≡ None }
-    ensures after { Becomes parts.old parts.new (uncancel task (view.parts parts.old)) }
+    ensures after { Becomes parts.old parts.new
+        (uncancel (profile_named parts.old.profile) task (view.parts parts.old)) }
     ensures answer { result ≡ cancelling (view.parts parts.new) task }
     ensures below { length parts.new.queue.below ≡ length parts.old.queue.below }
     ensures step { IsSameStep parts.old parts.new }

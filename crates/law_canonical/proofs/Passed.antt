@@ -1,7 +1,6 @@
 -- What the first pass over lines says of their forms.
 use Rattle.std.proofs.Common.{◌≡◌, ℕ, ◌+◌, Bool, true, false, List, [], ◌∷◌, Option, Some, None, Result, Ok, Err, length, nat_eq, nat_le, refl, sym, ◌∙◌, subst}
 use Rattle.std.proofs.Common.{ne_eqb, arith}
-use Rattle.std.proofs.lemmas.Bool.{eqb-true}
 use Rattle.std.specs.Prelude.{not, ◌&&◌, if◌then◌else◌}
 use Rattle.model_text.specs.declared.cause.Cause.{Cause}
 use Rattle.model_text.specs.declared.cause.Cause.TheVariants as cause
@@ -159,17 +158,17 @@ accepted (line ∷ lines) number role roles forms e =
 pub record Whole (forms : Forms) : Type 0 where
   pub others : Forms
   pub accepted : Accepted [] others
-  pub profile : profile_in (parts_of forms).front ≡ 1
+  pub profile : is_profile (Profile (profile_in (parts_of forms).front)) ≡ true
   pub coroutines : (parts_of forms).coroutines ≡ (parts_of others).coroutines
 
 first-form : (number : ℕ) (form : Spelled) (rest : Forms) → Read form → cause_behind [] form ≡ None → Accepted (open_blocks (role_of form ∷ [])) rest
     → Whole (numbered number form ∷ rest)
 first-form number (Profile profile) rest read e a =
-    let all = no_cause true true true (nat_eq profile 1) e in
+    let all = no_cause true true true (is_profile (Profile profile)) e in
     record {
       others = rest;
       accepted = a;
-      profile = eqb-true profile 1 all.3;
+      profile = all.3;
       coroutines = refl;
     }
 first-form number (Def name parameters) rest read e a =

@@ -1,5 +1,5 @@
 -- The script of every seed is read as its program.
-use Rattle.std.proofs.Common.{◌≡◌, ℕ, ◌<◌, ◌≤◌, List, Ok, length, sym, ap, ◌∙◌, subst, arith}
+use Rattle.std.proofs.Common.{◌≡◌, ℕ, ◌<◌, ◌≤◌, List, Ok, length, refl, sym, ap, ◌∙◌, subst, arith}
 use Rattle.std.specs.List.{AllByRecursion}
 use Rattle.model_tree.specs.Syntax.{Program}
 use Rattle.model_text.specs.Canonical.{canonical}
@@ -19,7 +19,7 @@ canonical-read seed =
     let tasks : List ℕ = numbers_from 1 (group_size seed) in
     let below : AllByRecursion (λ task. task < 1000) tasks = numbers-below 1000 1 (group_size seed) (omega (arith, group-small seed)) in
     subst (λ (p : Program). length (canonical p) ≤ most_bytes → script_of (canonical p) ≡ Ok p) (program-of seed)
-    (spelled-again (parts (delay seed) tasks) (meant (delay seed) tasks) (all-nest (delay seed) tasks) (all-fit (delay seed) tasks)
+    (spelled-again 1 (parts (delay seed) tasks) (meant (delay seed) tasks) refl (all-nest (delay seed) tasks) (all-fit (delay seed) tasks)
     (meaning (delay seed) (delay-short seed) tasks below))
 
 pub script-read : (seed : ℕ) → script_of (script seed) ≡ Ok (program seed)

@@ -14,10 +14,10 @@ use Rattle.model_loop.specs.Balance.{lowers}
 use Rattle.model_loop.specs.Cancel.{Canceller, cancel, cancel_below, cancel_within, has_seen}
 use Rattle.model_loop.specs.Cycles.{cycle}
 use Rattle.model_loop.specs.Futures.{is_pending_at, next_future}
-use Rattle.model_loop.specs.Ledger.{Origin, ByWait, LedgerEntry, Raised, Took, ask_cancel, raised_among, uncancel_by}
-use Rattle.model_loop.specs.Loop.{Loop, book}
+use Rattle.model_loop.specs.Ledger.{Origin, ByWait, LedgerEntry, Raised, Took, ask_cancel, raised_among}
+use Rattle.model_loop.specs.Loop.{Loop, take_one_back}
 use Rattle.model_loop.specs.Owning.{OwnsFutures, owner_at, owner_in, owner_of, own_future}
-use Rattle.model_loop.specs.Parts.{FutureKind, Plain, OfTask, Many, Future, Parts, Task}
+use Rattle.model_loop.specs.Parts.{FutureKind, Plain, OfTask, Many, Future, Parts, Profile, Task}
 use Rattle.model_loop.specs.Suspend.{cancel_wait, suspend, wait_on}
 use Rattle.model_loop.specs.Tasks.{cancelling, future_of, must_cancel_of, lives, next_task, one_more, raise_count, uncancel}
 use Rattle.model_machine.specs.Replies.{most_ids}
@@ -135,7 +135,7 @@ raises_all by id p task =
 owed_few : (l : Loop) (task : ℕ) → owed l task ≤ length l.timeouts + length l.groups
 owed_few l task =
     let a = count_by-le-length (owes_timeout task) l.timeouts in
-    let b = count_by-le-length (owes_group task) l.groups in
+    let b = count_by-le-length (owes_group l.profile task) l.groups in
     omega (arith, a, b)
 
 few_enough : most_ids + most_ids ≤ most
@@ -226,16 +226,17 @@ module _ (l m : Loop) (by : Origin) (task : ℕ) (parts : m.parts ≡ (cancel (f
   }
 
 -- ---- something is taken back
-lost : (by : Origin) (task : ℕ) (p : Parts) (other : ℕ) → cancelling p other ≤ cancelling (uncancel task p) other + cond (task == other) 1 0
-lost by task p other = at (nat_lt 0 (cancelling p task)) (uncancel_balances by task p other)
+lost : (profile : Profile) (by : Origin) (task : ℕ) (p : Parts) (other : ℕ)
+    → cancelling p other ≤ cancelling (uncancel profile task p) other + cond (task == other) 1 0
+lost profile by task p other = at (nat_lt 0 (cancelling p task)) (uncancel_balances profile by task p other)
   where
-    at : (b : Bool) → cancelling (uncancel task p) other + count_by (lowers other) (Took task by b ∷ []) ≡ cancelling p other + 0
-        → cancelling p other ≤ cancelling (uncancel task p) other + cond (task == other) 1 0
+    at : (b : Bool) → cancelling (uncancel profile task p) other + count_by (lowers other) (Took task by b ∷ []) ≡ cancelling p other + 0
+        → cancelling p other ≤ cancelling (uncancel profile task p) other + cond (task == other) 1 0
     at true h = let c = count_cons (lowers other) (Took task by true) [] in omega (arith, h, c)
     at false h = let c = count_cons (lowers other) (Took task by false) [] in omega (arith, h, c)
 
 -- by a timeout or a group, which owes it
-module _ (l m : Loop) (by : Origin) (task : ℕ) (more : List LedgerEntry) (parts : m.parts ≡ uncancel task l.parts)
+module _ (l m : Loop) (by : Origin) (task : ℕ) (more : List LedgerEntry) (parts : m.parts ≡ uncancel l.profile task l.parts)
     (ledger : m.ledger ≡ l.ledger ++ (more ++ Took task by (nat_lt 0 (cancelling l.parts task)) ∷ [])) (none : list_any is_took more ≡ false)
     (owes : (other : ℕ) → owed m other + cond (task == other) 1 0 ≤ owed l other) (living : lives l.parts task ≡ true)
     (timeouts_made : length m.timeouts ≡ length l.timeouts) (groups_made : length m.groups ≡ length l.groups) (right : IsRight l)
@@ -245,12 +246,12 @@ module _ (l m : Loop) (by : Origin) (task : ℕ) (more : List LedgerEntry) (part
     where
       at : (other < next_task l.parts) ⊎ (next_task l.parts ≤ other) → owed m other ≤ cancelling m.parts other
       at (inl w) =
-          let before = back l (record l { parts = uncancel task l.parts }) (later_uncancel task l.parts) right other w
+          let before = back l (record l { parts = uncancel l.profile task l.parts }) (later_uncancel l.profile task l.parts) right other w
           (sym (ap (λ (q : Parts). lives q other) parts) ∙ h) in
           let a = is.covered other before (first_none other l.ledger _ (sym (ap (list_any (uncancels other)) ledger) ∙ bid)).0 in
           let b = owes other in
-          let c = lost by task l.parts other in
-          let d : cancelling m.parts other ≡ cancelling (uncancel task l.parts) other = ap (λ (q : Parts). cancelling q other) parts in
+          let c = lost l.profile by task l.parts other in
+          let d : cancelling m.parts other ≡ cancelling (uncancel l.profile task l.parts) other = ap (λ (q : Parts). cancelling q other) parts in
           omega (arith, a, b, c, d)
       at (inr past) = let a = right.fresh other past in let b = owes other in omega (arith, a, b)
 
@@ -284,7 +285,7 @@ module _ (l m : Loop) (by : Origin) (task : ℕ) (more : List LedgerEntry) (part
   }
 
 -- by a script, or by what serves further requests
-pub hand_covers : (l : Loop) (by : Origin) (task : ℕ) → is_by_hand by ≡ true → IsRight l → IsCovered l → IsCovered (book (uncancel_by by task) l)
+pub hand_covers : (l : Loop) (by : Origin) (task : ℕ) → is_by_hand by ≡ true → IsRight l → IsCovered l → IsCovered (take_one_back by task l)
 hand_covers l by task hand right is = record {
   timeouts_few = is.timeouts_few;
   groups_few = is.groups_few;
@@ -300,15 +301,15 @@ hand_covers l by task hand right is = record {
     bidden : (other : ℕ) → task ≡ other → (((task == other) && is_by_hand by) || false) ≡ true
     bidden other e = ap (λ b. (b && is_by_hand by) || false) (eq-eqb task other e) ∙ ap (λ b. b || false) hand
 
-    at : (other : ℕ) → lives (uncancel task l.parts) other ≡ true
+    at : (other : ℕ) → lives (uncancel l.profile task l.parts) other ≡ true
         → (list_any (uncancels other) l.ledger ≡ false) × ((((task == other) && is_by_hand by) || false) ≡ false)
         → (task ≡ other) ⊎ (task ≡ other → ⊥) → (other < next_task l.parts) ⊎ (next_task l.parts ≤ other)
-        → owed l other ≤ cancelling (uncancel task l.parts) other
+        → owed l other ≤ cancelling (uncancel l.profile task l.parts) other
     at other h none (inl e) w = absurd (false≢true (sym none.1 ∙ bidden other e))
     at other h none (inr n) (inl w) =
-        let before = back l (record l { parts = uncancel task l.parts }) (later_uncancel task l.parts) right other w h in
+        let before = back l (record l { parts = uncancel l.profile task l.parts }) (later_uncancel l.profile task l.parts) right other w h in
         let a = is.covered other before none.0 in
-        let b = lost by task l.parts other in
+        let b = lost l.profile by task l.parts other in
         let c : ◌≡◌ {A = ℕ} (cond (task == other) 1 0) 0 = ap (λ b. cond b 1 0) (ne_eqb task other n) in
         omega (arith, a, b, c)
     at other h none (inr n) (inr past) = let a = right.fresh other past in omega (arith, a)

@@ -1,10 +1,12 @@
 -- Where must_cancel falls: at the beginning of its task's step, at the task's return, and at a wait for what was cancelled.
-use Rattle.std.proofs.Common.{◌≡◌, ℕ, Bool, Err, List, None, Ok, Option, Result, Some, ap, cond, false, inl, inr, refl, slice_get, subst, sym, true, ◌∙◌, ◌⊎◌}
+use Rattle.std.proofs.Common.{◌≡◌, ℕ, Bool, Err, List, None, Ok, Option, Result, Some, ap, arith, cond, false, inl, inr, refl, slice_get, subst, sym, true}
+use Rattle.std.proofs.Common.{nat_lt, ◌+◌, ◌==◌, ◌∙◌, ◌⊎◌, [], ◌∷◌}
 use Rattle.model_loop.specs.Suspend.{cancel_wait, suspend, wait_on}
 use Rattle.model_loop.specs.Tasks.{begin_step, cancelled_error, cancelling_input, change_task, finish, future_of, is_cancelled, must_cancel_of, lives}
 use Rattle.model_loop.specs.Tasks.{set_waiter}
-use Rattle.model_loop.specs.Tasks.{uncancel, clear_must_cancel}
-use Rattle.std.proofs.lemmas.Bool.{cases_eq, false≢true}
+use Rattle.model_loop.specs.Tasks.{cancelling, uncancel, clear_must_cancel}
+use Rattle.std.specs.List.{count_by}
+use Rattle.std.proofs.lemmas.Bool.{cases_eq, eq-eqb, false≢true}
 use Rattle.law_cancel.proofs.SuspendCases.{suspend_unless}
 use Rattle.law_cancel.proofs.Effects.{change_task-futures, done_as, register-tasks, settle-futures, settle-tasks}
 use Rattle.model_value.specs.declared.outcome.Outcome.TheVariants.{Value as Returned, Failed, Cancelled}
@@ -16,12 +18,17 @@ use Rattle.model_value.specs.declared.action.Action.TheVariants.{Wakeup}
 use Rattle.std.specs.Option.{option_map_or}
 use Rattle.model_loop.specs.Cycles.{cycle}
 use Rattle.law_steps.proofs.Ending.{pending_there}
-use Rattle.model_loop.specs.Parts.{Future, Parts, Task}
+use Rattle.model_loop.specs.Balance.{lowers}
+use Rattle.model_loop.specs.Ledger.{ByScript, Took}
+use Rattle.model_loop.specs.Parts.{Future, Parts, Profile, One, Two, Task}
 use Rattle.model_loop.specs.Futures.{future_outcome, is_pending, outcome_at, register, settle}
+use Rattle.law_promises.proofs.TakingBack.{IsLast, uncancel_keeps}
 use Rattle.law_promises.proofs.Reaching.{cancel_keeps_must_cancel}
 use Rattle.model_loop.specs.Cancel.{cancel}
 use Rattle.model_loop.specs.Owning.{OwnsFutures}
 use Rattle.law_cancel.proofs.Counting.{change_task-kept}
+use Rattle.law_changes.proofs.Balancing.{uncancel_balances}
+use Rattle.law_changes.proofs.Counting.{count-cons as count_cons}
 use Rattle.law_steps.proofs.Waiting.{IsWaiting, task_there, wait_effect}
 use Rattle.law_steps.proofs.Stepping.{at_task}
 use Rattle.model_value.specs.Input.{Input}
@@ -140,11 +147,37 @@ suspend_falls id on p owns here living task m f = at (cycle p id on) f
     at (Some why) x = absurd (false≢true (sym x ∙ m))
     at None x = must_cancel (must_cancel_of p id) x
 
+-- ---- an `uncancel` that takes all back
+pub uncancel_falls : (profile : Profile) (id : ℕ) (p : Parts) (task : ℕ) → must_cancel_of p task ≡ true
+    → must_cancel_of (uncancel profile id p) task ≡ false → (profile ≡ Two) × (id ≡ task) × (cancelling p task ≡ 1)
+    × (cancelling (uncancel profile id p) task ≡ 0)
+uncancel_falls profile id p task m f = at (uncancel_keeps profile id p task m)
+  where
+    own : count_by (lowers task) (Took task (ByScript 0) true ∷ []) ≡ 1
+    own =
+        let c = count_cons (lowers task) (Took task (ByScript 0) true) [] in
+        let e : ◌≡◌ {A = ℕ} (cond (task == task) 1 0) 1 = ap (λ b. cond b 1 0) (eq-eqb task task refl) in
+        omega (arith, c, e)
+
+    at : (must_cancel_of (uncancel profile id p) task ≡ true) ⊎ IsLast profile id task p
+        → (profile ≡ Two) × (id ≡ task) × (cancelling p task ≡ 1) × (cancelling (uncancel profile id p) task ≡ 0)
+    at (inl kept) = absurd (false≢true (sym f ∙ kept))
+    at (inr it) =
+        let one = it.1.1 in
+        let balance : cancelling (uncancel profile id p) task + count_by (lowers task) (Took id (ByScript 0) (nat_lt 0 (cancelling p id)) ∷ [])
+        ≡ cancelling p task + 0 =
+        uncancel_balances profile (ByScript 0) id p task in
+        let lowered : count_by (lowers task) (Took id (ByScript 0) (nat_lt 0 (cancelling p id)) ∷ []) ≡ 1 =
+        ap (λ (k : ℕ). count_by (lowers task) (Took k (ByScript 0) (nat_lt 0 (cancelling p k)) ∷ [])) it.1.0
+        ∙ ap (λ (n : ℕ). count_by (lowers task) (Took task (ByScript 0) (nat_lt 0 n) ∷ [])) one
+        ∙ own in
+        (it.0, it.1.0, one, omega (arith, one, balance, lowered))
+
 -- ---- nothing else makes one fall
 pub others_keep : (task : ℕ) → (p : Parts) → must_cancel_of p task ≡ true
     → ((id : ℕ) (outcome : Outcome) → must_cancel_of (settle id outcome p) task ≡ true)
     × ((id : ℕ) (action : Action) → must_cancel_of (register id action p) task ≡ true)
-    × ((id : ℕ) → must_cancel_of (uncancel id p) task ≡ true)
+    × ((id : ℕ) → must_cancel_of (uncancel One id p) task ≡ true)
 others_keep task p m = (
   λ id outcome. settle_must_cancel id outcome p task ∙ m,
   λ id action. same_must_cancel_at p (register id action p) (register-tasks id action p) task ∙ m,

@@ -5,23 +5,24 @@ use Rattle.std.specs.Option.{option_map_or}
 use Rattle.std.proofs.lemmas.Bool.{false≢true}
 use Rattle.model_value.specs.declared.outcome.Outcome.TheVariants.{Value as Returned, Failed, Cancelled}
 use Rattle.model_value.specs.Action.{Action}
+use Rattle.model_value.specs.Input.{Input}
 use Rattle.model_value.specs.Value.{Value, Exc, Outcome}
 use Rattle.model_loop.specs.Cancel.{cancel}
-use Rattle.model_loop.specs.Groups.{exit_begin}
+use Rattle.model_loop.specs.Groups.{exit_begin, exit_woken}
 use Rattle.model_loop.specs.Loop.{Loop}
 use Rattle.model_loop.specs.Suspend.{suspend}
 use Rattle.law_cancel.proofs.Effects.{soon_all-futures, soon_all-tasks}
 use Rattle.law_changes.specs.Changes.{PartsChange, CallsSoon, CallsLater, Revokes, MakesFuture, Settles, Registers, KeepsAsked, MakesTask, WaitsFor}
 use Rattle.law_changes.specs.Changes.{SetsMustCancel, ClearsMustCancel, Counts, Uncounts, Passes, FallsDue, LeavesPending, MayInParts, made_of_parts}
 use Rattle.law_changes.specs.Reaches.{PartsReach}
-use Rattle.law_changes.proofs.LoopRows.{exit_begin_row, suspend_row}
+use Rattle.law_changes.proofs.LoopRows.{exit_begin_row, exit_woken_row, suspend_row}
 use Rattle.law_changes.proofs.Parts.{parts_of}
 use Rattle.law_changes.proofs.PartsRows.{cancel_row}
 use Rattle.law_changes.proofs.Folds.{fold}
 use Rattle.model_loop.specs.Futures.{is_pending, is_pending_at, next_future}
 use Rattle.model_loop.specs.Handles.{due, by_deadline, soon_all}
 use Rattle.model_loop.specs.Owning.{OwnsFutures}
-use Rattle.model_loop.specs.Parts.{Future, Parts, Task, Timer}
+use Rattle.model_loop.specs.Parts.{Future, Parts, Profile, One, Task, Timer}
 use Rattle.model_loop.specs.Tasks.{future_of, lives, next_task, uncancel}
 use Rattle.law_turns.specs.After.{IsAfter, OutcomeIn}
 use Rattle.law_turns.proofs.Made.{asked_after, make_after, register_after, spawn_after}
@@ -102,7 +103,7 @@ later_change r (WaitsFor task on) p may = later_of false None p _ (change_after 
 later_change r (SetsMustCancel task) p may = later_of false None p _ (change_after any false None task _ p (λ t. refl))
 later_change r (ClearsMustCancel task) p may = later_of false None p _ (change_after any false None task _ p (λ t. refl))
 later_change r (Counts task) p may = later_of false None p _ (change_after any false None task _ p (λ t. refl))
-later_change r (Uncounts task) p may = later_of false None p _ (change_after any false None task _ p (λ t. refl))
+later_change r (Uncounts profile task) p may = later_of false None p _ (change_after any false None task _ p (λ t. refl))
 later_change r FallsDue p may = later_due p
 later_change r (CallsSoon action) p may = later_same _ _ refl refl
 later_change r (CallsLater when action) p may = later_same _ _ refl refl
@@ -114,17 +115,20 @@ pub later_row : {r : Option ℕ} {p q : Parts} → PartsReach r p q → IsLater 
 later_row row = fold IsLater later_refl later_then (later_change _) row
 
 -- ---- by their operations, for the laws that are not told by rows so far
-pub later_uncancel : (task : ℕ) (p : Parts) → IsLater p (uncancel task p)
-later_uncancel task p = later_change None (Uncounts task) p tt
+pub later_uncancel : (profile : Profile) (task : ℕ) (p : Parts) → IsLater p (uncancel profile task p)
+later_uncancel profile task p = later_change None (Uncounts profile task) p tt
 
 pub later_cancel : (id : ℕ) (p : Parts) → IsLater p (cancel id p).parts
 later_cancel id p = later_row (cancel_row None id p)
 
 pub later_suspend : (task on : ℕ) (p : Parts) → IsLater p (suspend task on p).parts
-later_suspend task on p = later_row (parts_of (suspend_row task on (record { parts = p; timeouts = []; groups = []; ledger = [] })))
+later_suspend task on p = later_row (parts_of (suspend_row task on (record { parts = p; timeouts = []; groups = []; ledger = []; profile = One })))
 
 pub later_exit_begin : (raised : Option Exc) (id : ℕ) (l : Loop) → IsLater l.parts (exit_begin raised id l).loop.parts
 later_exit_begin raised id l = later_row (parts_of (exit_begin_row None raised id l))
+
+pub later_exit_woken : (input : Input) (id : ℕ) (l : Loop) → IsLater l.parts (exit_woken input id l).loop.parts
+later_exit_woken input id l = later_row (parts_of (exit_woken_row None input id l))
 
 pub later_soon_all : (actions : List Action) (p : Parts) → IsLater p (soon_all actions p)
 later_soon_all actions p = later_same p (soon_all actions p) (soon_all-futures actions p) (soon_all-tasks actions p)

@@ -3,6 +3,7 @@ mod Falling
 mod Relied
 mod Raising
 mod MustCancelStays
+mod TakingBack
 mod Apart
 mod ToldStays
 mod Turning
@@ -14,6 +15,7 @@ mod Owed
 mod Asking
 mod Loops
 mod OwedByGroups
+mod OwedByExits
 mod Reading
 mod Replies
 mod Turns

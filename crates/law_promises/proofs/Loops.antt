@@ -11,8 +11,8 @@ use Rattle.model_loop.specs.Ending.{cancel_everything}
 use Rattle.model_loop.specs.Groups.{group_of}
 use Rattle.model_loop.specs.Futures.{settle}
 use Rattle.model_loop.specs.Handles.{deadline}
-use Rattle.model_loop.specs.Ledger.{Origin, ByEnd, ByExtra, ByTimeout, ask_cancel, uncancel_by}
-use Rattle.model_loop.specs.Loop.{TimeoutState, Created, Active, Expiring, Expired, Finished, Timeout, Loop, book, in_parts}
+use Rattle.model_loop.specs.Ledger.{Origin, ByEnd, ByExtra, ByTimeout, ask_cancel}
+use Rattle.model_loop.specs.Loop.{TimeoutState, Created, Active, Expiring, Expired, Finished, Timeout, Loop, book, in_parts, take_one_back}
 use Rattle.model_loop.specs.Owning.{OwnsFutures}
 use Rattle.model_loop.specs.Parts.{Parts, Plain, Many}
 use Rattle.model_loop.specs.Suspend.{suspend}
@@ -45,7 +45,7 @@ abbrev pub MayEase : (task : ℕ) → LoopChange → Loop → Type 0
 MayEase task (OfParts change) l = MayAlone (Some task) change l.parts
 MayEase task (AsksCancel by future) l = Unit {0}
 MayEase task (ChangesTimeout id new) l = (other : ℕ) → cond (owes_timeout other new) 1 0 ≤ cond (owes_timeout other (timeout_of l id)) 1 0
-MayEase task (ChangesGroup id new) l = (other : ℕ) → cond (owes_group other new) 1 0 ≤ cond (owes_group other (group_of l id)) 1 0
+MayEase task (ChangesGroup id new) l = (other : ℕ) → cond (owes_group l.profile other new) 1 0 ≤ cond (owes_group l.profile other (group_of l id)) 1 0
 MayEase task _ l = ⊥
 
 pub easy_change : (task : ℕ) (change : LoopChange) (l : Loop) → MayEase task change l → IsEasy l (made_of_loop change l)
@@ -110,7 +110,7 @@ made_good (Revokes tag) l is = easily l _ (easy_change 0 (OfParts (RevokesTag ta
 made_good (Cancels key future) l is =
     easily l (made_by (Cancels key future) l) (easy_request (ByExtra key) future l) ((cancel_after any false None future l.parts).same refl) is
 made_good (Uncancels key task) l is = record {
-  right = right_on l (made_by (Uncancels key task) l) (later_uncancel task l.parts) (length-change_task task _ l.parts) (λ other. le_refl _) is.right;
+  right = right_on l (made_by (Uncancels key task) l) (later_uncancel l.profile task l.parts) (length-change_task task _ l.parts) (λ other. le_refl _) is.right;
   covered = hand_covers l (ByExtra key) task refl is.right is.covered;
 }
 
@@ -189,13 +189,13 @@ given_up_tasks (Some tag) p = refl
 
 -- one that is left, once its handle was given up
 left_covers : (id : ℕ) (m : Loop) → (timeout_of m id).state ≡ Expiring → lives m.parts (timeout_of m id).task ≡ true → IsRight m → IsCovered m
-    → IsCovered (set_timeout id (record (timeout_of m id) { state = Expired }) (book (uncancel_by (ByTimeout id) (timeout_of m id).task) m))
+    → IsCovered (set_timeout id (record (timeout_of m id) { state = Expired }) (take_one_back (ByTimeout id) (timeout_of m id).task m))
 left_covers id m state living right is =
     let it = timeout_of m id in
-    let taken = book (uncancel_by (ByTimeout id) it.task) m in
+    let taken = take_one_back (ByTimeout id) it.task m in
     take_covers m (set_timeout id (record it { state = Expired }) taken) (ByTimeout id) it.task [] refl refl refl
     (λ other.
-    let a : owed (set_timeout id (record (timeout_of m id) { state = Expired }) (book (uncancel_by (ByTimeout id) (timeout_of m id).task) m)) other
+    let a : owed (set_timeout id (record (timeout_of m id) { state = Expired }) (take_one_back (ByTimeout id) (timeout_of m id).task m)) other
     + cond (owes_timeout other (timeout_of m id)) 1 0 ≤ owed m other + 0 =
     timeout_owed id (record it { state = Expired }) taken other in
     let b : ◌≡◌ {A = ℕ} (cond (owes_timeout other (timeout_of m id)) 1 0) (cond ((timeout_of m id).task == other) 1 0) =

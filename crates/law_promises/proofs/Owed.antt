@@ -115,8 +115,8 @@ pub timeout_owed : (id : ℕ) (new : Timeout) (l : Loop) (task : ℕ)
 timeout_owed id new l task = let a = count_set (owes_timeout task) l.timeouts id new no_timeout refl in omega (arith, a)
 
 pub group_owed : (id : ℕ) (new : Group) (l : Loop) (task : ℕ)
-    → owed (set_group id new l) task + cond (owes_group task (group_of l id)) 1 0 ≤ owed l task + cond (owes_group task new) 1 0
-group_owed id new l task = let a = count_set (owes_group task) l.groups id new (new_group 0) refl in omega (arith, a)
+    → owed (set_group id new l) task + cond (owes_group l.profile task (group_of l id)) 1 0 ≤ owed l task + cond (owes_group l.profile task new) 1 0
+group_owed id new l task = let a = count_set (owes_group l.profile task) l.groups id new (new_group 0) refl in omega (arith, a)
 
 pub easy_timeout : (id : ℕ) (new : Timeout) (l : Loop)
     → ((task : ℕ) → cond (owes_timeout task new) 1 0 ≤ cond (owes_timeout task (timeout_of l id)) 1 0) → IsEasy l (set_timeout id new l)
@@ -125,7 +125,7 @@ easy_timeout id new l fewer =
     (λ task. let a = timeout_owed id new l task in let b = fewer task in omega (arith, a, b)) refl (length-set l.timeouts id new) refl
 
 pub easy_group : (id : ℕ) (new : Group) (l : Loop)
-    → ((task : ℕ) → cond (owes_group task new) 1 0 ≤ cond (owes_group task (group_of l id)) 1 0) → IsEasy l (set_group id new l)
+    → ((task : ℕ) → cond (owes_group l.profile task new) 1 0 ≤ cond (owes_group l.profile task (group_of l id)) 1 0) → IsEasy l (set_group id new l)
 easy_group id new l fewer =
     easy_unbooked l (set_group id new l) (later_refl l.parts) (λ task. le_refl _)
     (λ task. let a = group_owed id new l task in let b = fewer task in omega (arith, a, b)) refl refl (length-set l.groups id new)

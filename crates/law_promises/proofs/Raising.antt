@@ -6,10 +6,11 @@ use Rattle.model_value.specs.declared.input.Input.TheVariants.{Send, Throw}
 use Rattle.model_value.specs.Input.{Input}
 use Rattle.model_value.specs.Value.{Exc}
 use Rattle.model_loop.proofs.GroupCases.{abort_where, keep_and_abort_unless, take_back_where, wait_or_end_with}
-use Rattle.model_loop.specs.Groups.{GroupExit, Waits, Passes, Raises, Exited, abort, abort_if_raised, begin_exit, body_failure, end_exit, exit_begin}
+use Rattle.model_loop.specs.Groups.{GroupExit, Waits, Passes, Raises, Exited, abort, abort_if_raised, at_begin, at_end, begin_exit, body_failure, end_exit}
+use Rattle.model_loop.specs.Groups.{exit_begin}
 use Rattle.model_loop.specs.Groups.{exit_woken, group_of, hear, only_cancelled, raised_of, set_group, take_back, wait_or_end}
-use Rattle.model_loop.specs.Ledger.{ByGroup, uncancel_by}
-use Rattle.model_loop.specs.Loop.{Group, Loop, book}
+use Rattle.model_loop.specs.Ledger.{ByGroup}
+use Rattle.model_loop.specs.Loop.{Group, Loop, take_one_back}
 use Rattle.model_loop.specs.Sound.{IsSound}
 use Rattle.model_loop.specs.Tasks.{cancelling, uncancel}
 use Rattle.law_groups.proofs.Holding.{group_same}
@@ -25,18 +26,18 @@ module _ (id : ℕ) where
   abort_there : (l : Loop) → id < length l.groups → id < length (abort id l).groups
   abort_there l within = there (record (group_of l id) { aborting = true }) l within
 
-  taken_there : (l : Loop) → id < length l.groups → id < length (take_back id l).groups
-  taken_there l within = at (group_of l id).requested
+  taken_there : (now : Bool) (l : Loop) → id < length l.groups → id < length (take_back now id l).groups
+  taken_there now l within = at (now && (group_of l id).requested)
     where
       none_left : (b : Bool)
-          → id < length (cond b (set_group id (record (group_of l id) { kept = None }) (book (uncancel_by (ByGroup id) (group_of l id).parent) l))
-          (book (uncancel_by (ByGroup id) (group_of l id).parent) l)).groups
+          → id < length (cond b (set_group id (record (group_of l id) { kept = None }) (take_one_back (ByGroup id) (group_of l id).parent l))
+          (take_one_back (ByGroup id) (group_of l id).parent l)).groups
       none_left true = there (record (group_of l id) { kept = None }) l within
       none_left false = within
 
-      at : (requested : Bool) → id < length (take_back_where requested id l).groups
+      at : (taken : Bool) → id < length (take_back_where taken id l).groups
       at false = within
-      at true = none_left (cancelling (uncancel (group_of l id).parent l.parts) (group_of l id).parent == 0)
+      at true = none_left (cancelling (uncancel l.profile (group_of l id).parent l.parts) (group_of l id).parent == 0)
 
   raised_there : (raised : Option Exc) (l : Loop) → id < length l.groups → id < length (abort_if_raised raised id l).groups
   raised_there raised l within = at (is_some raised && not (group_of l id).aborting)
@@ -46,9 +47,9 @@ module _ (id : ℕ) where
       at false = within
 
   begun_there : (raised : Option Exc) (l : Loop) → id < length l.groups
-      → id < length (abort_if_raised raised id (take_back id (begin_exit raised id l))).groups
+      → id < length (abort_if_raised raised id (take_back (at_begin l.profile) id (begin_exit raised id l))).groups
   begun_there raised l within =
-      raised_there raised (take_back id (begin_exit raised id l)) (taken_there (begin_exit raised id l)
+      raised_there raised (take_back (at_begin l.profile) id (begin_exit raised id l)) (taken_there (at_begin l.profile) (begin_exit raised id l)
       (there (record (group_of l id) { exiting = true; body = raised; kept = only_cancelled raised }) l within))
 
   heard_there : (input : Input) (l : Loop) → id < length l.groups → id < length (hear input id l).groups
@@ -86,12 +87,14 @@ module _ (id : ℕ) (l : Loop) (within : id < length l.groups) where
       let new = record (group_of l id) { ended = true } in
       subst (λ (g : Group). AnswersFor g.errors g (Raises fault)) (sym (group_same id new l within)) (refl, inr (e, k))
 
-  exits_by : EndsByErrors id (wait_or_end id l)
-  exits_by = at (group_of l id).children
-    where
-      at : (children : List ℕ) → EndsByErrors id (wait_or_end_with children id l)
-      at [] = ends_by (group_of l id).kept (group_of l id).errors refl refl
-      at (child ∷ children) = tt
+exits_by : (id : ℕ) (l : Loop) → id < length l.groups → EndsByErrors id (wait_or_end id l)
+exits_by id l within = at (group_of l id).children
+  where
+    at : (children : List ℕ) → EndsByErrors id (wait_or_end_with children id l)
+    at [] =
+        let last = take_back (at_end l.profile) id l in
+        ends_by id last (taken_there id (at_end l.profile) l within) (group_of last id).kept (group_of last id).errors refl refl
+    at (child ∷ children) = tt
 
 -- the errors of a group that has ended are what failed
 with_failed : (failed : List Exc) (group : Group) (answer : GroupExit) → (group.ended ≡ true → group.errors ≡ failed)
@@ -110,7 +113,7 @@ module _ (running : Option ℕ) (told : ℕ → List ℕ) (id : ℕ) where
       → IsSound running told l → RaisesWhatFailed (told id) id (exit_begin raised id l)
   begun_raises raised l within entered outside sound =
       by_failures (exit_begin raised id l) (exit_begin_sound running told raised id l within entered outside sound)
-      (exits_by id (abort_if_raised raised id (take_back id (begin_exit raised id l))) (begun_there id raised l within))
+      (exits_by id (abort_if_raised raised id (take_back (at_begin l.profile) id (begin_exit raised id l))) (begun_there id raised l within))
 
   pub woken_raises : (input : Input) (l : Loop) → id < length l.groups → (group_of l id).exiting ≡ true → (group_of l id).ended ≡ false
       → IsSound running told l → RaisesWhatFailed (told id) id (exit_woken input id l)

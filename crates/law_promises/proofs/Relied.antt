@@ -1,7 +1,9 @@
 -- What a user relies on, out of a sound state.
-use Rattle.std.proofs.Common.{◌≡◌, ℕ, List, None, Option, Some, [], ap, append-nil, arith, cond, false, refl, sym, true, ◌++◌, ◌+◌, ◌∙◌, ◌∷◌, ◌≤◌}
+use Rattle.std.proofs.Common.{◌≡◌, ℕ, List, None, Option, Some, [], ap, append-nil, arith, cond, false, refl, sym, true, ◌&&◌, ◌++◌, ◌+◌, ◌∙◌, ◌∷◌, ◌≤◌}
 use Rattle.model_value.specs.Value.{exception_of, Exc, exc, excs}
+use Rattle.model_loop.specs.Balance.{asked_before_exit, asks, has_taken, is_by_group, takes}
 use Rattle.model_loop.specs.Entries.{entries}
+use Rattle.model_loop.specs.Parts.{Profile, One, Two}
 use Rattle.model_loop.specs.Groups.{Raises, body_failure, end_exit, exception_group, group_of, group_text, is_bearable, raised_of}
 use Rattle.model_loop.specs.Children.{body_at_end, failures, tells}
 use Rattle.law_groups.proofs.Firing.{one_handle}
@@ -110,3 +112,20 @@ pub end_raises : (errors : List Exc) (id : ℕ) (l : Loop) → (kept : Option Ex
 end_raises errors id l None h = refl
 end_raises [] id l (Some fault) h = absurd (none-some fault (sym (h refl)))
 end_raises (x ∷ xs) id l (Some fault) h = refl
+
+-- ---- a group's request
+module _ (running : Option ℕ) (told : ℕ → List ℕ) (l : Loop) (s : IsSound running told l) where
+  pub asks_once : (id : ℕ) → count_by (asks (is_by_group id)) l.ledger ≡ one_if (group_of l id).requested
+  asks_once id = (s.balance.groups id).asked
+
+  taken_by : (profile : Profile) → l.profile ≡ profile → (id : ℕ)
+      → count_by (takes (is_by_group id)) l.ledger ≡ one_if (has_taken profile id l.ledger (group_of l id).requested (group_of l id).ended)
+  taken_by profile same id =
+      (s.balance.groups id).took ∙ ap (λ it. one_if (has_taken it id l.ledger (group_of l id).requested (group_of l id).ended)) same
+
+  pub takes_in_one : l.profile ≡ One → (id : ℕ) → count_by (takes (is_by_group id)) l.ledger ≡ one_if (asked_before_exit id l.ledger)
+  takes_in_one = taken_by One
+
+  pub takes_in_two : l.profile ≡ Two → (id : ℕ)
+      → count_by (takes (is_by_group id)) l.ledger ≡ one_if ((group_of l id).ended && (group_of l id).requested)
+  takes_in_two = taken_by Two

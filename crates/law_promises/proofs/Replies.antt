@@ -19,9 +19,10 @@ use Rattle.model_says.specs.Says.{course, step_limit}
 use Rattle.model_loop.specs.Futures.{new_plain, next_future}
 use Rattle.model_loop.specs.Groups.{GroupExit, Waits, Passes, Raises as RaisedBy, create, exit_begin, exit_woken, group_of, new_group}
 use Rattle.model_loop.specs.Ledger.{ByScript, ask_cancel}
-use Rattle.model_loop.specs.Loop.{TimeoutState, Created, Active, Expiring, Expired, Finished, Loop, book, in_parts}
+use Rattle.model_loop.specs.Children.{IsKeptGroup}
+use Rattle.model_loop.specs.Loop.{TimeoutState, Created, Active, Expiring, Expired, Finished, Group, Loop, book, in_parts}
 use Rattle.model_loop.specs.Sound.{IsSound}
-use Rattle.model_loop.specs.Parts.{Plain}
+use Rattle.model_loop.specs.Parts.{Plain, Profile, One, Two}
 use Rattle.model_loop.specs.Suspend.{suspend}
 use Rattle.model_loop.specs.Tasks.{lives, next_task, spawn}
 use Rattle.model_loop.specs.Timeouts.{exit_timeout, no_timeout, reschedule, timeout_of}
@@ -58,11 +59,12 @@ use Rattle.law_replies.proofs.Tapes.{past_default}
 use Rattle.law_replies.proofs.Innermost.{innermost_timeout}
 use Rattle.law_replies.proofs.Replying.{fits_in}
 use Rattle.law_promises.proofs.Asking.{hand_covers}
-use Rattle.law_promises.proofs.OwedByGroups.{begin_covers, begin_right, easy_create, easy_woken, enter_group_covers, woken_right}
+use Rattle.law_promises.proofs.OwedByExits.{MayEnd, begin_covers, begin_right, woken_covers, woken_right}
+use Rattle.law_promises.proofs.OwedByGroups.{easy_create, enter_group_covers}
 use Rattle.law_promises.proofs.Loops.{IsGood, all_good, easy_change, easy_request, easy_reschedule, easy_settle, easy_spawn, easy_suspend, enter_covers}
 use Rattle.law_promises.proofs.Loops.{exit_covers}
 use Rattle.law_promises.proofs.Owed.{count_cons, covers, easy_then}
-use Rattle.law_promises.specs.Owed.{IsCovered, IsRight, is_expiring, owed, owes_timeout, owes_group}
+use Rattle.law_promises.specs.Owed.{IsCovered, IsRight, is_expiring, owed, owes_timeout, owes_group, takes_no_more}
 
 -- ---- nothing is owed to a task that wasn't made
 off : (b : Bool) → (b && false) ≡ false
@@ -99,6 +101,20 @@ no_blocks : (program : Program) → open_blocks program 0 [] [] ≡ []
 unfolding course
 no_blocks program = refl
 
+-- a group that may still take its request back has not ended
+unended : (profile : Profile) (it : Group) {told : List ℕ} → IsKeptGroup told it → takes_no_more profile it ≡ false → it.ended ≡ false
+unended profile it kept open_ = at profile open_ it.ended refl
+  where
+    at : (profile : Profile) → takes_no_more profile it ≡ false → (b : Bool) → it.ended ≡ b → it.ended ≡ false
+    at profile h false e = e
+    at Two h true e = h
+    at One h true e = absurd (false≢true (sym h ∙ kept.ended_exiting e))
+
+-- one whose exit has not begun may take it back
+untaken : (profile : Profile) (it : Group) {told : List ℕ} → IsKeptGroup told it → it.exiting ≡ false → takes_no_more profile it ≡ false
+untaken One it kept e = e
+untaken Two it kept e = unended One it kept e
+
 module _ {S : Type 0} (s : State S) (running : Option ℕ) (told : ℕ → List ℕ) (loop : IsSound running told s.loop) (blocks : AreBlocksOpen s)
     (generators : length s.generators ≡ next_task s.loop.parts) (task : ℕ) (past : next_task s.loop.parts ≤ task) where
   unmade_blocks : blocks_of s task ≡ []
@@ -117,26 +133,25 @@ module _ {S : Type 0} (s : State S) (running : Option ℕ) (told : ℕ → List 
           (closed (timeout_of s.loop id).state (blocks.timeouts id w
           ∙ ap (λ k. has_open s k (Timeout id)) (eqb-true (timeout_of s.loop id).task task e) ∙ ap (list_any (equal (Timeout id))) unmade_blocks))
 
-  groups_none : (id : ℕ) → id < length s.loop.groups → owes_group task (group_of s.loop id) ≡ false
-  groups_none id w = at (group_of s.loop id).entered refl (group_of s.loop id).exiting refl ((group_of s.loop id).parent == task) refl
+  groups_none : (id : ℕ) → id < length s.loop.groups → owes_group s.loop.profile task (group_of s.loop id) ≡ false
+  groups_none id w = at it.entered refl (takes_no_more s.loop.profile it) refl (it.parent == task) refl
     where
-      unended : (group_of s.loop id).exiting ≡ false → (b : Bool) → (group_of s.loop id).ended ≡ b → (group_of s.loop id).ended ≡ false
-      unended e false f = f
-      unended e true f = absurd (false≢true (sym e ∙ (loop.groups id).kept.ended_exiting f))
+      it : Group
+      it = group_of s.loop id
 
-      at : (a : Bool) → (group_of s.loop id).entered ≡ a → (x : Bool) → (group_of s.loop id).exiting ≡ x
-          → (p : Bool) → ((group_of s.loop id).parent == task) ≡ p → owes_group task (group_of s.loop id) ≡ false
-      at false e x f p g =
-          ap (λ b. b && ((group_of s.loop id).requested && (not (group_of s.loop id).exiting && ((group_of s.loop id).parent == task)))) e
+      over : Bool
+      over = takes_no_more s.loop.profile (group_of s.loop id)
+
+      at : (a : Bool) → (group_of s.loop id).entered ≡ a → (x : Bool) → takes_no_more s.loop.profile (group_of s.loop id) ≡ x
+          → (p : Bool) → ((group_of s.loop id).parent == task) ≡ p → owes_group s.loop.profile task (group_of s.loop id) ≡ false
+      at false e x f p g = ap (λ b. b && (it.requested && (not over && (it.parent == task)))) e
       at true e true f p g =
-          ap (λ b. (group_of s.loop id).entered && ((group_of s.loop id).requested && (not b && ((group_of s.loop id).parent == task)))) f
-          ∙ off_inside (group_of s.loop id).entered (group_of s.loop id).requested ((group_of s.loop id).parent == task)
+          ap (λ b. it.entered && (it.requested && (not b && (it.parent == task)))) f ∙ off_inside it.entered it.requested (it.parent == task)
       at true e false f false g =
-          ap (λ b. (group_of s.loop id).entered && ((group_of s.loop id).requested && (not (group_of s.loop id).exiting && b))) g
-          ∙ off_last (group_of s.loop id).entered (group_of s.loop id).requested (not (group_of s.loop id).exiting)
+          ap (λ b. it.entered && (it.requested && (not over && b))) g ∙ off_last it.entered it.requested (not over)
       at true e false f true g =
           absurd (
-          let l = (loop.groups id).tellings.parent_lives e (unended f (group_of s.loop id).ended refl) in
+          let l = (loop.groups id).tellings.parent_lives e (unended s.loop.profile it (loop.groups id).kept f) in
           let a = lives_within s.loop.parts (group_of s.loop id).parent l in
           let b = eqb-true (group_of s.loop id).parent task g in
           omega (arith, a, b, past))
@@ -144,7 +159,7 @@ module _ {S : Type 0} (s : State S) (running : Option ℕ) (told : ℕ → List 
   unmade_owed : owed s.loop task ≡ 0
   unmade_owed =
       let a = count_none (owes_timeout task) s.loop.timeouts no_timeout timeouts_none in
-      let b = count_none (owes_group task) s.loop.groups (new_group 0) groups_none in
+      let b = count_none (owes_group s.loop.profile task) s.loop.groups (new_group 0) groups_none in
       omega (arith, a, b)
 
 pub right_of : {S : Type 0} (s : State S) (running : Option ℕ) (told : ℕ → List ℕ) → IsSound running told s.loop → AreBlocksOpen s
@@ -222,21 +237,21 @@ woken_in : {S : Type 0} (added : Extra S) (task : ℕ) → WakeCovers (woken add
 woken_in added task key input s is = woken_within_in added (suc (added.wakes_left key s.extra)) task key input s is
 
 pub decides_in : {S : Type 0} (added : Extra S) (resume_point : ResumePoint) (task : ℕ) (input : Input) (s : State S) → AreStreamsFutures s → (asked : Request)
-    → stands_at resume_point asked ≡ true → IsGood s.loop → Covers (decides added resume_point task input s)
-decides_in added Asked task input s kept asked may is = replied_in input s is.covered
-decides_in added (Sleeping tag) task input s kept asked may is = replied_in input s is.covered
-decides_in added (Leaving group) task input s kept asked may is =
-    let l = (exit_woken input group s.loop).loop in
-    exits_in (exit_woken input group s.loop).answer task group l s (woken_right input group s.loop is.right)
-    (covers s.loop l (easy_woken input group s.loop) is.right is.covered)
-decides_in added (Serving key) task input s kept asked may is = woken_in added task key input s is
-decides_in added (Connecting conn) task input s kept asked may is =
+    → stands_at resume_point asked ≡ true → ((group : ℕ) → resume_point ≡ Leaving group → MayEnd group s.loop) → IsGood s.loop
+    → Covers (decides added resume_point task input s)
+decides_in added Asked task input s kept asked may leaving is = replied_in input s is.covered
+decides_in added (Sleeping tag) task input s kept asked may leaving is = replied_in input s is.covered
+decides_in added (Leaving group) task input s kept asked may leaving is =
+    exits_in (exit_woken input group s.loop).answer task group (exit_woken input group s.loop).loop s (woken_right input group s.loop is.right)
+    (woken_covers group input s.loop (λ two. leaving group refl) is.right is.covered)
+decides_in added (Serving key) task input s kept asked may leaving is = woken_in added task key input s is
+decides_in added (Connecting conn) task input s kept asked may leaving is =
     decides_covers added task s is.right is.covered kept asked (Connecting conn) input refl may
-decides_in added (Yielding whom) task input s kept asked may is =
+decides_in added (Yielding whom) task input s kept asked may leaving is =
     decides_covers added task s is.right is.covered kept asked (Yielding whom) input refl may
-decides_in added (Reading from op on) task input s kept asked may is =
+decides_in added (Reading from op on) task input s kept asked may leaving is =
     decides_covers added task s is.right is.covered kept asked (Reading from op on) input refl may
-decides_in added (ReadingAll from taken on) task input s kept asked may is =
+decides_in added (ReadingAll from taken on) task input s kept asked may leaving is =
     decides_covers added task s is.right is.covered kept asked (ReadingAll from taken on) input refl may
 
 -- ---- the table
@@ -261,13 +276,10 @@ module _ {S : Type 0} (added : Extra S) (task : ℕ) (s : State S) (step : IsSte
       → as_group value ≡ Some id → Covers (exits_group (exit_begin raised id s.loop) task id s)
   group_in value raised said id e =
       let f = fits_in added task s step (request.GroupExit value raised) said refl id e in
-      let living = (step.others.loop.groups id).tellings.parent_lives f.1 (unended f.2 (group_of s.loop id).ended refl) in
-      exits_in (exit_begin raised id s.loop).answer task id (exit_begin raised id s.loop).loop s
-      (begin_right raised id s.loop f.0 f.1 f.2 living right c) (begin_covers raised id s.loop f.0 f.1 f.2 living right c)
-    where
-      unended : (group_of s.loop id).exiting ≡ false → (b : Bool) → (group_of s.loop id).ended ≡ b → (group_of s.loop id).ended ≡ false
-      unended e false f = f
-      unended e true f = absurd (false≢true (sym e ∙ (step.others.loop.groups id).kept.ended_exiting f))
+      let kept = (step.others.loop.groups id).kept in
+      let living = (step.others.loop.groups id).tellings.parent_lives f.1 (unended One (group_of s.loop id) kept f.2) in
+      exits_in (exit_begin raised id s.loop).answer task id (exit_begin raised id s.loop).loop s (begin_right raised id s.loop right)
+      (begin_covers raised id s.loop f.0 f.1 (untaken s.loop.profile (group_of s.loop id) kept f.2) living right c)
 
   alarm_in : (delay : ℕ) → Covers (sleeps_for task (pos (suc delay)) s)
   alarm_in delay =

@@ -110,7 +110,7 @@ change_stays (WaitsFor task on) p = same_stays p (made_of_parts (WaitsFor task o
 change_stays (SetsMustCancel task) p = same_stays p (made_of_parts (SetsMustCancel task) p) (change_task-futures task _ p)
 change_stays (ClearsMustCancel task) p = same_stays p (made_of_parts (ClearsMustCancel task) p) (change_task-futures task _ p)
 change_stays (Counts task) p = same_stays p (made_of_parts (Counts task) p) (change_task-futures task _ p)
-change_stays (Uncounts task) p = same_stays p (made_of_parts (Uncounts task) p) (change_task-futures task _ p)
+change_stays (Uncounts profile task) p = same_stays p (made_of_parts (Uncounts profile task) p) (change_task-futures task _ p)
 change_stays (Passes now) p = λ id outcome e. e
 change_stays FallsDue p = same_stays p (made_of_parts FallsDue p) (due-futures p)
 change_stays (LeavesPending rest) p = λ id outcome e. e
@@ -128,7 +128,7 @@ loop_stays (ChangesTimeout place timeout) l = λ id outcome e. e
 loop_stays (MakesGroup parent) l = λ id outcome e. e
 loop_stays (ChangesGroup place group) l = λ id outcome e. e
 loop_stays (AsksCancel by future) l = parts_stay (cancel_row None future l.parts)
-loop_stays (TakesBack by task) l = change_stays (Uncounts task) l.parts
+loop_stays (TakesBack by task) l = change_stays (Uncounts l.profile task) l.parts
 loop_stays (BeginsExit place) l = λ id outcome e. e
 
 state_stays : {S : Type 0} (change : StateChange S) (s : State S) → OutcomesStay s.loop.parts (made change s).loop.parts

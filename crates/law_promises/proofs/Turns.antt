@@ -20,6 +20,7 @@ use Rattle.model_loop.specs.Futures.{settle}
 use Rattle.model_loop.specs.Handles.{by_deadline, due, fall_due, soon_all}
 use Rattle.model_loop.specs.Loop.{Loop, in_parts}
 use Rattle.model_loop.specs.Parts.{Handle, Parts, Timer}
+use Rattle.model_loop.specs.Sound.{IsSound}
 use Rattle.model_loop.specs.Tasks.{begin_step, finish, next_task}
 use Rattle.model_loop.specs.Ways.{steps}
 use Rattle.model_machine.specs.Extra.{Extra}
@@ -44,13 +45,14 @@ use Rattle.law_cases.specs.Trees.{is_of_streams}
 use Rattle.law_cases.proofs.Going.{effect_is}
 use Rattle.law_promises.proofs.Streaming.{goes_covers}
 use Rattle.law_reach.proofs.Running.{given_up_row}
-use Rattle.law_runs.proofs.Beginning.{begins_in, begun_asked, stepped_lives}
+use Rattle.law_runs.proofs.Beginning.{begins_in, begun_asked, resume_point_fit, stepped_lives}
 use Rattle.law_runs.proofs.Callbacks.{woken_made}
 use Rattle.law_runs.proofs.Folding.{turn_through}
 use Rattle.law_runs.proofs.Turning.{turn_in}
 use Rattle.law_promises.proofs.Later.{any, later_due, later_same, later_soon_all, later_then}
 use Rattle.law_promises.specs.Taken.{EachAfter, HasRightLedgers}
 use Rattle.law_promises.proofs.Reading.{reads_right}
+use Rattle.law_promises.proofs.OwedByExits.{MayEnd}
 use Rattle.law_promises.proofs.OwedByGroups.{child_covers}
 use Rattle.law_promises.proofs.Loops.{IsGood, all_good, easy_alone, easy_end, easy_finish, easy_settle, fire_covers}
 use Rattle.law_promises.proofs.Owed.{covers, easy_parts, easy_then, right_on, same_counts}
@@ -66,6 +68,9 @@ given_tasks (Connecting conn) p = refl
 given_tasks (Yielding whom) p = refl
 given_tasks (Reading from op on) p = refl
 given_tasks (ReadingAll from taken on) p = refl
+
+leaving_serves : (group key : ℕ) → Leaving group ≡ Serving key → ⊥
+leaving_serves group key e = absurd (cc)
 
 -- ---- a task's step
 module _ {S : Type 0} (added : Extra S) (keeps : KeepsSound added) (task : ℕ) where
@@ -127,7 +132,16 @@ module _ {S : Type 0} (added : Extra S) (keeps : KeepsSound added) (task : ℕ) 
       (begins_in added s task input handle rest first live mine sound keeps given_)
       (decides_in added resume_point task begun.input awake
       (begun_asked added s task input handle rest first live mine sound a.asked a.says).others.streams a.asked a.stands
+      (λ group at. leaves group at (begun_asked added s task input handle rest first live mine sound a.asked a.says).others.loop)
       (begun_good resume_point input s.loop rest is))
+    where
+      -- a group at whose exit it stands, once its step began
+      leaves : (group : ℕ) → (generator_of task s).resume_point ≡ Leaving group → {told : ℕ → List ℕ} {p : Parts}
+          → IsSound (Some task) told (record s.loop { parts = p }) → MayEnd group (record s.loop { parts = p })
+      leaves group at now =
+          let f = resume_point_fit added s task input handle rest first live mine sound (Leaving group) at (λ key x. leaving_serves group key x) in
+          let entered = (sound.loop.groups group).orderly.exiting_entered f.1 in
+          record { within = f.0; entered = entered; open_ = f.2; living = λ none. (now.groups group).tellings.parent_lives entered f.2 }
 
 -- ---- a callback
 module _ {S : Type 0} (added : Extra S) (keeps : KeepsSound added) (s : State S) (handle : Handle) (rest : List Handle)

@@ -5,6 +5,7 @@ use Rattle.std.specs.List.{count_by, list_any}
 use Rattle.model_loop.specs.Futures.{next_future}
 use Rattle.model_loop.specs.Ledger.{Origin, ByScript, ByExtra, LedgerEntry, Took}
 use Rattle.model_loop.specs.Loop.{TimeoutState, Expiring, Timeout, Group, Loop}
+use Rattle.model_loop.specs.Parts.{Profile, One, Two}
 use Rattle.model_loop.specs.Tasks.{cancelling, future_of, lives, next_task}
 use Rattle.model_machine.specs.Replies.{most_ids}
 
@@ -38,11 +39,15 @@ is_expiring _ = false
 abbrev pub owes_timeout : ℕ → Timeout → Bool
 owes_timeout task it = is_expiring it.state && (it.task == task)
 
-abbrev pub owes_group : ℕ → Group → Bool
-owes_group task it = it.entered && (it.requested && (not it.exiting && (it.parent == task)))
+-- whether a group is past the point at which it takes its request back: the beginning of its exit, or the end of it
+abbrev pub takes_no_more : Profile → Group → Bool
+takes_no_more profile it = elim profile [ One ↦ it.exiting | Two ↦ it.ended ]
+
+abbrev pub owes_group : Profile → ℕ → Group → Bool
+owes_group profile task it = it.entered && (it.requested && (not (takes_no_more profile it) && (it.parent == task)))
 
 abbrev pub owed : Loop → ℕ → ℕ
-owed l task = count_by (owes_timeout task) l.timeouts + count_by (owes_group task) l.groups
+owed l task = count_by (owes_timeout task) l.timeouts + count_by (owes_group l.profile task) l.groups
 
 -- it is covered by the count of each task that lives, and each entry of the ledger has what it needs
 pub record IsCovered (l : Loop) : Type 0 where

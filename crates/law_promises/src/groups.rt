@@ -1,13 +1,17 @@
-//! What a sound state says of groups. Each function has no body: its clauses are the laws.
-ghost use Rattle.std.specs.Prelude.{◌≡◌, ℕ, ◌≤◌, true, false, List, [], ◌++◌, Option, None};
+//! What a sound state says of groups, in both profiles where none is named. Each function has no
+//! body: its clauses are the laws.
+ghost use Rattle.std.specs.Prelude.{◌≡◌, ℕ, ◌≤◌, true, false, ◌&&◌, List, [], ◌++◌, Option, None};
 ghost use Rattle.std.specs.List.{count_by};
 ghost use Rattle.model_value.specs.declared.kind.Kind.TheVariants.{ExceptionGroup};
 ghost use Rattle.model_value.specs.Value.{Exc, exc, excs};
+ghost use Rattle.model_loop.specs.Balance.{asked_before_exit, asks, is_by_group, takes};
 ghost use Rattle.model_loop.specs.Loop.{Loop};
+ghost use Rattle.model_loop.specs.Parts.{One, Two};
 ghost use Rattle.model_loop.specs.Tasks.{future_of, lives};
 ghost use Rattle.model_loop.specs.Groups.{group_of, body_failure, end_exit, exception_group, group_text, is_bearable, raised_of};
 ghost use Rattle.model_loop.specs.Numbered.{occurrences};
 ghost use Rattle.model_loop.specs.Totals.{callbacks_of};
+ghost use Rattle.model_loop.specs.Ways.{one_if};
 ghost use Rattle.model_loop.specs.Children.{failures, tells};
 ghost use Rattle.model_loop.specs.Sound.{IsSound};
 
@@ -54,4 +58,20 @@ pub fn an_exit_raises_its_errors()
     ensures members { (errors : List Exc)
         → is_bearable (exc ExceptionGroup group_text [] (excs errors)) ≡ true
         → exception_group errors ≡ exc ExceptionGroup group_text [] (excs errors) }
+{}
+
+/// A group asks for its parent's cancel once where its request is set, and otherwise never. In
+/// profile 1 it takes that back once where it asked before its exit began; in profile 2 once where
+/// it asked and its exit has ended; otherwise never.
+pub fn a_group_takes_its_request_back()
+    ensures asks { (running : Option ℕ) (told : ℕ → List ℕ) (l : Loop) → IsSound running told l
+        → (id : ℕ)
+        → count_by (asks (is_by_group id)) l.ledger ≡ one_if (group_of l id).requested }
+    ensures profile_one { (running : Option ℕ) (told : ℕ → List ℕ) (l : Loop)
+        → IsSound running told l → l.profile ≡ One → (id : ℕ)
+        → count_by (takes (is_by_group id)) l.ledger ≡ one_if (asked_before_exit id l.ledger) }
+    ensures profile_two { (running : Option ℕ) (told : ℕ → List ℕ) (l : Loop)
+        → IsSound running told l → l.profile ≡ Two → (id : ℕ)
+        → count_by (takes (is_by_group id)) l.ledger
+        ≡ one_if ((group_of l id).ended && (group_of l id).requested) }
 {}

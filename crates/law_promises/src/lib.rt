@@ -1,4 +1,5 @@
 //! What a user of cancellation, timeouts and task groups relies on, in every state of every run.
+//! A law that names no profile holds in both.
 #![tactic(auto)]
 
 pub mod cancels;

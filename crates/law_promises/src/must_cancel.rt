@@ -6,15 +6,18 @@ ghost use Rattle.model_value.specs.declared.outcome.Outcome.TheVariants.{Failed,
 ghost use Rattle.model_value.specs.Action.{Action};
 ghost use Rattle.model_value.specs.Input.{Input};
 ghost use Rattle.model_value.specs.Value.{Value, Exc, Outcome};
-ghost use Rattle.model_loop.specs.Parts.{Parts};
+ghost use Rattle.model_loop.specs.Parts.{Parts, Profile, One, Two};
 ghost use Rattle.model_loop.specs.Futures.{future_outcome, is_pending, settle, register};
-ghost use Rattle.model_loop.specs.Tasks.{begin_step, finish, future_of, is_cancelled, must_cancel_of, lives, uncancel};
+ghost use Rattle.model_loop.specs.Tasks.{begin_step, cancelling, finish, future_of, is_cancelled};
+ghost use Rattle.model_loop.specs.Tasks.{must_cancel_of, lives, uncancel};
 ghost use Rattle.model_loop.specs.Cancel.{cancel};
 ghost use Rattle.model_loop.specs.Suspend.{wait_on, suspend};
 ghost use Rattle.model_loop.specs.Owning.{OwnsFutures};
 
-/// At the beginning of its task's step, which is then resumed with a CancelledError; at its task's
-/// return, which then ends cancelled; and at a wait for a future whose cancel answered true.
+/// In both profiles: at the beginning of its task's step, which is then resumed with a
+/// CancelledError; at its task's return, which then ends cancelled; and at a wait for a future
+/// whose cancel answered true. In profile 2 besides: at an `uncancel` of its task that lowers the
+/// count from 1 to 0, so that all requests are taken back.
 pub fn must_cancel_falls()
     ensures begins { (id : ℕ) (input : Input) (p : Parts) (task : ℕ) → must_cancel_of p task ≡ true
         → must_cancel_of (begin_step id input p).parts task ≡ false
@@ -28,14 +31,19 @@ pub fn must_cancel_falls()
         → lives p id ≡ true → (task : ℕ)
         → must_cancel_of p task ≡ true → must_cancel_of (suspend id on p).parts task ≡ false
         → (id ≡ task) × ((cancel on (wait_on id on p)).answer ≡ true) }
+    ensures taken_back { (profile : Profile) (id : ℕ) (p : Parts) (task : ℕ)
+        → must_cancel_of p task ≡ true
+        → must_cancel_of (uncancel profile id p) task ≡ false
+        → (profile ≡ Two) × (id ≡ task) × (cancelling p task ≡ 1)
+        × (cancelling (uncancel profile id p) task ≡ 0) }
 {}
 
-/// An outcome, a callback and an `uncancel` leave it.
+/// An outcome and a callback leave it in both profiles, and an `uncancel` in profile 1.
 pub fn must_cancel_stays_elsewhere()
     ensures { (task : ℕ) (p : Parts) → must_cancel_of p task ≡ true
         → ((id : ℕ) (outcome : Outcome) → must_cancel_of (settle id outcome p) task ≡ true)
         × ((id : ℕ) (action : Action) → must_cancel_of (register id action p) task ≡ true)
-        × ((id : ℕ) → must_cancel_of (uncancel id p) task ≡ true) }
+        × ((id : ℕ) → must_cancel_of (uncancel One id p) task ≡ true) }
 {}
 
 /// A task that raises another exception first ends failed, must_cancel set or not.

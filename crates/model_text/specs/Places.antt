@@ -1,7 +1,7 @@
 -- Where a line may stand, by the blocks that are open before it: a stack, on which each line acts in its turn.
 -- Source: the Python language reference, "Compound statements", with `end` in place of indentation.
 use Rattle.std.specs.Prelude.{ℕ, max, Bool, true, false, not, ◌&&◌, List, [], ◌∷◌, length, map, Option, Some, None, fold, nat_lt, nat_le}
-use Rattle.std.specs.Prelude.{nat_eq, if◌then◌else◌, option_to_list}
+use Rattle.std.specs.Prelude.{nat_eq, ◌||◌, if◌then◌else◌, option_to_list}
 use Rattle.std.specs.List.{list_any}
 use Rattle.model_text.specs.declared.cause.Cause.{Cause}
 use Rattle.model_text.specs.declared.cause.Cause.TheVariants as cause
@@ -132,7 +132,7 @@ height_of_form _ = 0
 
 -- the profiles that there are
 abbrev pub is_profile : Spelled → Bool
-is_profile (Profile number) = nat_eq number 1
+is_profile (Profile number) = nat_eq number 1 || nat_eq number 2
 is_profile _ = true
 
 -- why a line may not stand behind lines with these roles, the latest first

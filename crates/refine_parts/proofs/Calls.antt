@@ -6,7 +6,7 @@ use Rattle.std.proofs.lemmas.Bool.{false_from_ne_true}
 use Rattle.model_value.specs.Action.{Action}
 use Rattle.model_value.specs.Input.{Input}
 use Rattle.model_value.specs.Value.{Outcome, Value, Exc}
-use Rattle.model_loop.specs.Parts.{FutureKind, Plain, Many, Future, Task, Parts}
+use Rattle.model_loop.specs.Parts.{FutureKind, Plain, Many, Future, Task, Parts, Profile}
 use Rattle.model_loop.specs.Futures as plain
 use Rattle.model_loop.specs.Futures.{settle, register, mark_asked, make_future, new_plain, new_many, next_future}
 use Rattle.model_loop.specs.Tasks.{change_task, spawn, set_waiter, begin_step, pause, finish, uncancel}
@@ -63,9 +63,9 @@ keeps_by t v w p k call only numbered place release became =
     keeps_becomes t v w p (call p) k only (becomes_by t v w p k call place release became) numbered
 
 module _ (t : NameMap) (v w : View) (p : Parts) (k : Keeps t v p) where
-  pub keeps_uncancel : (task : ℕ) → Becomes v w (uncancel task (parts v)) → Keeps t w (uncancel task p)
-  keeps_uncancel task =
-      keeps_by t v w p k (uncancel task) (changes_task task _ p) (change_task_numbers task _ p k.numbered)
+  pub keeps_uncancel : (profile : Profile) (task : ℕ) → Becomes v w (uncancel profile task (parts v)) → Keeps t w (uncancel profile task p)
+  keeps_uncancel profile task =
+      keeps_by t v w p k (uncancel profile task) (changes_task task _ p) (change_task_numbers task _ p k.numbered)
       (change-placed task _) (change-release t.gone task _ p)
 
   pub kept_spawn : Becomes v w (spawn (parts v)) → Kept t p w (spawn p)

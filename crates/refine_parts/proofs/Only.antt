@@ -10,7 +10,7 @@ use Rattle.model_value.specs.declared.action.Action.TheVariants.{Step, StepInCyc
 use Rattle.model_value.specs.declared.outcome.Outcome.TheVariants.{Cancelled}
 use Rattle.model_value.specs.Input.{Input}
 use Rattle.model_value.specs.Value.{Outcome, Value, Exc}
-use Rattle.model_loop.specs.Parts.{FutureKind, OfTask, Future, Task, Parts}
+use Rattle.model_loop.specs.Parts.{FutureKind, OfTask, Future, Task, Parts, Profile}
 use Rattle.model_loop.specs.Handles.{soon, soon_all}
 use Rattle.model_loop.specs.Futures.{with_future, settle, register, mark_asked, make_future, next_future}
 use Rattle.model_loop.specs.Tasks.{change_task, spawn, next_task, set_waiter, clear_must_cancel, begin_step, finish, uncancel}
@@ -270,5 +270,5 @@ make_name_map t kind p = changes_name_map t p (make_future kind p) (changes_make
 pub begin_name_map : (t : NameMap) (p : Parts) (task : ℕ) (input : Input) → Extends p t (begin_step task input p).parts t
 begin_name_map t p task input = changes_name_map t p (begin_step task input p).parts (changes_begin task input p)
 
-pub uncancel_name_map : (t : NameMap) (p : Parts) (task : ℕ) → Extends p t (uncancel task p) t
-uncancel_name_map t p task = changes_name_map t p (uncancel task p) (changes_task task _ p)
+pub uncancel_name_map : (t : NameMap) (p : Parts) (profile : Profile) (task : ℕ) → Extends p t (uncancel profile task p) t
+uncancel_name_map t p profile task = changes_name_map t p (uncancel profile task p) (changes_task task _ p)

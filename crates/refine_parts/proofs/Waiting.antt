@@ -9,7 +9,7 @@ use Rattle.model_value.specs.declared.action.Action.TheVariants.{Wakeup}
 use Rattle.model_value.specs.declared.outcome.Outcome.TheVariants.{Cancelled}
 use Rattle.model_value.specs.Input.{Input}
 use Rattle.model_value.specs.Value.{Outcome, Value, Exc}
-use Rattle.model_loop.specs.Parts.{Task, Parts}
+use Rattle.model_loop.specs.Parts.{Task, Parts, Profile}
 use Rattle.model_loop.specs.Futures.{settle, register, next_future}
 use Rattle.model_loop.specs.Tasks.{waiter_of, change_task, spawn, set_waiter, clear_must_cancel, must_cancel_of, begin_step, finish, uncancel, future_of, lives}
 use Rattle.model_loop.specs.Cancel.{cancel}
@@ -47,8 +47,8 @@ before_settle id outcome p = before_same p (settle id outcome p) (settle-tasks i
 pub before_register : (id : ℕ) (action : Action) (p : Parts) → WaitedBefore p (register id action p)
 before_register id action p = before_same p (register id action p) (register-tasks id action p)
 
-pub before_uncancel : (task : ℕ) (p : Parts) → WaitedBefore p (uncancel task p)
-before_uncancel task p = before_change task _ p (λ it. refl)
+pub before_uncancel : (profile : Profile) (task : ℕ) (p : Parts) → WaitedBefore p (uncancel profile task p)
+before_uncancel profile task p = before_change task _ p (λ it. refl)
 
 pub before_spawn : (p : Parts) → WaitedBefore p (spawn p)
 before_spawn p = record {

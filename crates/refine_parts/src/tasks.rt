@@ -2,7 +2,7 @@
 ghost use Rattle.std.specs.Prelude.{◌≡◌, ℕ, Result, length};
 ghost use Rattle.model_value.specs.Input.{Input};
 ghost use Rattle.model_value.specs.Value.{Value, Exc};
-ghost use Rattle.model_loop.specs.Parts.{Parts};
+ghost use Rattle.model_loop.specs.Parts.{Parts, Profile};
 ghost use Rattle.model_loop.specs.Cycles.{cycle};
 ghost use Rattle.model_loop.specs.Suspend.{suspend};
 ghost use Rattle.model_loop.specs.Tasks.{spawn, begin_step, pause, finish, uncancel, cancelling, future_of, waiter_of, must_cancel_of, lives, next_task};
@@ -42,9 +42,11 @@ pub fn an_ended_step_is_kept()
 
 /// A cancel is taken back.
 pub fn an_uncancel_is_kept()
-    ensures after { (t : NameMap) (v w : View) (p : Parts) (task : ℕ) → Keeps t v p
-        → Becomes v w (uncancel task (parts v)) → Keeps t w (uncancel task p) }
-    ensures name_map { (t : NameMap) (p : Parts) (task : ℕ) → Extends p t (uncancel task p) t }
+    ensures after { (t : NameMap) (v w : View) (p : Parts) (profile : Profile) (task : ℕ)
+        → Keeps t v p → Becomes v w (uncancel profile task (parts v))
+        → Keeps t w (uncancel profile task p) }
+    ensures name_map { (t : NameMap) (p : Parts) (profile : Profile) (task : ℕ)
+        → Extends p t (uncancel profile task p) t }
 {}
 
 /// What tasks tell.

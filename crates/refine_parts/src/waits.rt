@@ -3,7 +3,7 @@ ghost use Rattle.std.specs.Prelude.{◌≡◌, ◌⊎◌, ℕ, List, Some, Resul
 ghost use Rattle.model_value.specs.Action.{Action};
 ghost use Rattle.model_value.specs.Input.{Input};
 ghost use Rattle.model_value.specs.Value.{Outcome, Value, Exc};
-ghost use Rattle.model_loop.specs.Parts.{Parts};
+ghost use Rattle.model_loop.specs.Parts.{Parts, Profile};
 ghost use Rattle.model_loop.specs.Cancel.{cancel};
 ghost use Rattle.model_loop.specs.Futures.{settle, register};
 ghost use Rattle.model_loop.specs.Ledger.{Origin, request_each};
@@ -22,7 +22,8 @@ pub fn nothing_new_is_waited_for()
         → WaitedBefore p (begin_step task input p).parts }
     ensures finish { (task : ℕ) (end : Result Value Exc) (p : Parts)
         → WaitedBefore p (finish task end p) }
-    ensures uncancel { (task : ℕ) (p : Parts) → WaitedBefore p (uncancel task p) }
+    ensures uncancel { (profile : Profile) (task : ℕ) (p : Parts)
+        → WaitedBefore p (uncancel profile task p) }
     ensures cancel { (id : ℕ) (p : Parts) → WaitedBefore p (cancel id p).parts }
     ensures each { (by : Origin) (tasks : List ℕ) (p : Parts)
         → WaitedBefore p (request_each by tasks p).parts }

@@ -159,7 +159,7 @@ module _ {X : Type 0} {a : Added X} (out : Option ℕ) (c : Context a) (old new 
       → Stands out c new (with_streams after t)
   stands_passed frame =
       stands_through out c old new s (had_on way) after h transports fewer events frame None (in_parts (changed_on changed way)) kept leaves
-      (spares_none s.loop.parts) (refl, refl) (ap length stays.below) (ap (λ (v : View). v.profile) stays.frame)
+      (spares_none s.loop.parts) (refl, (refl, refl)) (ap length stays.below) (ap (λ (v : View). v.profile) stays.frame)
 
   -- and so where a task then waits for a future that was made on the way
   pub stands_waiting : new ≡ record old { parts = new.parts; events = new.events; transports = new.transports } → (task on : ℕ) (v : View)
@@ -168,7 +168,7 @@ module _ {X : Type 0} {a : Added X} (out : Option ℕ) (c : Context a) (old new 
       stands_through out c old (record new { parts = v }) s (had_on way) after h transports fewer events
       (ap (λ (b : RunState X). record b { parts = v }) frame) (Some (task, on)) (λ l. book (suspend task on) (in_parts (changed_on changed way) l)) waited
       (leaves_on (Some (task, on)) s.loop.parts t.loop.parts (suspend task on t.loop.parts).parts leaves (leaves_suspend task on t.loop.parts))
-      (λ named. made_spares task on s.loop.parts named past) (refl, refl)
+      (λ named. made_spares task on s.loop.parts named past) (refl, (refl, refl))
       (below_appended new.parts.queue v.queue it.queue ∙ ap length stays.below)
       (ap (λ (x : View). x.profile) it.frame ∙ ap (λ (x : View). x.profile) stays.frame)
     where

@@ -11,8 +11,8 @@ use Rattle.model_loop.specs.Children.{told_more}
 use Rattle.model_loop.specs.Futures.{is_pending, new_plain, new_many, next_future, register, settle}
 use Rattle.model_loop.specs.Groups.{new_group, group_of, make_group, enter_group, create, child_done, exit_begin}
 use Rattle.model_loop.specs.Handles.{due, later}
-use Rattle.model_loop.specs.Ledger.{ByScript, ask_cancel, uncancel_by}
-use Rattle.model_loop.specs.Loop.{Group, Loop, book, in_parts}
+use Rattle.model_loop.specs.Ledger.{ByScript, ask_cancel}
+use Rattle.model_loop.specs.Loop.{Group, Loop, book, in_parts, take_one_back}
 use Rattle.model_loop.specs.Owning.{is_plain}
 use Rattle.model_loop.specs.Parts.{Handle}
 use Rattle.model_loop.specs.Sound.{IsSound}
@@ -48,7 +48,7 @@ module _ {running : Option ℕ} {told : ℕ → List ℕ} {l : Loop} (s : IsSoun
   pub asks : (by id : ℕ) → IsSound running told (book (ask_cancel (ByScript by) id) l)
   asks by id = step.request_step_sound running told (ByScript by) id l (record { timeout = λ k. refl; group = λ k. refl }) s
 
-  pub lowers : (by other : ℕ) → IsSound running told (book (uncancel_by (ByScript by) other) l)
+  pub lowers : (by other : ℕ) → IsSound running told (take_one_back (ByScript by) other l)
   lowers by other = step.uncancel_step_sound running told (ByScript by) other l (record { timeout = λ k. refl; group = λ k. refl }) s
 
   pub sleeps : (when other future : ℕ) → is_plain l.parts future ≡ true → IsSound running told (in_parts (later when (SleepDone other future)) l)

@@ -11,13 +11,14 @@ use Rattle.model_loop.specs.Balance.{asked_before_exit, lowers, raises}
 use Rattle.model_loop.specs.Groups.{group_of}
 use Rattle.model_loop.specs.Ledger.{ByScript, LedgerEntry, Raised}
 use Rattle.model_loop.specs.Parts.{OfTask, Task}
+use Rattle.model_loop.specs.Parts.{One}
 use Rattle.model_loop.specs.Sound.{IsSound}
 use Rattle.model_loop.specs.Tasks.{cancelling, change_task, must_cancel_of}
 use Rattle.model_loop.specs.Ways.{one_if}
 use Rattle.law_cancel.proofs.Counting.{change_task-kept}
 use Rattle.law_steps.proofs.Looks.{change_looks_same}
 use Rattle.law_groups.proofs.Holding.{looks_holds}
-use Rattle.law_sound.proofs.Beginning.{nobody, no_loop_sound as nothing}
+use Rattle.law_sound.proofs.Beginning.{nobody, no_loop, no_loop_sound}
 use Rattle.law_sound.proofs.Carrying.{change_carries}
 use Rattle.law_sound.proofs.Steps as step
 use Rattle.row_loop.specs.Cancels.{all_done, awaited_runs, chain, chain_cancelled, free_task, full_count, member_refused, member_runs, one_of_two}
@@ -25,6 +26,9 @@ use Rattle.row_loop.specs.Cancels.{one_of_two_cancelled, refused, twice_to_one, 
 use Rattle.row_loop.specs.Made.{free, parts_of, waiting}
 use Rattle.row_loop.specs.Standing.{PartsStand, bare}
 use Rattle.row_loop.proofs.Building.{asks, begins, below, many, plain, settles, task, waits}
+
+nothing : IsSound None nobody (no_loop One)
+nothing = no_loop_sound One
 
 -- task 0 awaits task 1, and that task 2, which waits
 awaits_two : IsSound None nobody (bare chain [])

@@ -1,10 +1,10 @@
--- A task group and its tasks. The group is group 0, and its parent is task 0.
+-- A task group and its tasks. The group is group 0, and its parent is task 0. The states are of profile 1.
 use Rattle.std.specs.Prelude.{ℕ, zero, suc, true, false, List, [], ◌∷◌, ◌++◌, Option, Some, None, codes}
 use Rattle.model_value.specs.declared.kind.Kind.TheVariants.{ExceptionGroup}
 use Rattle.model_value.specs.declared.outcome.Outcome.TheVariants.{Failed, Cancelled}
 use Rattle.model_value.specs.declared.action.Action.TheVariants.{Step, Wakeup, GroupDone}
 use Rattle.model_value.specs.Value.{Exc, exc, excs, exc_then, no_excs}
-use Rattle.model_loop.specs.Parts.{Plain, OfTask, Future, Task, Handle, Parts}
+use Rattle.model_loop.specs.Parts.{Plain, OfTask, One, Future, Task, Handle, Parts}
 use Rattle.model_loop.specs.Ledger.{LedgerEntry, Asked, Raised, Took, Began, ByScript, ByGroup, ByAbort}
 use Rattle.model_loop.specs.Loop.{Group, Loop}
 use Rattle.model_loop.specs.Tasks.{cancelled_error}
@@ -12,7 +12,7 @@ use Rattle.row_loop.specs.Made.{waiting, ended, cancelled, resolved, waits, wait
 use Rattle.row_loop.specs.Made.{type_error}
 
 abbrev pub loop_of : Parts → Group → List LedgerEntry → Loop
-loop_of parts group ledger = record { parts = parts; timeouts = []; groups = group ∷ []; ledger = ledger }
+loop_of parts group ledger = record { parts = parts; timeouts = []; groups = group ∷ []; ledger = ledger; profile = One }
 
 abbrev pub a : Exc
 a = value_error (codes "a")

@@ -2,7 +2,7 @@
 -- awaits task 1.
 use Rattle.std.specs.Prelude.{Bool, List, [], ◌∷◌}
 use Rattle.model_value.specs.declared.action.Action.TheVariants.{Wakeup}
-use Rattle.model_loop.specs.Parts.{Plain, OfTask, Parts}
+use Rattle.model_loop.specs.Parts.{Plain, OfTask, One, Parts}
 use Rattle.model_loop.specs.Ledger.{LedgerEntry, Asked, Raised, ByEnd, Requested}
 use Rattle.model_loop.specs.Loop.{Loop}
 use Rattle.row_loop.specs.Made.{waiting, cancelled, resolved, waits, waits_must_cancel, free, handle, parts_of}
@@ -21,6 +21,7 @@ main_done =
       timeouts = [];
       groups = [];
       ledger = [];
+      profile = One;
     }
 
 -- Task 1 is asked first. Task 2's request goes on to task 1, whose future 3 is done by then: it must cancel, and it is counted
@@ -35,4 +36,5 @@ all_cancelled =
       timeouts = [];
       groups = [];
       ledger = Asked ByEnd ∷ Raised 1 ByEnd ∷ Asked ByEnd ∷ Raised 2 ByEnd ∷ Raised 1 ByEnd ∷ [];
+      profile = One;
     }

@@ -1,7 +1,7 @@
--- Two timeouts of task 0, one in the other, with the same deadline. Times are in milliseconds.
+-- Two timeouts of task 0, one in the other, with the same deadline. Times are in milliseconds. The states are of profile 1.
 use Rattle.std.specs.Prelude.{ℕ, Bool, true, List, [], ◌∷◌, Option, Some, None}
 use Rattle.model_value.specs.declared.action.Action.TheVariants.{Wakeup, Fires}
-use Rattle.model_loop.specs.Parts.{Plain, OfTask, Handle, Timer, Parts}
+use Rattle.model_loop.specs.Parts.{Plain, OfTask, One, Handle, Timer, Parts}
 use Rattle.model_loop.specs.Ledger.{LedgerEntry, Asked, Raised, Took, ByScript, ByTimeout}
 use Rattle.model_loop.specs.Loop.{TimeoutState, Active, Expiring, Finished, Timeout, Loop}
 use Rattle.model_loop.specs.Timeouts.{Left}
@@ -11,7 +11,7 @@ abbrev pub timed : TimeoutState → Option ℕ → Timeout
 timed state tag = record { state = state; task = 0; stored = 0; tag = tag }
 
 abbrev pub loop_of : Parts → List Timeout → List LedgerEntry → Loop
-loop_of parts timeouts ledger = record { parts = parts; timeouts = timeouts; groups = []; ledger = ledger }
+loop_of parts timeouts ledger = record { parts = parts; timeouts = timeouts; groups = []; ledger = ledger; profile = One }
 
 -- task 0 runs at time 0
 abbrev pub before : Loop

@@ -1,4 +1,4 @@
-//! Task groups.
+//! Task groups, in profile 1.
 ghost use Rattle.std.specs.Prelude.{◌≡◌, [], ◌∷◌, true, Some, None, codes};
 ghost use Rattle.model_value.specs.declared.input.Input.TheVariants.{Send, Throw};
 ghost use Rattle.model_value.specs.Value.{Nothing};

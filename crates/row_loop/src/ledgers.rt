@@ -2,6 +2,7 @@
 ghost use Rattle.std.specs.Prelude.{◌≡◌, [], ◌∷◌, true, false};
 ghost use Rattle.model_loop.specs.Ending.{cancel_everything};
 ghost use Rattle.model_loop.specs.Ledger.{ByScript, ByTimeout, ByGroup, Asked, Raised, Took, request, uncancel_by};
+ghost use Rattle.model_loop.specs.Parts.{One};
 ghost use Rattle.row_loop.specs.Cancels.{chain, chain_cancelled, all_done, full_count, full_count_cancelled};
 ghost use Rattle.row_loop.specs.Steps.{running_must_cancel};
 ghost use Rattle.row_loop.specs.Ledgers.{main_done, all_cancelled, requested};
@@ -18,11 +19,11 @@ pub fn books_requests()
         ≡ requested true full_count_cancelled (Asked (ByGroup 0) ∷ []) }
 {}
 
-/// An `uncancel` is booked, with whether the count fell.
+/// An `uncancel` is booked, with whether the count fell; these are of profile 1.
 pub fn books_what_is_taken_back()
-    ensures lowers { uncancel_by (ByScript 0) 0 (running_must_cancel 2)
+    ensures lowers { uncancel_by One (ByScript 0) 0 (running_must_cancel 2)
         ≡ record { parts = running_must_cancel 1; entries = Took 0 (ByScript 0) true ∷ [] } }
-    ensures at_none { uncancel_by (ByTimeout 3) 0 (running_must_cancel 0)
+    ensures at_none { uncancel_by One (ByTimeout 3) 0 (running_must_cancel 0)
         ≡ record { parts = running_must_cancel 0; entries = Took 0 (ByTimeout 3) false ∷ [] } }
 {}
 

@@ -5,6 +5,7 @@
 pub mod cancels;
 pub mod groups;
 pub mod ledgers;
+pub mod profile_two;
 pub mod sound;
 pub mod steps;
 pub mod timeouts;

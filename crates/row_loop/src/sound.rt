@@ -1,6 +1,6 @@
 //! Each state in which rows begin is sound: the loop's own operations make it of one in which
 //! nothing was made. Only the count at its greatest is written with as many entries of the ledger
-//! beside it.
+//! beside it. The states are of profile 1 where none is named.
 ghost use Rattle.std.specs.Prelude.{◌++◌, [], ◌∷◌, Some, None};
 ghost use Rattle.model_value.specs.declared.action.Action.TheVariants.{Step};
 ghost use Rattle.model_loop.specs.Loop.{Expired, Expiring};
@@ -8,7 +8,9 @@ ghost use Rattle.row_loop.specs.Cancels.{chain, chain_cancelled, one_of_two, one
 ghost use Rattle.row_loop.specs.Family.{loop_of, unentered, in_block, parent_alone, parent_with_child, last_was_told, child_failed, parent_woken, both_failed, told_nothing, told_one, all_woken, cancelled_body, asked_before, three_children};
 ghost use Rattle.row_loop.specs.Ledgers.{main_done};
 ghost use Rattle.row_loop.specs.Nested.{before, both_due, outer_fired, stepping, both_asked, inner_took, alone_due, alone_left, alone_waiting, expiring_alone, expiring_and_asked, expiring_and_lowered};
-ghost use Rattle.row_loop.specs.Standing.{LoopStands, PartsStand};
+ghost use Rattle.row_loop.specs.ProfileTwo.{child_left, child_over, must_cancel_at_exit};
+ghost use Rattle.row_loop.specs.Standing.{LoopStands, PartsStand, PartsStandInBoth, under};
+ghost use Rattle.model_loop.specs.Parts.{Profile, Two};
 ghost use Rattle.row_loop.specs.Steps.{nothing_made, one_task, running, running_must_cancel, sleeping, woken_at_once, woken_and_must_cancel, paused, running_over_none, awaited, handled, handler_runs, three_timers, two_due};
 
 /// Requests are made in these.
@@ -81,4 +83,21 @@ pub fn groups_begin_in_sound_states()
     ensures cancelled_body { LoopStands (Some 0) (cancelled_body 1 []) }
     ensures asked_body { LoopStands (Some 0) (cancelled_body 2 asked_before) }
     ensures three_children { LoopStands (Some 0) three_children }
+{}
+
+/// Those of profile 2, and of both.
+pub fn profile_two_begins_in_sound_states()
+    ensures must_cancel_once { PartsStandInBoth (Some 0) (running_must_cancel 1) }
+    ensures must_cancel_twice { PartsStandInBoth (Some 0) (running_must_cancel 2) }
+    ensures with_child { LoopStands (Some 0)
+        (under Two (loop_of parent_with_child (in_block (1 ∷ [])) [])) }
+    ensures child_failed { LoopStands None (under Two child_failed) }
+    ensures parent_woken { LoopStands (Some 0) (under Two parent_woken) }
+    ensures cancelled_body { LoopStands (Some 0) (under Two (cancelled_body 1 [])) }
+    ensures asked_body { LoopStands (Some 0) (under Two (cancelled_body 2 asked_before)) }
+    ensures child_left { (profile : Profile) → LoopStands (Some 0) (under profile child_left) }
+    ensures child_over { LoopStands (Some 0) (child_over 1 9 []) }
+    ensures asked_child_over { LoopStands (Some 0) (child_over 2 12 asked_before) }
+    ensures at_exit { (profile : Profile)
+        → LoopStands (Some 0) (under profile must_cancel_at_exit) }
 {}

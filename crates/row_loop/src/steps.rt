@@ -8,6 +8,7 @@ ghost use Rattle.model_value.specs.declared.action.CycleKind.TheVariants.{Itself
 ghost use Rattle.model_value.specs.Value.{Nothing, Truth, exception_of};
 ghost use Rattle.model_loop.specs.Futures.{register};
 ghost use Rattle.model_loop.specs.Handles.{due, revoke};
+ghost use Rattle.model_loop.specs.Parts.{One};
 ghost use Rattle.model_loop.specs.Tasks.{spawn, pause, begin_step, cancelled_error, finish, uncancel, cancelling};
 ghost use Rattle.model_loop.specs.Cycles.{cycle, cycle_exception};
 ghost use Rattle.model_loop.specs.Ledger.{Asked, ByWait, unbooked};
@@ -86,10 +87,11 @@ pub fn hears_handlers()
         ≡ handler_ended (Returned (Truth true)) }
 {}
 
-/// `uncancel` lowers a positive count, and leaves must_cancel.
+/// `uncancel` lowers a positive count, and in profile 1 leaves must_cancel.
 pub fn uncancels()
-    ensures lowers { uncancel 0 (running_must_cancel 2) ≡ running_must_cancel 1 }
-    ensures at_none { uncancel 0 (running_must_cancel 0) ≡ running_must_cancel 0 }
+    ensures lowers { uncancel One 0 (running_must_cancel 2) ≡ running_must_cancel 1 }
+    ensures last { uncancel One 0 (running_must_cancel 1) ≡ running_must_cancel 0 }
+    ensures at_none { uncancel One 0 (running_must_cancel 0) ≡ running_must_cancel 0 }
     ensures count { cancelling (running_must_cancel 2) 0 ≡ 2 }
 {}
 

@@ -1,4 +1,4 @@
-//! Timeouts.
+//! Timeouts, in profile 1.
 ghost use Rattle.std.specs.Prelude.{◌≡◌, ◌++◌, [], ◌∷◌, true, false, Some, None, pos, negsuc, codes};
 ghost use Rattle.model_value.specs.declared.kind.Kind.TheVariants.{RuntimeError};
 ghost use Rattle.model_value.specs.declared.action.Action.TheVariants.{Wakeup};

@@ -50,4 +50,5 @@ whole =
     ∷ "def f(a, b)" ∷ "end" ∷ "def h(c)" ∷ "end" ∷ [])
     ∷ spells ("def main()" ∷ "print \"a\\x0a\\\"\\\\\\x7f\", b\"\\xFF\\t\\x00~\", 007, None" ∷ "end" ∷ [])
     ("def main()" ∷ "  print \"a\\n\\\"\\\\\\x7f\", b\"\\xff\\t\\x00~\", 7, None" ∷ "end" ∷ [])
+    ∷ spells ("" ∷ " profile  002 # the other" ∷ "def main()" ∷ "yield" ∷ "end" ∷ []) ("profile 2" ∷ "def main()" ∷ "  yield" ∷ "end" ∷ [])
     ∷ []

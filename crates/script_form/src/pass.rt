@@ -118,7 +118,7 @@ fn is_profile(form: &Spelled) -> bool
     ensures { result ≡ is_profile (plain_spelled form.now) }
 {
     match form {
-        Spelled::Profile(number) => *number == 1,
+        Spelled::Profile(number) => *number == 1 || *number == 2,
         _ => true,
     }
 }

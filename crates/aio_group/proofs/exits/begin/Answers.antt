@@ -1,5 +1,7 @@
 use Rattle.std.proofs.Common.{subst, sym}
-use Rattle.model_loop.specs.Groups.{begin_exit, take_back, abort_if_raised}
+use Rattle.model_loop.specs.Groups.{at_begin, begin_exit, abort_if_raised}
+use Rattle.model_loop.specs.Parts.{profile_named}
+use Rattle.aio_group.specs.Exits.{taken_back}
 use Rattle.aio_group.specs.Stands.{GroupSteps}
 use Rattle.aio_group.proofs.Going.{then_moves}
 use Rattle.aio_group.proofs.Standing.{then_steps}
@@ -24,8 +26,12 @@ returns-clause-steps c =
     let v = c.args.parts.now in
     let w = c.take_back.new.parts in
     let raised = c.args.raised in
+    let profile = profile_named v.profile in
     let first : GroupSteps a v b v (begin_exit raised) =
     subst (λ h. GroupSteps a v h v (begin_exit raised)) (sym c.set_exiting.ensures) (begin_steps a v raised) in
-    then_steps a d c.abort_if.new.group v w c.abort_if.new.parts (λ id l. take_back id (begin_exit raised id l)) (abort_if_raised raised)
-    (then_steps a b d v v w (begin_exit raised) take_back first c.take_back.ensures.steps)
+    let taken : GroupSteps b v d w (taken_back profile (at_begin profile)) =
+    subst (λ now. GroupSteps b v d w (taken_back profile now)) c.is_taken_back_last-now.ensures.begin c.take_back.ensures.steps in
+    then_steps a d c.abort_if.new.group v w c.abort_if.new.parts (λ id l. taken_back profile (at_begin profile) id (begin_exit raised id l))
+    (abort_if_raised raised)
+    (then_steps a b d v v w (begin_exit raised) (taken_back profile (at_begin profile)) first taken)
     (c.abort_if.ensures.steps raised c.is_some-failed.ensures)

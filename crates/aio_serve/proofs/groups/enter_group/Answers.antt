@@ -48,7 +48,7 @@ returns g c at s h =
     } in
     answers_so task at (record body { groups = groups }) (in_loop change s) _ _ (Group (next_group s.loop))
     (ap Answers (c.group.ensures ∙ ap Group number)) (one_grouped g.X.Extra.added.meaning task s few) (record {
-      stands = stands_stepped (Some task) at body s body.parts groups change in_step.stands came (step_same s.loop (change s.loop) refl refl) refl;
+      stands = stands_stepped (Some task) at body s body.parts groups change in_step.stands came (step_same s.loop (change s.loop) refl refl refl) refl;
       called = in_step.called;
       running = in_step.running;
     })

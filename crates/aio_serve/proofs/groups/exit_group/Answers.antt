@@ -51,7 +51,7 @@ go_on-requires g c =
       pending = λ future e. ∥∥₁_elim may (hlevel props) (λ w.
           let s = w.1.0 in
           let stands = w.1.1.in_step.stands in
-          let came = c.in_ok-exit.ensures.stands stands.name_map s.loop (groups_stand (Some task) w.0 body s stands) in
+          let came = c.in_ok-exit.ensures.stands stands.name_map s.loop (groups_stand (Some task) w.0 body s stands) stands.profile.rules in
           exit_pends stands.name_map s.loop c.exit_begin.new.self c.exit_begin.new.parts (exit_begin c.args.fault c.in-Some.id s.loop) came.0
           (begins_freshly c.args.fault c.in-Some.id s.loop) c.in_ok-exit.exit future came.1 e);
     }
@@ -64,7 +64,7 @@ returns g c at s h =
     let fault = c.args.fault in
     let mid = record body { parts = c.exit_begin.new.parts; groups = c.exit_begin.new.self } in
     let in_step = h.going.in_step in
-    let came = c.in_ok-exit.ensures.stands in_step.stands.name_map s.loop (groups_stand (Some task) at body s in_step.stands) in
+    let came = c.in_ok-exit.ensures.stands in_step.stands.name_map s.loop (groups_stand (Some task) at body s in_step.stands) in_step.stands.profile.rules in
     subst (Says task at c.go_on.new.body c.go_on.result)
     (sym (exit_means g.X.Extra.added.meaning task s c.args.group.now fault id (sym c.as_group.ensures ∙ c.in-Some.is)))
     (exits_so task id at body mid c.go_on.new.body s (exit_begin fault id s.loop) in_step (within_going task at body s h.going) c.exit_begin.ensures.moves refl

@@ -33,7 +33,7 @@ go_on-requires g c =
       pending = λ future e. ∥∥₁_elim c.requires (hlevel props) (λ w.
           let s = w.1.0 in
           let stands = w.1.1.in_step.stands in
-          let came = c.in_ok-exit.ensures.stands stands.name_map s.loop (groups_stand (Some task) w.0 body s stands) in
+          let came = c.in_ok-exit.ensures.stands stands.name_map s.loop (groups_stand (Some task) w.0 body s stands) stands.profile.rules in
           exit_pends stands.name_map s.loop c.exit_woken.new.self c.exit_woken.new.parts (exit_woken c.args.input group s.loop) came.0
           (woken_freshly c.args.input group s.loop) c.in_ok-exit.exit future came.1 e);
     }
@@ -45,7 +45,8 @@ returns g c at s h =
     let body = c.args.body.now in
     let input = c.args.input in
     let mid = record body { parts = c.exit_woken.new.parts; groups = c.exit_woken.new.self } in
-    let came = c.in_ok-exit.ensures.stands h.in_step.stands.name_map s.loop (groups_stand (Some task) at body s h.in_step.stands) in
+    let came = c.in_ok-exit.ensures.stands h.in_step.stands.name_map s.loop (groups_stand (Some task) at body s h.in_step.stands)
+    h.in_step.stands.profile.rules in
     exits_so task group at body mid c.go_on.new.body s (exit_woken input group s.loop) h.in_step
     (within_deciding task (Leaving group) at body s h) c.exit_woken.ensures.moves refl came.0
     (exit_woken_leaves input group s.loop (own_there s.loop.parts h.asked.others.loop.parts.owns)) (woken_freshly input group s.loop)

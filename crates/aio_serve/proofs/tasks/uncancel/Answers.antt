@@ -3,8 +3,8 @@ use Rattle.std.proofs.lemmas.Result.{IfOk-weaker}
 use Rattle.model_value.specs.Value.{Int}
 use Rattle.model_says.specs.Requests.{bad_argument}
 use Rattle.model_loop.specs.Tasks.{cancelling}
-use Rattle.model_loop.specs.Ledger.{ByScript, uncancel_by}
-use Rattle.model_loop.specs.Loop.{book}
+use Rattle.model_loop.specs.Ledger.{ByScript}
+use Rattle.model_loop.specs.Loop.{take_one_back}
 use Rattle.model_machine.specs.State.{in_loop}
 use Rattle.aio_body.proofs.May.{idle_some}
 use Rattle.aio_body.specs.declared.reply.RequestReply.TheVariants.{Answers}
@@ -28,7 +28,7 @@ returns-in-Some g c task at s h =
     let body = c.args.body.now in
     let other = c.in-Some.task in
     let v = c.uncancel.new.self in
-    let now = in_loop (book (uncancel_by (ByScript task) other)) s in
+    let now = in_loop (take_one_back (ByScript task) other) s in
     let stands = uncancels_so (ByScript task) task other at body s v h.going.in_step c.uncancel.ensures.after c.uncancel.ensures.frame in
     answers_so task at (record body { parts = v }) now _ _ (Int (pos (cancelling now.loop.parts other)))
     (c.number.ensures

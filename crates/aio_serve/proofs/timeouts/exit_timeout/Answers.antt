@@ -50,10 +50,10 @@ returns g c at s h =
     let after = record body { parts = c.exit-exit.new.parts; timeouts = c.exit-exit.new.self } in
     let now = with_loop (exit_timeout raised id s.loop).loop s in
     let on = goes_timed task at body s c.exit-exit.new.parts c.exit-exit.new.self (exit_timeout raised id s.loop).loop in_step
-    (c.exit-exit.ensures.after in_step.stands.name_map s.loop keeps)
+    (c.exit-exit.ensures.after in_step.stands.name_map s.loop keeps in_step.stands.profile.rules)
     (leaves_exit raised id s.loop) (exit_groups raised id s.loop) c.exit-exit.ensures.below c.exit-exit.ensures.step in
     let machine = reply g.X.Extra.added.meaning task (request.TimeoutExit c.args.timeout.now raised) s in
     subst (λ (said : RequestReply). Says task at after said machine) (sym c.left.ensures)
     (subst (Says task at after (left_as c.exit-exit.result)) (sym (exit_goes g.X.Extra.added.meaning task s c.args.timeout.now raised id named))
     (left_so task at after now on c.exit-exit.result (exit_timeout raised id s.loop).timed_out
-    (c.exit-exit.ensures.answer in_step.stands.name_map s.loop keeps)))
+    (c.exit-exit.ensures.answer in_step.stands.name_map s.loop keeps in_step.stands.profile.rules)))

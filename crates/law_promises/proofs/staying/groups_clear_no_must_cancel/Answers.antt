@@ -1,4 +1,5 @@
-use Rattle.law_promises.proofs.MustCancelStays.{child_done_keeps, create_keeps, exit_begin_keeps, exit_woken_keeps}
+use Rattle.law_promises.proofs.MustCancelStays.{child_done_keeps, create_keeps}
+use Rattle.law_promises.proofs.TakingBack.{exit_begin_keeps, exit_woken_keeps}
 use Rattle.law_promises.proofs.staying.groups_clear_no_must_cancel.Goals as goal
 
 pub returns-clause-create : goal.returns-clause-create

@@ -1,4 +1,5 @@
-use Rattle.law_promises.proofs.MustCancelStays.{enter_keeps, exit_keeps, fire_keeps, reschedule_keeps}
+use Rattle.law_promises.proofs.MustCancelStays.{enter_keeps, fire_keeps, reschedule_keeps}
+use Rattle.law_promises.proofs.TakingBack.{exit_keeps}
 use Rattle.law_promises.proofs.staying.timeouts_clear_no_must_cancel.Goals as goal
 
 pub returns-clause-enter : goal.returns-clause-enter

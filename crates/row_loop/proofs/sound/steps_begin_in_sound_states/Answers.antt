@@ -1,3 +1,4 @@
+use Rattle.model_loop.specs.Parts.{One}
 use Rattle.row_loop.proofs.StepStates.{awaited_stands, handled_stands, handler_runs_stands, main_done_stands, nothing_made_stands, one_task_stands}
 use Rattle.row_loop.proofs.StepStates.{paused_stands, running_must_cancel_never, running_must_cancel_once, running_must_cancel_twice, running_over_none_stands}
 use Rattle.row_loop.proofs.StepStates.{running_stands, sleeping_stands, three_timers_stands, two_due_stands, woken_and_must_cancel_stands, woken_at_once_stands}
@@ -13,10 +14,10 @@ pub returns-clause-running : goal.returns-clause-running
 returns-clause-running c = running_stands
 
 pub returns-clause-must_cancel_once : goal.returns-clause-must_cancel_once
-returns-clause-must_cancel_once c = running_must_cancel_once
+returns-clause-must_cancel_once c = running_must_cancel_once One
 
 pub returns-clause-must_cancel_twice : goal.returns-clause-must_cancel_twice
-returns-clause-must_cancel_twice c = running_must_cancel_twice
+returns-clause-must_cancel_twice c = running_must_cancel_twice One
 
 pub returns-clause-must_cancel_uncounted : goal.returns-clause-must_cancel_uncounted
 returns-clause-must_cancel_uncounted c = running_must_cancel_never

@@ -1,4 +1,5 @@
 use Rattle.std.proofs.Common.{◌≡◌, ◌<◌, ◌&&◌, Bool, true, false, List, length, nat_le, slice_set, sym, ap, subst, ◌∙◌}
+use Rattle.model_loop.specs.Parts.{profile_named}
 use Rattle.model_loop.specs.Timeouts.{exit_timeout}
 use Rattle.aio_timeout.specs.declared.timeout.Timeout.{Timeout}
 use Rattle.aio_timeout.specs.States.{is_expiring, state_of}
@@ -7,7 +8,7 @@ use Rattle.aio_timeout.proofs.Keeping.{expired, expired_says, finished, finished
 use Rattle.aio_timeout.proofs.timeouts.Timeouts.exit.Goals as goal
 
 pub returns-then-not-expiring-clause-answer : goal.returns-then-not-expiring-clause-answer
-returns-then-not-expiring-clause-answer c = λ t l keeps.
+returns-then-not-expiring-clause-answer c = λ t l keeps ruled.
     let items = c.self.inside.items.items in
     let v = c.args.parts.now in
     let early : is_expiring (state_of c.index-left.result.now.state) ≡ false = sym c.is_expiring-expiring.ensures ∙ c.if-not-expiring.true in
@@ -17,7 +18,7 @@ returns-then-not-expiring-clause-answer c = λ t l keeps.
     c.args.raised c.give_up.new.parts c.give_up.ensures.after early)
 
 pub returns-then-not-expiring-clause-after : goal.returns-then-not-expiring-clause-after
-returns-then-not-expiring-clause-after c = λ t l keeps.
+returns-then-not-expiring-clause-after c = λ t l keeps ruled.
     let items = c.self.inside.items.items in
     let v = c.args.parts.now in
     let early : is_expiring (state_of c.index-left.result.now.state) ≡ false = sym c.is_expiring-expiring.ensures ∙ c.if-not-expiring.true in
@@ -33,7 +34,7 @@ returns-then-not-expiring-clause-given_up c =
     given_up_at c.self.inside.items.items c.args.id c.ended.result (ap (λ (it : Timeout). it.handler) c.ended.ensures)
 
 pub returns-clause-answer : goal.returns-clause-answer
-returns-clause-answer c = λ t l keeps.
+returns-clause-answer c = λ t l keeps ruled.
     let items = c.self.inside.items.items in
     let v = c.args.parts.now in
     let count = c.take_back-count.result in
@@ -43,11 +44,12 @@ returns-clause-answer c = λ t l keeps.
     ∙ expired_says t l items v c.args.id c.index-left.result.now
     (subst (λ (its : List Timeout). KeepsTimeouts t its v l) (sym c.self.view_is) keeps)
     (subst (λ (its : List Timeout). c.args.id < length its) (sym c.self.view_is) c.requires.live) c.index-left.ensures
-    c.args.raised c.give_up.new.parts c.give_up.ensures.after late c.take_back-count.new.parts c.take_back-count.ensures.after
+    c.args.raised c.give_up.new.parts c.give_up.ensures.after late (profile_named c.give_up.new.parts.profile)
+    (ruled ∙ ap profile_named (sym c.give_up.ensures.step.profile)) c.take_back-count.new.parts c.take_back-count.ensures.after
     count c.take_back-count.ensures.answer
 
 pub returns-clause-after : goal.returns-clause-after
-returns-clause-after c = λ t l keeps.
+returns-clause-after c = λ t l keeps ruled.
     let items = c.self.inside.items.items in
     let v = c.args.parts.now in
     let late : is_expiring (state_of c.index-left.result.now.state) ≡ true = sym c.is_expiring-expiring.ensures ∙ c.if-not-expiring.false in
@@ -56,7 +58,8 @@ returns-clause-after c = λ t l keeps.
     (expired t l items v c.args.id c.index-left.result.now
     (subst (λ (its : List Timeout). KeepsTimeouts t its v l) (sym c.self.view_is) keeps)
     (subst (λ (its : List Timeout). c.args.id < length its) (sym c.self.view_is) c.requires.live) c.index-left.ensures
-    c.args.raised c.give_up.new.parts c.give_up.ensures.after late c.take_back-count.new.parts c.take_back-count.ensures.after)
+    c.args.raised c.give_up.new.parts c.give_up.ensures.after late (profile_named c.give_up.new.parts.profile)
+    (ruled ∙ ap profile_named (sym c.give_up.ensures.step.profile)) c.take_back-count.new.parts c.take_back-count.ensures.after)
 
 pub returns-clause-given_up : goal.returns-clause-given_up
 returns-clause-given_up c =
