@@ -3,7 +3,7 @@
 ghost use Rattle.std.specs.Prelude.{ℕ, List};
 ghost use Rattle.model_tree.specs.Syntax.{Program};
 ghost use Rattle.model_wire.specs.Journal.{Entry};
-ghost use Rattle.model_machine.specs.Extra.{Extra, no_extra};
+ghost use Rattle.model_machine.specs.Extra.{Extra, NamesNothing, no_extra};
 ghost use Rattle.model_machine.specs.State.{start};
 ghost use Rattle.law_replies.specs.Added.{KeepsSound};
 ghost use Rattle.law_promises.specs.Taken.{HasRightLedgers};
@@ -16,5 +16,6 @@ pub fn what_is_taken_back_was_there<S>()
         → HasRightLedgers no_extra turns (start most tt program answers) }
     ensures added { (added : Extra S) → KeepsSound added
         → (most : ℕ) (state : S) (program : Program) (answers : List Entry) (turns : ℕ)
+        → NamesNothing (added.keeps state)
         → HasRightLedgers added turns (start most state program answers) }
 {}

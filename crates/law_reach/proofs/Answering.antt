@@ -28,7 +28,8 @@ use Rattle.law_changes.proofs.Folds.{one, on}
 use Rattle.law_cases.specs.Cases.{Replies, raises, leaves_none, exits_none, tells, names_itself, hands_on, pauses_on, alarms, awaits, prints, makes, sets}
 use Rattle.law_cases.specs.Cases.{fails, cancels, uncancels, spawns_it, enters}
 use Rattle.law_cases.specs.Cases.{leaves, moves, enters_one, exits, creates_it, serves_it}
-use Rattle.law_reach.specs.Changes.{OfLoop, Says, MakesCoroutine, SetsResumePoint, NamesFuture, ChangesExtra}
+use Rattle.law_reach.specs.Changes.{OfLoop, Says, MakesCoroutine, SetsResumePoint, NamesFuture, ChangesExtra, ExtraCause, ByAsk, ByWake}
+use Rattle.law_reach.specs.Changes.{IsCauseOf, call_by}
 use Rattle.law_reach.specs.Reaches.{ComesTo, InAnswer}
 use Rattle.law_reach.proofs.Rows.{asks-said}
 use Rattle.law_reach.proofs.Trees.{ask_comes, comes_after}
@@ -40,8 +41,12 @@ pub in_loop_row : {S : Type 0} (added : Extra S) {r : Option ℕ} {l m : Loop} (
 in_loop_row added s stays = stays
 in_loop_row added s (goes row change may) = goes (in_loop_row added s row) (OfLoop change) may
 
-pub called_row : {S : Type 0} (added : Extra S) (r : Option ℕ) (call : ExtraCall S) (s : State S) → InAnswer added r s (called call s)
-called_row added r call s = on (one (ChangesExtra call.state) tt) (in_loop_row added (record s { extra = call.state }) (all_row r call.steps s.loop))
+pub called_row : {S : Type 0} (added : Extra S) (r : Option ℕ) (cause : ExtraCause) → IsCauseOf r cause → (s : State S)
+    → InAnswer added r s (called (call_by added cause s) s)
+called_row added r cause by s =
+    let call = call_by added cause s in
+    on (one (ChangesExtra call.state) (record { cause = cause; by = by; is = refl }))
+    (in_loop_row added (record s { extra = call.state }) (all_row r call.steps s.loop))
 
 module _ {S : Type 0} (added : Extra S) (task : ℕ) where
   abbrev Row : State S → State S → Type 0
@@ -96,14 +101,16 @@ module _ {S : Type 0} (added : Extra S) (task : ℕ) where
       ask_comes added (Some task) (call.Extra code bytes) (λ said. wake key (input_by said)) s (λ closed nothing. asks refl nothing) refl
       (λ said t same. wakes key (input_by said) t)
 
-  serves_comes : (said : ExtraSaid S) (wake : Wake S) (s : State S) → WakeComes wake → AsksBy said.answer → Comes s (serves said wake task s)
-  serves_comes said wake s wakes asks =
-      comes_after added (Some task) (called_row added (Some task) said.call s) refl (as_comes said.answer wake (called said.call s) wakes asks)
+  serves_comes : (said : ExtraSaid S) (wake : Wake S) (s : State S) → Row s (called said.call s) → WakeComes wake → AsksBy said.answer
+      → Comes s (serves said wake task s)
+  serves_comes said wake s row wakes asks =
+      comes_after added (Some task) row refl (as_comes said.answer wake (called said.call s) wakes asks)
 
 module _ {S : Type 0} (added : Extra S) (task : ℕ) where
   within_comes : (wakes : ℕ) → WakeComes added task (woken_within added wakes task)
   within_comes zero key input s = record { reaches = stays; ends = inl tt; asks = omega arith }
-  within_comes (suc wakes) key input s = serves_comes added task (added.wake key input s) (woken_within added wakes task) s (within_comes wakes)
+  within_comes (suc wakes) key input s = serves_comes added task (added.wake key input s) (woken_within added wakes task) s
+      (called_row added (Some task) (ByWake task key input) refl s) (within_comes wakes)
       (λ is nothing. false≢true (sym (nothing.wake key input s) ∙ is))
 
   pub woken_comes : WakeComes added task (woken added task)
@@ -157,5 +164,5 @@ module _ {S : Type 0} (added : Extra S) (task : ℕ) where
     asks = refl;
   }
   case_comes s (serves_it code arguments number items) =
-      serves_comes added task (added.ask task number items s) (woken added task) s woken_comes
+      serves_comes added task (added.ask task number items s) (woken added task) s (called_row added (Some task) (ByAsk task number items) refl s) woken_comes
       (λ is nothing. false≢true (sym (nothing.ask task number items s) ∙ is))

@@ -48,7 +48,7 @@ module _ {S : Type 0} (added : Extra S) where
   turn_may r (Resumes fresh task input) s may = tt
   turn_may r (NamesFuture future) s may = tt
   turn_may r EndsMain s may = tt
-  turn_may r (ChangesExtra extra) s may = tt
+  turn_may r (ChangesExtra extra) s may = (r, may)
   turn_may r (ChangesStreams streams) s may = may
   turn_may r (Runs it) s may = tt
   turn_may r (Hears call answer left) s may = may

@@ -32,7 +32,7 @@ use Rattle.law_changes.proofs.Folds.{one, on}
 use Rattle.law_cases.specs.Trees.{Keeping, KeepsStreams, is_of_streams}
 use Rattle.law_cases.proofs.Asking.{closes}
 use Rattle.law_cases.proofs.Opening.{acts}
-use Rattle.law_reach.specs.Changes.{ChangesStreams, EndsMain, IsOpen, MakesCoroutine, OfLoop, Resumes, Runs, SetsResumePoint, runner_of}
+use Rattle.law_reach.specs.Changes.{ByAct, ByItem, ChangesStreams, EndsMain, IsOpen, MakesCoroutine, OfLoop, Resumes, Runs, SetsResumePoint, runner_of}
 use Rattle.law_reach.specs.Reaches.{ComesTo, GoesTo, InCallback}
 use Rattle.law_reach.proofs.Answering.{called_row, in_loop_row}
 use Rattle.law_cases.proofs.Closed.{effect_none}
@@ -157,11 +157,11 @@ module _ {S : Type 0} (limit : ℕ) (added : Extra S) where
   effect_goes (action.Fires timeout) s = record { reaches = in_answer added (in_loop_row added s (fire_row None timeout s.loop)); ends = tt; asks = refl }
   effect_goes action.MainDone s = record { reaches = one EndsMain tt; ends = tt; asks = refl }
   effect_goes (action.ExtraItem code bytes) s = record {
-    reaches = in_answer added (called_row added None (added.item code bytes s) s);
+    reaches = in_answer added (called_row added None (ByItem code bytes) refl s);
     ends = tt;
     asks = refl;
   }
-  effect_goes (action.Extra key) s = record { reaches = in_answer added (called_row added None (added.act key s) s); ends = tt; asks = refl }
+  effect_goes (action.Extra key) s = record { reaches = in_answer added (called_row added None (ByAct key) refl s); ends = tt; asks = refl }
   effect_goes (action.Made conn) s = opened_if (action.Made conn) s refl (made_goes (handler_of conn s.streams) conn s)
   effect_goes (action.StartRead conn) s = opened_if (action.StartRead conn) s refl (acts_goes (action.StartRead conn) true s)
   effect_goes (action.Lost conn broken) s = opened_if (action.Lost conn broken) s refl (acts_goes (action.Lost conn broken) true s)

@@ -1,5 +1,5 @@
 -- Small changes of the machine's state. Whatever the machine does is a row of them.
-use Rattle.std.specs.Prelude.{◌≡◌, ℕ, Bool, true, false, List, [], ◌∷◌, ◌++◌, Option, Some, None}
+use Rattle.std.specs.Prelude.{◌≡◌, ℕ, ℤ, Bool, true, false, List, [], ◌∷◌, ◌++◌, Option, Some, None}
 use Rattle.model_value.specs.Action.{Action}
 use Rattle.model_value.specs.declared.action.Action.TheVariants as action
 use Rattle.model_value.specs.Input.{Input}
@@ -8,7 +8,7 @@ use Rattle.model_wire.specs.declared.event.Event.TheVariants as event
 use Rattle.model_wire.specs.Call.{Answer, Call}
 use Rattle.model_wire.specs.Journal.{Entry, Answered}
 use Rattle.model_stream.specs.Streams.{Streams}
-use Rattle.model_machine.specs.Extra.{AsksNothing, Extra}
+use Rattle.model_machine.specs.Extra.{AsksNothing, Extra, ExtraCall}
 use Rattle.model_machine.specs.Sound.{IsClosed}
 use Rattle.model_machine.specs.State.{ResumePoint, State, in_loop, noted, resumed, stands, with_coroutine, with_streams}
 use Rattle.law_changes.specs.Changes.{LoopChange, MayInLoop, made_of_loop}
@@ -65,6 +65,36 @@ pub record IsUnheard {S : Type 0} (added : Extra S) (call : Call) (s : State S) 
   pub may_ask : MayAsk added s
   pub other : is_select call ≡ false
 
+-- ---- calls of what is added
+pub data ExtraCause : Type 0 where
+  -- a task asks
+  ByAsk : (task : ℕ) (code : ℤ) (arguments : List Value) → ExtraCause
+  -- a task's request is woken
+  ByWake : (task key : ℕ) (input : Input) → ExtraCause
+  -- a handle of its own runs
+  ByAct : (key : ℕ) → ExtraCause
+  -- there are news of the outside
+  ByItem : (code : ℤ) (bytes : List ℕ) → ExtraCause
+
+abbrev pub call_by : {S : Type 0} → Extra S → ExtraCause → State S → ExtraCall S
+call_by added (ByAsk task code arguments) s = (added.ask task code arguments s).call
+call_by added (ByWake task key input) s = (added.wake key input s).call
+call_by added (ByAct key) s = added.act key s
+call_by added (ByItem code bytes) s = added.item code bytes s
+
+-- requests are a task's in its own step, and handles and news run in no task's
+abbrev pub IsCauseOf : (runner : Option ℕ) → ExtraCause → Type 0
+IsCauseOf runner (ByAsk task code arguments) = runner ≡ Some task
+IsCauseOf runner (ByWake task key input) = runner ≡ Some task
+IsCauseOf runner (ByAct key) = runner ≡ None
+IsCauseOf runner (ByItem code bytes) = runner ≡ None
+
+-- what it keeps is changed by a call of it alone
+pub record IsCaused {S : Type 0} (added : Extra S) (runner : Option ℕ) (extra : S) (s : State S) : Type 0 where
+  pub cause : ExtraCause
+  pub by : IsCauseOf runner cause
+  pub is : extra ≡ (call_by added cause s).state
+
 -- What may change while a request is answered: no coroutine is resumed then. A task speaks in its own step alone.
 abbrev pub MayInAnswer : {S : Type 0} → Extra S → (runner : Option ℕ) → StateChange S → State S → Type 0
 MayInAnswer added runner (OfLoop change) s = MayInLoop runner change s.loop
@@ -72,6 +102,7 @@ MayInAnswer added runner (Says task text) s = runner ≡ Some task
 MayInAnswer added runner (SetsResumePoint resume_point task) s = runner ≡ Some task
 MayInAnswer added runner (Resumes fresh task input) s = ⊥
 MayInAnswer added runner EndsMain s = ⊥
+MayInAnswer added runner (ChangesExtra extra) s = IsCaused added runner extra s
 MayInAnswer added runner (ChangesStreams streams) s = IsOpen s
 MayInAnswer added runner (Runs it) s = ⊥
 MayInAnswer added runner (Hears call answer left) s = IsHeard added call answer left s
@@ -94,6 +125,7 @@ MayInCallback added runner change s = MayInAnswer added runner change s
 
 -- what may change in a turn, once its select was answered
 abbrev pub MayInTurn : {S : Type 0} → Extra S → StateChange S → State S → Type 0
+MayInTurn added (ChangesExtra extra) s = (runner : Option ℕ) × IsCaused added runner extra s
 MayInTurn added (ChangesStreams streams) s = IsOpen s
 MayInTurn added (Hears call answer left) s = IsHeard added call answer left s
 MayInTurn added (Calls call) s = IsUnheard added call s

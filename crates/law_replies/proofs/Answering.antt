@@ -27,7 +27,7 @@ use Rattle.law_turns.specs.Replied.{RunsSound, HasPlainFutures}
 use Rattle.law_turns.specs.SoundState.{HasSoundLoop}
 use Rattle.law_says.specs.Given.{InSaying}
 use Rattle.law_turns.specs.After.{IsAfter, IsLoopAfter}
-use Rattle.law_replies.specs.InStep.{IsStepSound, IsAsked, SameTapes}
+use Rattle.law_replies.specs.InStep.{IsStepSound, IsAsked, MayStandAt, SameTapes}
 use Rattle.law_replies.proofs.Blocks.{open_kept}
 use Rattle.law_replies.proofs.Counts.{get_there, and_first, and_second, and_both, lives_within, own_there, lives_before, of_plain}
 use Rattle.law_replies.proofs.Given.{Made, said_made, made_task, asked_sleeps, asked_leaves}
@@ -161,16 +161,17 @@ module _ {S : Type 0} (added : Extra S) (task : ℕ) (stood : ResumePoint) (aske
         (λ id e mine. absurd (still id (is.exits id (left_before s t _ _ (Some task) None None None a id refl refl e) (mine ∙ (a.groups id).parent))))
 
     -- ---- the step ends, and the task stands at its request, with these streams
-    stood_from : (streams : Streams) (resume_point : ResumePoint) (begun : Option ℕ)
+    stood_from : (streams : Streams) (resume_point : ResumePoint) → MayStandAt (added.keeps t.extra).has_key t.generators resume_point
+        → (begun : Option ℕ)
         → IsLoopAfter (names_made (next_task s.loop.parts)) false (Some task) None None begun s.loop t.loop
         → IsApart None (Some task) added (with_streams streams t) → ((generator_of task s).tape ≡ [] → ⊥) → stands_at resume_point asked ≡ true
         → StandsRightly (stands resume_point task (with_streams streams t)) task
         → ((id : ℕ) → IsLeft t id → task ≡ (group_of t.loop id).parent → resume_point ≡ Leaving id)
         → IsStateSound added (stands resume_point task (with_streams streams t))
-    stood_from streams resume_point begun a apart begun_ may right left =
+    stood_from streams resume_point free begun a apart begun_ may right left =
         let v = with_streams streams t in
         joined added (stands resume_point task v) task
-        (with_open added None (Some task) (stands resume_point task v) (stands_keeps added task resume_point v t_within None apart)
+        (with_open added None (Some task) (stands resume_point task v) (stands_keeps added task resume_point v t_within free None apart)
         (open_kept _ _ (Some task) begun s.loop t.loop (blocks_of s) (blocks_of (stands resume_point task v)) a
         (λ other. stood_blocks added task resume_point v t_within other ∙ t_blocks other) (open_of added (Some task) (Some task) s is.others.blocks)))
         (λ l. record {
@@ -183,20 +184,21 @@ module _ {S : Type 0} (added : Extra S) (task : ℕ) (stood : ResumePoint) (aske
         (λ l. right)
         (λ id e m. stood_resume_point added task resume_point v t_within ∙ left id e m)
 
-    pub suspended_stood : (resume_point : ResumePoint) (begun : Option ℕ)
+    pub suspended_stood : (resume_point : ResumePoint) → MayStandAt (added.keeps t.extra).has_key t.generators resume_point → (begun : Option ℕ)
         → IsLoopAfter (names_made (next_task s.loop.parts)) false (Some task) None None begun s.loop t.loop → HasSoundLoop t
         → ((id : ℕ) → is_running (Some task) (group_of s.loop id).parent ≡ false → is_running begun id ≡ false)
         → ((generator_of task s).tape ≡ [] → ⊥) → stands_at resume_point asked ≡ true → StandsRightly (stands resume_point task t) task
         → ((id : ℕ) → IsLeft t id → task ≡ (group_of t.loop id).parent → resume_point ≡ Leaving id) → IsStateSound added (stands resume_point task t)
-    suspended_stood resume_point begun a sound mine begun_ may right left =
-        stood_from t.streams resume_point begun a (suspended begun a sound mine) begun_ may right left
+    suspended_stood resume_point free begun a sound mine begun_ may right left =
+        stood_from t.streams resume_point free begun a (suspended begun a sound mine) begun_ may right left
 
     pub suspended_replaced : (streams : Streams) → Replaces t streams → (resume_point : ResumePoint)
+        → MayStandAt (added.keeps t.extra).has_key t.generators resume_point
         → IsLoopAfter (names_made (next_task s.loop.parts)) false (Some task) None None None s.loop t.loop → HasSoundLoop t
         → ((generator_of task s).tape ≡ [] → ⊥) → stands_at resume_point asked ≡ true
         → StandsRightly (stands resume_point task (with_streams streams t)) task
         → ((id : ℕ) → IsLeft t id → task ≡ (group_of t.loop id).parent → resume_point ≡ Leaving id)
         → IsStateSound added (stands resume_point task (with_streams streams t))
-    suspended_replaced streams new resume_point a sound begun_ may right left =
+    suspended_replaced streams new resume_point free a sound begun_ may right left =
         let apart = suspended None a sound (λ id f. refl) in
-        stood_from streams resume_point None a (over_replaced added None (Some task) t streams new apart apart.blocks) begun_ may right left
+        stood_from streams resume_point free None a (over_replaced added None (Some task) t streams new apart apart.blocks) begun_ may right left

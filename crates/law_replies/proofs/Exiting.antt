@@ -221,7 +221,7 @@ module _ {S : Type 0} (added : Extra S) (task : ℕ) (stood : ResumePoint) (s : 
     waited fresh on tape b h =
         suspended_stood added task stood (request.GroupExit (Group id) raised) s is (waits task on (with_loop m s)) (same_tapes s (book (suspend task on) m))
         (futures_kept s (waits task on (with_loop m s)) refl refl (λ k x. c.parts.plain k x) is.others.futures) refl (c.parts.same refl)
-        (Leaving id) begun c h not_begun tape (eq-eqb id id refl) right (λ gid e mine'. left gid e mine' (cases_eq id gid))
+        (Leaving id) tt begun c h not_begun tape (eq-eqb id id refl) right (λ gid e mine'. left gid e mine' (cases_eq id gid))
       where
         c : IsLoopAfter (names_made (next_task s.loop.parts)) false (Some task) None None begun s.loop (book (suspend task on) m)
         c =

@@ -20,9 +20,10 @@ use Rattle.model_machine.specs.Extra.{Extra}
 use Rattle.model_machine.specs.Outcomes.{input_of}
 use Rattle.model_stream.specs.Kept.{times_kept}
 use Rattle.model_stream.specs.Streams.{Streams}
-use Rattle.model_machine.specs.Sound.{AreScriptsFutures, IsAsking, IsLeft, IsOpenedAt, IsUnbegun, StandsRightly, all_made, blocks_of, names_block, names_made}
+use Rattle.model_machine.specs.Sound.{AreKept, AreKeysKept, AreScriptsFutures, IsAsking, IsLeft, IsOpenedAt, IsUnbegun, StandsRightly, StandsUnder}
+use Rattle.model_machine.specs.Sound.{all_made, blocks_of, names_block, names_made}
 use Rattle.model_machine.specs.Sound.{sends_made, stands_at}
-use Rattle.model_machine.specs.State.{Asked, Sleeping, Leaving, Generator, State, generator, generator_of, with_coroutine}
+use Rattle.model_machine.specs.State.{Asked, Sleeping, Leaving, Serving, Generator, State, generator, generator_of, with_coroutine}
 use Rattle.model_machine.specs.Step.{says_of}
 use Rattle.model_machine.specs.Told.{told_in}
 use Rattle.model_loop.specs.Sound.{IsSound}
@@ -32,6 +33,7 @@ use Rattle.law_turns.specs.After.{IsLoopAfter}
 use Rattle.law_replies.specs.InStep.{SameTapes}
 use Rattle.law_replies.proofs.Counts.{and_first, and_second, and_both, lives_within, lives_before, unbegun_kept}
 use Rattle.law_replies.proofs.Keeping.{IsApart, asking_kept, resume_point_kept, streams_kept}
+use Rattle.law_replies.proofs.Kept.{kept_on}
 use Rattle.law_replies.proofs.Tapes.{added_same, added_last, added_past, past_none, blocks_before, exchanges_before}
 
 -- ---- numbers of tasks
@@ -227,8 +229,25 @@ module _ {S : Type 0} (added : Extra S) (running : Option ℕ) (coroutine : ℕ)
       outcomes = λ id value e.
           names_up (next_task s.loop.parts) (next_task t.loop.parts) (omega (arith, more)) value (a.parts.outcomes is.made.outcomes id value e);
     };
+    kept = subst (λ extra. AreKept (added.keeps extra) t.futures t.loop.parts) (sym tapes.extra)
+        (kept_on _ _ running s.futures t.futures s.loop.parts t.loop.parts a.parts tapes.scripts (added.keeps s.extra)
+        (list_up (next_task s.loop.parts) (next_task t.loop.parts) (omega (arith, more)) (added.keeps s.extra).values is.kept.values) is.kept);
+    keys = subst (λ extra. AreKeysKept (added.keeps extra).has_key u.generators) (sym tapes.extra)
+        (record {
+          known = λ task key e. is.keys.known task key (stood task key e);
+          once = λ task other key e f. is.keys.once task other key (stood task key e) (stood other key f);
+        });
   }
     where
+      asks_serves : (key : ℕ) → Asked ≡ Serving key → ⊥
+      asks_serves key e = absurd (cc)
+
+      -- whoever stands at what is added stood so
+      stood : (task key : ℕ) → StandsUnder u.generators task key → StandsUnder s.generators task key
+      stood task key =
+          each (λ other g. g.resume_point ≡ Serving key → StandsUnder s.generators other key) (λ other h e. e)
+          (λ e. absurd (asks_serves key e)) (λ other h e. absurd (asks_serves key e)) task
+
       asking : (other : ℕ) → is_running running other ≡ false
           → ((other < next_task s.loop.parts) × (lives s.loop.parts other ≡ true)) ⊎ (next_task s.loop.parts ≡ other) → IsAsking added u other
       asking other f (inl h) = asking_kept added s u tapes.program other (old_same other h.0) (is.asking other h.1 f)

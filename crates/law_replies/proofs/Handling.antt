@@ -25,6 +25,7 @@ use Rattle.law_replies.proofs.Blocks.{open_kept}
 use Rattle.law_replies.proofs.Counts.{count_unbegun, lives_before}
 use Rattle.law_replies.proofs.Given.{spawn_keeps, spawned_blocks}
 use Rattle.law_replies.proofs.Keeping.{apart_of, futures_kept, open_of, with_open}
+use Rattle.law_replies.proofs.Kept.{futures_stay}
 use Rattle.law_replies.proofs.Replacing.{streams_replaced}
 use Rattle.law_replies.proofs.Nobody.{nobody, over_as}
 use Rattle.law_replies.proofs.Streaming.{end_loop, end_replaces, end_tapes}
@@ -62,7 +63,7 @@ module _ {S : Type 0} (added : Extra S) (s : State S) (sound : IsStateSound adde
     begun = let b = told_after.steps (next_task s.loop.parts) refl in let c = spawned_step s.loop.parts in omega (arith, b, c)
 
     tapes : SameTapes s t
-    tapes = record { program = refl; generators = refl; streams = refl }
+    tapes = record { program = refl; generators = refl; streams = refl; extra = refl; scripts = futures_stay }
 
     over : t.main_done ≡ true → lives made 0 ≡ false
     over done = at (lives made 0) refl

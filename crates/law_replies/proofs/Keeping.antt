@@ -19,7 +19,7 @@ use Rattle.model_loop.specs.Sound.{IsSound}
 use Rattle.model_loop.specs.Tasks.{lives, next_task}
 use Rattle.model_loop.specs.Ways.{is_running}
 use Rattle.model_machine.specs.Extra.{Extra}
-use Rattle.model_machine.specs.Sound.{AreBlocksOpen, AreScriptsFutures, AreStreamsFutures, IsAsking, IsLeft, IsOpenedAt, IsSoundBut}
+use Rattle.model_machine.specs.Sound.{AreBlocksOpen, AreKept, AreKeysKept, AreScriptsFutures, AreStreamsFutures, IsAsking, IsLeft, IsOpenedAt, IsSoundBut}
 use Rattle.model_machine.specs.Sound.{IsSoundOver, IsStateSound, IsUnbegun}
 use Rattle.model_machine.specs.Sound.{StandsRightly, blocks_of, exchanges_of, names_block, names_made, sends_made, stands_at}
 use Rattle.model_machine.specs.State.{ResumePoint, Asked, Leaving, Generator, State, generator, generator_of, resumed, stands}
@@ -29,10 +29,11 @@ use Rattle.law_cases.proofs.Composing.{streams_more}
 use Rattle.model_machine.specs.Step.{says_of}
 use Rattle.model_machine.specs.Told.{told_in}
 use Rattle.law_turns.specs.After.{IsAfter, IsLoopAfter}
-use Rattle.law_replies.specs.InStep.{SameTapes}
+use Rattle.law_replies.specs.InStep.{MayStandAt, SameTapes}
 use Rattle.law_replies.proofs.Blocks.{AreOpenAt}
 use Rattle.law_replies.proofs.Counts.{and_first, and_second, and_both, not_true, not_false, lives_within, lives_before, unbegun_kept, sleep_kept, plain_of}
 use Rattle.law_replies.proofs.Counts.{of_plain}
+use Rattle.law_replies.proofs.Kept.{kept_on, keys_same, keys_stood}
 use Rattle.law_replies.proofs.Tapes.{set_same, set_other, set_length, exchanges_grow, blocks_grow}
 
 -- ---- all but which blocks are open: entries were answered by blocks
@@ -58,6 +59,8 @@ module _ {S : Type 0} (added : Extra S) (running excused : Option ℕ) (s : Stat
     kept_once = is.kept_once;
     futures = is.futures;
     made = is.made;
+    kept = is.kept;
+    keys = is.keys;
   }
 
   pub apart_of : IsSoundBut running excused added s → IsApart running excused added s
@@ -88,6 +91,8 @@ module _ {S : Type 0} (added : Extra S) (s : State S) where
     kept_once = is.kept_once;
     futures = is.futures;
     made = is.made;
+    kept = is.kept;
+    keys = is.keys;
   }
     where
       asking : (other : ℕ) → lives s.loop.parts other ≡ true → (task ≡ other) ⊎ (task ≡ other → ⊥) → IsAsking added s other
@@ -217,6 +222,11 @@ module _ {S : Type 0} (added : Extra S) (s t : State S) (tapes : SameTapes s t) 
           ∙ ap (λ (g : Generator). list_all (λ entry. sends_made (next_task s.loop.parts) entry.input) g.tape) (same_at task) ∙ is.made.tape task;
       outcomes = λ id value e. ap (λ n. names_made n value) made ∙ a.outcomes is.made.outcomes id value e;
     };
+    kept = subst (λ extra. AreKept (added.keeps extra) t.futures t.loop.parts) (sym tapes.extra)
+        (kept_on _ _ excused s.futures t.futures s.loop.parts t.loop.parts a tapes.scripts (added.keeps s.extra)
+        (ap (λ n. list_all (names_made n) (added.keeps s.extra).values) made ∙ is.kept.values) is.kept);
+    keys = subst (λ extra. AreKeysKept (added.keeps extra).has_key t.generators) (sym tapes.extra)
+        (subst (AreKeysKept (added.keeps s.extra).has_key) (sym tapes.generators) is.keys);
   }
     where
       lived : (task : ℕ) → lives t.loop.parts task ≡ true → lives s.loop.parts task ≡ true
@@ -304,8 +314,15 @@ module _ {S : Type 0} (added : Extra S) (task : ℕ) (asked : Request) (fresh : 
       tape = λ other. tape other (cases_eq task other);
       outcomes = is.made.outcomes;
     };
+    kept = is.kept;
+    keys = keys_same (added.keeps t.extra).has_key t.generators u.generators (λ other. stands_same other (cases_eq task other)) is.keys;
   }
     where
+      stands_same : (other : ℕ) → (task ≡ other) ⊎ (task ≡ other → ⊥) → (generator_of other u).resume_point ≡ (generator_of other t).resume_point
+      stands_same other (inl same) =
+          subst (λ k. (generator_of k u).resume_point ≡ (generator_of k t).resume_point) same (ap (λ (g : Generator). g.resume_point) longer)
+      stands_same other (inr n) = ap (λ (g : Generator). g.resume_point) (others_same other n)
+
       stands_right : (other : ℕ) → is_running (Some task) other ≡ false → StandsRightly t other → StandsRightly u other
       stands_right other f is = record {
         sleeping = λ tag e. is.sleeping tag (sym (ap (λ (g : Generator). g.resume_point) (free_same other f)) ∙ e);
@@ -381,8 +398,9 @@ module _ {S : Type 0} (added : Extra S) (task : ℕ) (resume_point : ResumePoint
   pub stood_blocks : (other : ℕ) → blocks_of stood other ≡ blocks_of t other
   stood_blocks other = seen_same (λ c a tape. open_blocks t.program c a tape) other
 
-  pub stands_keeps : (running : Option ℕ) → IsApart running (Some task) added t → IsApart running (Some task) added stood
-  stands_keeps running is = record {
+  pub stands_keeps : MayStandAt (added.keeps t.extra).has_key t.generators resume_point → (running : Option ℕ) → IsApart running (Some task) added t
+      → IsApart running (Some task) added stood
+  stands_keeps may running is = record {
     loop = is.loop;
     streams = is.streams;
     kept_once = is.kept_once;
@@ -401,6 +419,9 @@ module _ {S : Type 0} (added : Extra S) (task : ℕ) (resume_point : ResumePoint
       tape = λ other. seen_same (λ c a tape. list_all (λ (x : Resumed). sends_made (next_task t.loop.parts) x.input) tape) other ∙ is.made.tape other;
       outcomes = is.made.outcomes;
     };
+    kept = is.kept;
+    keys = keys_stood (added.keeps t.extra).has_key t.generators stood.generators task resume_point may stood_resume_point
+        (λ other n. ap (λ (g : Generator). g.resume_point) (stands_others other n)) is.keys;
   }
     where
       free : (other : ℕ) → is_running (Some task) other ≡ false → generator_of other stood ≡ generator_of other t

@@ -98,6 +98,8 @@ over_replaced added running excused s streams new is others = record {
   kept_once = new.once;
   futures = record { plain = is.futures.plain; once = is.futures.once; apart = new.apart };
   made = record { arguments = is.made.arguments; tape = is.made.tape; outcomes = is.made.outcomes };
+  kept = is.kept;
+  keys = is.keys;
 }
 
 pub streams_replaced : {S : Type 0} (added : Extra S) (running excused : Option ℕ) (s : State S) (streams : Streams)
@@ -122,4 +124,5 @@ asked_replaced added task stood asked s streams new is = record {
   resume_point = is.resume_point;
   says = is.says;
   exits = is.exits;
+  alone = is.alone;
 }

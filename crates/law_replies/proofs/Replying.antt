@@ -88,6 +88,7 @@ module _ {S : Type 0} (added : Extra S) (task : ℕ) (s : State S) (step : IsSte
     resume_point = step.resume_point;
     says = says;
     exits = λ id e mine. absurd (step.exits id e mine);
+    alone = tt;
   }
 
   pub handed_on : (asked : Request) → says_of step_limit added task s ≡ Asks asked → InSaying (Made (next_task s.loop.parts)) (Asks asked)
@@ -165,6 +166,8 @@ module _ {S : Type 0} (added : Extra S) (task : ℕ) (s : State S) (step : IsSte
         tape = step.others.made.tape;
         outcomes = step.others.made.outcomes;
       };
+      kept = step.others.kept;
+      keys = step.others.keys;
     };
     resume_point = step.resume_point;
     begun = step.begun;

@@ -1,7 +1,7 @@
 -- A step begins by a handle that steps its task: what the task stands at says what the input means, and the answer is sound.
 use Rattle.std.proofs.Common.{◌≡◌, ℕ, ◌<◌, ◌≤◌, ◌⊎◌, inl, inr, Bool, true, false, cond, not, ◌&&◌, ◌==◌, List, [], ◌∷◌, Option, Some}
 use Rattle.std.proofs.Common.{None, length, if◌then◌else◌, refl, sym, ap, subst, ◌∙◌, arith}
-use Rattle.std.proofs.lemmas.Bool.{cases_lt, eq-eqb, eqb-true, false_from_ne_true, false≢true}
+use Rattle.std.proofs.lemmas.Bool.{cases_eq, cases_lt, eq-eqb, eqb-true, false_from_ne_true, false≢true}
 use Rattle.model_value.specs.Action.{Action}
 use Rattle.model_value.specs.declared.action.Action.TheVariants.{Step, SleepDone}
 use Rattle.model_value.specs.Input.{Input}
@@ -21,8 +21,8 @@ use Rattle.model_loop.specs.Tasks.{begin_step, cancelled_error, cancelling_input
 use Rattle.model_loop.specs.Ways.{is_running, one_if, steps, wanted}
 use Rattle.model_machine.specs.Extra.{Extra}
 use Rattle.model_machine.specs.Replies.{Answers, decides, exits_as, replied}
-use Rattle.model_machine.specs.Sound.{IsOpenedAt, IsStateSound, ends_sleep_of, blocks_of, names_block, names_made, sends_made, stands_at}
-use Rattle.model_machine.specs.State.{ResumePoint, Asked, Sleeping, Leaving, Serving, Connecting, Yielding, Reading}
+use Rattle.model_machine.specs.Sound.{IsOpenedAt, IsStateSound, StandsUnder, ends_sleep_of, blocks_of, names_block, names_made, sends_made, stands_at}
+use Rattle.model_machine.specs.State.{ResumePoint, Asked, Sleeping, Leaving, Serving, Connecting, Yielding, Reading, Generator}
 use Rattle.model_machine.specs.State.{ReadingAll, State, generator_of, noted, resumed, stands, unbooked_in}
 use Rattle.model_machine.specs.State.{with_loop}
 use Rattle.model_machine.specs.Step.{given_up, says_of}
@@ -44,7 +44,7 @@ use Rattle.law_cases.proofs.Replying.{streams_decide, woken_at}
 use Rattle.law_replies.proofs.Streaming.{streams_in, streams_leave}
 use Rattle.law_replies.proofs.Standing.{not_pause_at, streams_to, woken_asked, woken_tape, woken_opened}
 use Rattle.law_turns.proofs.Streaming.{streams_sound}
-use Rattle.law_replies.specs.InStep.{IsStepSound, IsAsked, RepliesInStep}
+use Rattle.law_replies.specs.InStep.{IsStepSound, IsAsked, MayStandAt, RepliesInStep}
 use Rattle.law_replies.proofs.Answering.{left_before, step_to}
 use Rattle.law_replies.proofs.Blocks.{open_kept}
 use Rattle.law_replies.proofs.Counts.{and_first, and_second, not_true, lives_before, lives_within, no_sleep_of, sleep_none}
@@ -53,8 +53,9 @@ use Rattle.law_replies.proofs.Given.{asked_leaves}
 use Rattle.law_replies.proofs.Innermost.{innermost_group}
 use Rattle.law_replies.proofs.Keeping.{IsApart, apart_of, open_of, with_open, futures_kept, loop_keeps, stays_stood}
 use Rattle.law_replies.proofs.Keeping.{leaves_none, stood_resume_point, stood_says, stood_blocks, stands_keeps}
+use Rattle.law_replies.proofs.Kept.{futures_stay}
 use Rattle.law_replies.proofs.Table.{same_tapes, sleeps_leaves}
-use Rattle.law_replies.proofs.Tapes.{past_default}
+use Rattle.law_replies.proofs.Tapes.{past_default, set_other}
 
 -- ---- tests of handles
 step_steps : (task other : ℕ) (action : Action) → steps task action ≡ true → is_step other action ≡ true → task ≡ other
@@ -75,6 +76,9 @@ both_true false b c f h = h
 
 pub serving_leaves : (key id : ℕ) → Serving key ≡ Leaving id → ⊥
 serving_leaves key id e = absurd (cc)
+
+asked_serves : (key : ℕ) → Asked ≡ Serving key → ⊥
+asked_serves key e = absurd (cc)
 
 sleeping_serves : (tag key : ℕ) → Sleeping tag ≡ Serving key → ⊥
 sleeping_serves tag key e = absurd (cc)
@@ -303,18 +307,41 @@ module _ {S : Type 0} (added : Extra S) (s : State S) (task : ℕ) (input : Inpu
 
   t_half : IsApart (Some task) (Some task) added t
   t_half =
-      loop_keeps added s t (record { program = refl; generators = refl; streams = refl }) None
+      loop_keeps added s t (record { program = refl; generators = refl; streams = refl; extra = refl; scripts = futures_stay }) None
       (Some task) None (Some task) moved_after.parts (moved_after.parts.same refl)
       (runs_as (generator_of task s).resume_point refl) (λ other f. refl) over
-      (stays_stood added s t (record { program = refl; generators = refl; streams = refl }) None (Some task) None (Some task) _ _ None None None moved_after
+      (stays_stood added s t (record { program = refl; generators = refl; streams = refl; extra = refl; scripts = futures_stay }) None (Some task) None (Some task) _ _ None None None moved_after
       (λ other id f e r. refl))
-      (leaves_none added s t (record { program = refl; generators = refl; streams = refl }) None (Some task) None (Some task) _ _ None None None moved_after
+      (leaves_none added s t (record { program = refl; generators = refl; streams = refl; extra = refl; scripts = futures_stay }) None (Some task) None (Some task) _ _ None None None moved_after
       (λ id f. (refl, refl)))
       (futures_kept s t refl refl (λ id h. moved_after.parts.plain id h) sound.futures) (apart_of added None None s sound)
 
+  -- nobody else stands at what is added under its key
+  served_alone : (key : ℕ) → (generator_of task s).resume_point ≡ Serving key
+      → MayStandAt (added.keeps begun.extra).has_key begun.generators (Serving key)
+  served_alone key e = (λ other stood. alone other stood (cases_eq task other), sound.keys.known task key e)
+    where
+      alone : (other : ℕ) → StandsUnder begun.generators other key → (task ≡ other) ⊎ (task ≡ other → ⊥) → ⊥
+      alone other stood (inl same) =
+          asked_serves key (sym (stood_resume_point added task Asked t task_within)
+          ∙ ap (λ k. (generator_of k begun).resume_point) same ∙ stood)
+      alone other stood (inr n) =
+          n (sound.keys.once task other key e
+          (sym (ap (λ (g : Generator). g.resume_point) (set_other task other (record (generator_of task t) { resume_point = Asked }) t n)) ∙ stood))
+
+  stood_alone : (st : ResumePoint) → (generator_of task s).resume_point ≡ st → MayStandAt (added.keeps begun.extra).has_key begun.generators st
+  stood_alone Asked e = tt
+  stood_alone (Sleeping tag) e = tt
+  stood_alone (Leaving id) e = tt
+  stood_alone (Serving key) e = served_alone key e
+  stood_alone (Connecting conn) e = tt
+  stood_alone (Yielding whom) e = tt
+  stood_alone (Reading from op on) e = tt
+  stood_alone (ReadingAll from taken on) e = tt
+
   pub begun_asked : (asked : Request) → says_of step_limit added task s ≡ Asks asked → IsAsked added task (generator_of task s).resume_point asked begun
   begun_asked asked says = record {
-    others = with_open added (Some task) (Some task) begun (stands_keeps added task Asked t task_within (Some task) t_half)
+    others = with_open added (Some task) (Some task) begun (stands_keeps added task Asked t task_within tt (Some task) t_half)
         (open_kept _ _ (Some task) None s.loop t.loop (blocks_of s) (blocks_of begun) moved_after
         (λ other. stood_blocks added task Asked t task_within other) (open_of added None None s sound.blocks));
     resume_point = stood_resume_point added task Asked t task_within;
@@ -322,6 +349,7 @@ module _ {S : Type 0} (added : Extra S) (s : State S) (task : ℕ) (input : Inpu
     exits = λ id e its.
         ap (λ k. (generator_of k s).resume_point) its
         ∙ sound.exits id (left_before s t _ _ (Some task) None None None moved_after id refl refl e) refl;
+    alone = stood_alone (generator_of task s).resume_point refl;
   }
 
   -- ---- and is answered
@@ -329,10 +357,10 @@ module _ {S : Type 0} (added : Extra S) (s : State S) (task : ℕ) (input : Inpu
     abbrev heard : ResumePoint → Input
     heard st = (begin_step task input (given_up st gone.loop.parts)).input
 
-    heard_made : (st : ResumePoint) → sends_made (next_task s.loop.parts) (heard st) ≡ true
+    pub heard_made : (st : ResumePoint) → sends_made (next_task s.loop.parts) (heard st) ≡ true
     heard_made st = cancels_made (next_task s.loop.parts) (must_cancel_of (given_up st gone.loop.parts) task) input given_
 
-    same_count : next_task begun.loop.parts ≡ next_task s.loop.parts
+    pub same_count : next_task begun.loop.parts ≡ next_task s.loop.parts
     same_count = moved_after.parts.same refl
 
     to : (st : ResumePoint) → (generator_of task s).resume_point ≡ st → ((id : ℕ) → st ≡ Leaving id → ⊥) → (asked : Request)
@@ -416,6 +444,7 @@ module _ {S : Type 0} (added : Extra S) (s : State S) (task : ℕ) (input : Inpu
     decided (Serving key) e asked says may =
         let g = served_extra key asked may in
         keeps.wake task key g.0 g.1.0 (heard (Serving key)) begun
+        (ap (λ k. sends_made k (heard (Serving key))) same_count ∙ heard_made (Serving key))
         (subst (λ q. IsAsked added task (Serving key) q begun) g.1.1
         (subst (λ st. IsAsked added task st asked begun) e (begun_asked asked says)))
     decided (Connecting conn) e asked says may =

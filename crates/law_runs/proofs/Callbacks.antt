@@ -53,6 +53,7 @@ use Rattle.law_runs.proofs.Beginning.{begins_in}
 use Rattle.law_runs.proofs.Finishing.{returns_sound, raises_sound}
 use Rattle.law_replies.proofs.Given.{ended_made}
 use Rattle.law_replies.proofs.Keeping.{apart_of}
+use Rattle.law_replies.proofs.Kept.{futures_stay}
 use Rattle.law_replies.proofs.Nobody.{nobody, over_as}
 use Rattle.law_replies.proofs.Replying.{reply_in}
 
@@ -128,7 +129,7 @@ module _ {S : Type 0} (added : Extra S) (keeps : KeepsSound added) (s : State S)
   dead_in : handle.dead ≡ true → IsStateSound added out
   dead_in dead =
       let a = taken_by (λ other. ap (λ d. not d && is_step other handle.action) dead) in
-      nobody added s sound out (record { program = refl; generators = refl; streams = refl }) refl (over_as added s sound (in_parts (taken rest) s.loop) a) a
+      nobody added s sound out (record { program = refl; generators = refl; streams = refl; extra = refl; scripts = futures_stay }) refl (over_as added s sound (in_parts (taken rest) s.loop) a) a
       (dead_sound (told_in s.events) handle rest s.loop first dead sound.loop)
 
   -- a handle that the loop doesn't follow, and fires nothing
@@ -139,18 +140,18 @@ module _ {S : Type 0} (added : Extra S) (keeps : KeepsSound added) (s : State S)
       (tells_none s.events it none)
       (unfollowed_sound it unfollowed no_fire (told_in s.events) handle rest s.loop first is sound.loop)
 
-  idle_in : (it : Action) → handle.action ≡ it → is_followed it ≡ false → ((id : ℕ) → fires id it ≡ false)
+  pub idle_in : (it : Action) → handle.action ≡ it → is_followed it ≡ false → ((id : ℕ) → fires id it ≡ false)
       → ((group : ℕ) → told_by group it [] ≡ []) → ((other : ℕ) → is_step other it ≡ false) → IsStateSound added (noted (event.Ran it) out)
   idle_in it is unfollowed no_fire none steps_none =
       let a = taken_by (no_step it is steps_none) in
-      nobody added s sound (noted (event.Ran it) out) (record { program = refl; generators = refl; streams = refl }) refl
+      nobody added s sound (noted (event.Ran it) out) (record { program = refl; generators = refl; streams = refl; extra = refl; scripts = futures_stay }) refl
       (over_as added s sound (in_parts (taken rest) s.loop) a) a (idle_loop it is unfollowed no_fire none)
 
   main_in : handle.action ≡ action.MainDone → handle.dead ≡ false → IsStateSound added (record (noted (event.Ran action.MainDone) out) { main_done = true })
   main_in is live =
       let a = taken_by (no_step action.MainDone is (λ other. refl)) in
       nobody added s sound (record (noted (event.Ran action.MainDone) out) { main_done = true })
-      (record { program = refl; generators = refl; streams = refl }) refl
+      (record { program = refl; generators = refl; streams = refl; extra = refl; scripts = futures_stay }) refl
       (λ done. sound.main_told.pending (
       let b = taken-where is_main_done handle rest s.loop.parts first in
       let c : ◌≡◌ {A = ℕ} (cond (not handle.dead && is_main_done handle.action) 1 0) 1 =
@@ -195,14 +196,14 @@ module _ {S : Type 0} (added : Extra S) (keeps : KeepsSound added) (s : State S)
       (parts_loop (names_made (next_task s.loop.parts)) refl false None None None None (in_parts (taken rest) s.loop)
       (settle future (Returned Nothing) (taken rest s.loop.parts))
       (settle_after (names_made (next_task s.loop.parts)) false None future (Returned Nothing) (taken rest s.loop.parts) refl)) a in
-      nobody added s sound _ (record { program = refl; generators = refl; streams = refl }) refl
+      nobody added s sound _ (record { program = refl; generators = refl; streams = refl; extra = refl; scripts = futures_stay }) refl
       (over_as added s sound (in_parts (settle future (Returned Nothing)) (in_parts (taken rest) s.loop)) b) b
       (loop_of (action.SleepDone task future) is live (λ of. absurd (false≢true of)))
   lively (action.GroupDone group task) is live =
       let a = taken_by (no_step (action.GroupDone group task) is (λ other. refl)) in
       let b = loop_on (names_made (next_task s.loop.parts)) refl false None None None None s.loop (in_parts (taken rest) s.loop) _
       (child_done_loop (names_made (next_task s.loop.parts)) refl false None None None None group task (in_parts (taken rest) s.loop)) a in
-      nobody added s sound _ (record { program = refl; generators = refl; streams = refl }) refl
+      nobody added s sound _ (record { program = refl; generators = refl; streams = refl; extra = refl; scripts = futures_stay }) refl
       (over_as added s sound (child_done group task (in_parts (taken rest) s.loop)) b) b
       (loop_of (action.GroupDone group task) is live (λ of. absurd (false≢true of)))
   lively (action.Fires timeout) is live =
@@ -211,7 +212,7 @@ module _ {S : Type 0} (added : Extra S) (keeps : KeepsSound added) (s : State S)
       (fire_loop (names_made (next_task s.loop.parts)) refl false None None None None timeout (in_parts (taken rest) s.loop)
       (active_open (timeout_of s.loop timeout).state
       (was_active timeout handle rest s.loop first live is (tags_of_sound None (told_in s.events) s.loop sound.loop)))) a in
-      nobody added s sound _ (record { program = refl; generators = refl; streams = refl }) refl
+      nobody added s sound _ (record { program = refl; generators = refl; streams = refl; extra = refl; scripts = futures_stay }) refl
       (over_as added s sound (fire timeout (in_parts (taken rest) s.loop)) b) b (loop_of (action.Fires timeout) is live (λ of. absurd (false≢true of)))
   lively action.MainDone is live = main_in is live
   lively (action.ExtraItem code bytes) is live =

@@ -13,4 +13,5 @@ pub mod Folding
 pub mod Leaving
 pub mod Handles
 pub mod Steps
+pub mod Called
 pub mod Calls

@@ -7,7 +7,7 @@ use Rattle.model_value.specs.Value.{Value, Exc}
 use Rattle.model_says.specs.Requests.{bad_argument}
 use Rattle.model_loop.specs.Tasks.{next_task}
 use Rattle.model_machine.specs.Arguments.{as_int, as_list}
-use Rattle.model_machine.specs.Extra.{no_extra, unknown_code}
+use Rattle.model_machine.specs.Extra.{NamesNothing, no_extra, unknown_code}
 use Rattle.model_machine.specs.Replies.{given, reply, serves, woken}
 use Rattle.model_machine.specs.Sound.{names_made}
 use Rattle.model_machine.specs.State.{Asked, Serving, State, resumed}
@@ -47,7 +47,10 @@ wakes task key code arguments input s is =
 pub nothing_keeps : KeepsSound no_extra
 nothing_keeps = record {
   ask = λ task code arguments s step is. asks task code arguments s is;
-  wake = wakes;
+  wake = λ task key code arguments input s good is. wakes task key code arguments input s is;
   act = λ key s sound. sound;
   item = λ code bytes s sound. sound;
 }
+
+pub names_nothing : NamesNothing (no_extra.keeps tt)
+names_nothing = record { tasks = refl; futures = refl; own = refl; tags = refl; values = refl }

@@ -43,6 +43,7 @@ use Rattle.law_turns.proofs.Parts.{refl_after, after_on, same_after, soon_after}
 use Rattle.law_turns.proofs.Requests.{each_after}
 use Rattle.law_replies.specs.Added.{KeepsSound}
 use Rattle.law_replies.specs.InStep.{AreStatesSound, Afterwards, IsRunSound, LeavesStateSound}
+use Rattle.law_replies.proofs.Kept.{futures_stay}
 use Rattle.law_replies.proofs.Nobody.{nobody, over_as}
 use Rattle.law_runs.proofs.Callbacks.{callback_in}
 
@@ -98,14 +99,14 @@ module _ {S : Type 0} (added : Extra S) where
       → IsStateSound added (noted (event.Got answer) (record (noted (event.Called call) s) { answers = entries }))
   noted_in s entries call answer sound =
       nobody added s sound (noted (event.Got answer) (record (noted (event.Called call) s) { answers = entries }))
-      (record { program = refl; generators = refl; streams = refl }) refl sound.main_over
+      (record { program = refl; generators = refl; streams = refl; extra = refl; scripts = futures_stay }) refl sound.main_over
       (refl_loop (names_made (next_task s.loop.parts)) refl false None None None None s.loop)
       (as_told None (told_in s.events) (told_in ((s.events ++ event.Called call ∷ []) ++ event.Got answer ∷ [])) s.loop
       (λ g. told_got (s.events ++ event.Called call ∷ []) answer g ∙ told_call s.events call g) sound.loop)
 
   pub woken_in : (s : State S) (answer : Answer) → IsStateSound added s → IsStateSound added (unbooked_in (woken_by answer) s)
   woken_in s answer sound =
-      nobody added s sound (unbooked_in (woken_by answer) s) (record { program = refl; generators = refl; streams = refl }) refl
+      nobody added s sound (unbooked_in (woken_by answer) s) (record { program = refl; generators = refl; streams = refl; extra = refl; scripts = futures_stay }) refl
       (over_as added s sound (in_parts (woken_by answer) s.loop) a) a (woken_sound answer s sound.loop)
     where
       timed : IsSound None (told_in s.events) (in_parts (soon_all (news_of answer)) (in_parts (at_time (time_of answer)) s.loop))
@@ -126,7 +127,7 @@ module _ {S : Type 0} (added : Extra S) where
   cancelled_in : (b : Bool) (s : State S) → IsStateSound added s → IsStateSound added (cancelled_if b s)
   cancelled_in false s sound = sound
   cancelled_in true s sound =
-      nobody added s sound (in_loop cancel_everything s) (record { program = refl; generators = refl; streams = refl }) refl
+      nobody added s sound (in_loop cancel_everything s) (record { program = refl; generators = refl; streams = refl; extra = refl; scripts = futures_stay }) refl
       (over_as added s sound (cancel_everything s.loop) all) all (end_of_run_sound None (told_in s.events) s.loop sound.loop)
     where
       all : IsLoopAfter (names_made (next_task s.loop.parts)) false None None None None s.loop (cancel_everything s.loop)
@@ -154,7 +155,7 @@ module _ {S : Type 0} (added : Extra S) where
       where
         asked : IsStateSound added (noted (event.Called (call_of added s)) s)
         asked =
-            nobody added s sound (noted (event.Called (call_of added s)) s) (record { program = refl; generators = refl; streams = refl }) refl
+            nobody added s sound (noted (event.Called (call_of added s)) s) (record { program = refl; generators = refl; streams = refl; extra = refl; scripts = futures_stay }) refl
             sound.main_over (refl_loop (names_made (next_task s.loop.parts)) refl false None None None None s.loop)
             (as_told None (told_in s.events) (told_in (s.events ++ event.Called (call_of added s) ∷ [])) s.loop
             (λ g. told_call s.events (call_of added s) g) sound.loop)

@@ -4,7 +4,7 @@ ghost use Rattle.std.specs.Prelude.{◌≡◌, ℕ, suc, ◌+◌, ◌<◌, ◌�
 ghost use Rattle.model_value.specs.Input.{Input};
 ghost use Rattle.model_tree.specs.Syntax.{Program};
 ghost use Rattle.model_wire.specs.Journal.{Entry};
-ghost use Rattle.model_machine.specs.Extra.{AsksNothing, Extra, WakesFall, no_extra};
+ghost use Rattle.model_machine.specs.Extra.{AsksNothing, Extra, NamesNothing, WakesFall, no_extra};
 ghost use Rattle.model_machine.specs.Replies.{woken_within};
 ghost use Rattle.model_machine.specs.Sound.{IsClosed, IsStateSound};
 ghost use Rattle.model_machine.specs.State.{State, generator_of, start};
@@ -61,7 +61,8 @@ pub fn a_step_ends_by_itself<S>()
 {}
 
 /// What is added is woken no more often in a step than it says, whether by what is done or by what
-/// the outside answers, where that number falls each time; it does where nothing is added.
+/// the outside answers, where that number falls each time that a request is woken again at once; it
+/// does where nothing is added.
 pub fn wakes_end_by_themselves<S>()
     ensures within { (added : Extra S) (task more key : ℕ) (input : Input) (s : State S) →
         WakesFall added →
@@ -71,8 +72,10 @@ pub fn wakes_end_by_themselves<S>()
     ensures nothing { WakesFall no_extra }
 {}
 
-/// A run begins in a sound state, however many listeners, connections and children can be numbered.
+/// A run begins in a sound state, however many listeners, connections and children can be numbered,
+/// where what is added begins with nothing that names tasks, futures or values.
 pub fn a_run_begins_sound<S>()
     ensures { (added : Extra S) (most : ℕ) (state : S) (program : Program) (answers : List Entry)
+        → NamesNothing (added.keeps state)
         → IsStateSound added (start most state program answers) }
 {}

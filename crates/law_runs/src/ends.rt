@@ -5,7 +5,7 @@ ghost use Rattle.model_tree.specs.Syntax.{Program};
 ghost use Rattle.model_says.specs.Says.{step_limit};
 ghost use Rattle.model_wire.specs.Journal.{Entry};
 ghost use Rattle.model_loop.specs.Parts.{Handle};
-ghost use Rattle.model_machine.specs.Extra.{Extra, no_extra};
+ghost use Rattle.model_machine.specs.Extra.{Extra, NamesNothing, no_extra};
 ghost use Rattle.model_machine.specs.Sound.{IsStateSound};
 ghost use Rattle.model_machine.specs.State.{State, start};
 ghost use Rattle.model_machine.specs.Turn.{run_first, run_pending, turn};
@@ -40,6 +40,7 @@ pub fn every_run_ends_sound<S>()
         → let begun = start most tt program answers in EndsSound no_extra begun turns begun }
     ensures added { (added : Extra S) → KeepsSound added
         → (most : ℕ) (state : S) (program : Program) (answers : List Entry) (turns : ℕ)
+        → NamesNothing (added.keeps state)
         → let begun = start most state program answers in EndsSound added begun turns begun }
     ensures from_any { (added : Extra S) → KeepsSound added
         → (s : State S) → IsStateSound added s → (turns : ℕ) → EndsSound added s turns s }

@@ -7,7 +7,7 @@ ghost use Rattle.model_wire.specs.declared.event.Event.TheVariants.{Called, Got}
 ghost use Rattle.model_wire.specs.Call.{Answer, Call};
 ghost use Rattle.model_wire.specs.Journal.{Entry};
 ghost use Rattle.model_loop.specs.Parts.{Handle};
-ghost use Rattle.model_machine.specs.Extra.{Extra, no_extra};
+ghost use Rattle.model_machine.specs.Extra.{Extra, NamesNothing, no_extra};
 ghost use Rattle.model_machine.specs.Mids.{mids};
 ghost use Rattle.model_machine.specs.Sound.{IsStateSound};
 ghost use Rattle.model_machine.specs.State.{State, noted, start, unbooked_in};
@@ -28,6 +28,7 @@ pub fn every_state_of_a_run_is_sound<S>()
         → IsRunSound no_extra turns (start most tt program answers) }
     ensures added { (added : Extra S) → KeepsSound added
         → (most : ℕ) (state : S) (program : Program) (answers : List Entry) (turns : ℕ)
+        → NamesNothing (added.keeps state)
         → IsRunSound added turns (start most state program answers) }
     ensures from_any { (added : Extra S) → KeepsSound added
         → (s : State S) → IsStateSound added s → (turns : ℕ) → IsRunSound added turns s }

@@ -13,7 +13,7 @@ use Rattle.model_loop.specs.Entries.{AreTimed, untimed}
 use Rattle.model_loop.specs.Futures.{outcome_at, is_pending, is_pending_at, make_future, mark_asked, asked_kind, next_future, register}
 use Rattle.model_loop.specs.Futures.{with_future}
 use Rattle.model_loop.specs.Handles.{due}
-use Rattle.model_loop.specs.Owning.{is_plain, is_main_done}
+use Rattle.model_loop.specs.Owning.{is_plain, is_main_done, owner_at, owner_in}
 use Rattle.model_loop.specs.Parts.{Future, FutureKind, Plain, OfTask, Many, Parts, Task, Timer}
 use Rattle.model_loop.specs.Tasks.{future_of, lives, next_task, spawn}
 use Rattle.model_loop.specs.Totals.{callbacks_at}
@@ -41,9 +41,9 @@ module _ (test : Value → Bool) (grown : Bool) (excused : Option ℕ) (id : ℕ
       → f (slice_get (slice_set p.futures id new) j) ≡ f (slice_get p.futures j)
   kept_view f same j = get-set_kept f p.futures id j old new e same
 
-  pub future_after : new.outcome ≡ old.outcome → is_plain_kind new.kind ≡ is_plain_kind old.kind
+  pub future_after : new.outcome ≡ old.outcome → is_plain_kind new.kind ≡ is_plain_kind old.kind → owner_in new.kind ≡ owner_in old.kind
       → count_by is_main_done new.callbacks ≡ count_by is_main_done old.callbacks → IsAfter test grown excused p changed
-  future_after outcome plain callbacks = record {
+  future_after outcome plain owner callbacks = record {
     next = le_refl _;
     tags = λ kind tag h. le_refl _;
     steps = λ task h. le_refl _;
@@ -53,6 +53,7 @@ module _ (test : Value → Bool) (grown : Bool) (excused : Option ℕ) (id : ℕ
     owned = λ task h. own task;
     pends = λ j h. inl (sym (kept_view is_pending_at (ap (λ o. is_pending_at (Some (record old { outcome = o }))) outcome) j) ∙ h);
     plain = λ j h. kept_view is_plain_at plain j ∙ h;
+    owners = λ j h. kept_view owner_at owner j;
     outcomes = λ has j value is. has j value (sym (kept_view outcome_at outcome j) ∙ is);
     main = λ m. record {
       made = m.made;
@@ -75,7 +76,7 @@ register_after test grown excused id action p other = at (slice_get p.futures id
         → IsAfter test grown excused p (registered_on o id future action p)
     until future e (Some done) = soon_after test grown excused action p other
     until future e None =
-        future_after test grown excused id p future (record future { callbacks = future.callbacks ++ action ∷ [] }) e refl refl
+        future_after test grown excused id p future (record future { callbacks = future.callbacks ++ action ∷ [] }) e refl refl refl
         (let a = sum_by_push (λ (x : Action). cond (is_main_done x) 1 0) future.callbacks action in
         let b : ◌≡◌ {A = ℕ} (cond (is_main_done action) 1 0) 0 = ap (λ x. cond x 1 0) other in omega (arith, a, b))
 
@@ -91,10 +92,15 @@ asked_after test grown excused id p = at (slice_get p.futures id) refl
     plain (OfTask task) = refl
     plain (Many members asked) = refl
 
+    owner : (kind : FutureKind) → owner_in (asked_kind kind) ≡ owner_in kind
+    owner Plain = refl
+    owner (OfTask task) = refl
+    owner (Many members asked) = refl
+
     at : (o : Option Future) → slice_get p.futures id ≡ o
         → IsAfter test grown excused p (option_map_or (λ (f : Future). with_future id (asked_as f) p) o p)
     at None e = refl_after test grown excused p
-    at (Some future) e = future_after test grown excused id p future (asked_as future) e refl (plain future.kind) refl
+    at (Some future) e = future_after test grown excused id p future (asked_as future) e refl (plain future.kind) (owner future.kind) refl
 
 -- ---- what is made
 module _ (test : Value → Bool) (grown : Bool) (excused : Option ℕ) (p : Parts) where
@@ -149,6 +155,7 @@ module _ (test : Value → Bool) (grown : Bool) (excused : Option ℕ) (p : Part
       owned = own;
       pends = is_new;
       plain = old_plain;
+      owners = λ id h. ap owner_at (get-push_other p.futures _ id (λ e. absurd (omega (arith, h, e))));
       outcomes = λ has j value is. has j value (sym (new_view outcome_at refl j) ∙ is);
       main = λ m. record {
         made = m.made;
@@ -178,6 +185,7 @@ module _ (test : Value → Bool) (grown : Bool) (excused : Option ℕ) (p : Part
     owned = λ task h. own task h;
     pends = λ j h. inl h;
     plain = λ j h. h;
+    owners = λ id h. refl;
     outcomes = λ has. has;
     main = λ m. record {
       made = let a = length-append p.tasks (it ∷ []) in omega (arith, a);

@@ -11,7 +11,7 @@ use Rattle.model_loop.specs.Entries.{entries}
 use Rattle.model_loop.specs.Futures.{outcome_at, is_pending, is_pending_at, next_future}
 use Rattle.model_loop.specs.Futures.{settle, with_future}
 use Rattle.model_loop.specs.Handles.{later, revoke, soon, soon_all}
-use Rattle.model_loop.specs.Owning.{is_plain, is_main_done}
+use Rattle.model_loop.specs.Owning.{is_plain, is_main_done, owner_at, owner_of}
 use Rattle.model_loop.specs.Parts.{Future, Handle, Parts, Task}
 use Rattle.model_loop.specs.Tasks.{change_task, future_of, next_task}
 use Rattle.model_loop.specs.Totals.{callbacks_at, callbacks_of, pending_where}
@@ -42,6 +42,7 @@ module _ (test : Value → Bool) (grown : Bool) where
     owned = λ task h. refl;
     pends = λ id h. inl h;
     plain = λ id h. h;
+    owners = λ id h. refl;
     outcomes = λ h. h;
     main = λ h. h;
   }
@@ -61,6 +62,7 @@ module _ (test : Value → Bool) (grown : Bool) where
     owned = λ task h. let n = a.tasks in b.owned task (omega (arith, h, n)) ∙ a.owned task h;
     pends = λ id h. before id (b.pends id h);
     plain = λ id h. b.plain id (a.plain id h);
+    owners = λ id h. let n = a.futures in b.owners id (omega (arith, h, n)) ∙ a.owners id h;
     outcomes = λ h. b.outcomes (a.outcomes h);
     main = λ h. b.main (a.main h);
   }
@@ -94,6 +96,7 @@ module _ (test : Value → Bool) (grown : Bool) where
     owned = λ task h. own task;
     pends = λ id h. inl (sym (ap (λ (l : List Future). is_pending_at (slice_get l id)) fs) ∙ h);
     plain = λ id h. ap (λ (l : List Future). is_plain_at (slice_get l id)) fs ∙ h;
+    owners = λ id h. ap (λ (l : List Future). owner_at (slice_get l id)) fs;
     outcomes = λ h id value e. h id value (sym (ap (λ (l : List Future). outcome_at (slice_get l id)) fs) ∙ e);
     main = main_same p q fs (omega (arith, ts)) (own 0) fewer;
   }
@@ -229,6 +232,11 @@ module _ (test : Value → Bool) (grown : Bool) where
         ap (λ (l : List Future). is_plain_at (slice_get l j)) fs
         ∙ get-set_kept is_plain_at p.futures id j future ended e refl
 
+    ownings : (j : ℕ) → owner_of after j ≡ owner_of p j
+    ownings j =
+        ap (λ (l : List Future). owner_at (slice_get l j)) fs
+        ∙ get-set_kept owner_at p.futures id j future ended e refl
+
     callbacks : (j : ℕ) (kind : Action → Bool) → 0 < count_by kind (callbacks_of after j) → 0 < count_by kind (callbacks_of p j)
     callbacks j kind h = at (cases_eq id j)
       where
@@ -281,6 +289,7 @@ module _ (test : Value → Bool) (grown : Bool) where
       owned = λ task h. own task;
       pends = λ j h. inl (pends j h);
       plain = λ j h. plains j ∙ h;
+      owners = λ j h. ownings j;
       outcomes = outcomes good;
       main = told;
     }

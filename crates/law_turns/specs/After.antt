@@ -9,7 +9,7 @@ use Rattle.model_loop.specs.Entries.{AreTimed, entries}
 use Rattle.model_loop.specs.Futures.{future_outcome, is_pending, next_future}
 use Rattle.model_loop.specs.Groups.{group_of}
 use Rattle.model_loop.specs.Loop.{Group, Loop, Timeout}
-use Rattle.model_loop.specs.Owning.{is_main_done, is_plain}
+use Rattle.model_loop.specs.Owning.{is_main_done, is_plain, owner_of}
 use Rattle.model_loop.specs.Parts.{Parts}
 use Rattle.model_loop.specs.Tasks.{future_of, next_task}
 use Rattle.model_loop.specs.Timeouts.{timeout_of}
@@ -54,6 +54,7 @@ pub record IsAfter (test : Value → Bool) (grown : Bool) (excused : Option ℕ)
   pub owned : (task : ℕ) → task < next_task p → future_of q task ≡ future_of p task
   pub pends : (id : ℕ) → is_pending q id ≡ true → (is_pending p id ≡ true) ⊎ (next_future p ≤ id)
   pub plain : (id : ℕ) → is_plain p id ≡ true → is_plain q id ≡ true
+  pub owners : (id : ℕ) → id < next_future p → owner_of q id ≡ owner_of p id
   pub outcomes : HasIn test p → HasIn test q
   pub main : IsMainTold p → IsMainTold q
 

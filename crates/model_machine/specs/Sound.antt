@@ -1,8 +1,9 @@
 -- A sound state of the machine, between any two callbacks of a run: its loop is sound, and each task stands where its tape
 -- says that it does.
-use Rattle.std.specs.Prelude.{◌≡◌, ℕ, ◌<◌, ◌≤◌, Bool, true, false, not, ◌&&◌, ◌==◌, List, [], ◌∷◌, Option, Some, None, length, nat_lt, slice_get}
-use Rattle.std.specs.List.{count_by, list_all, list_any}
-use Rattle.model_value.specs.declared.action.Action.TheVariants.{SleepDone, Step}
+use Rattle.std.specs.Prelude.{◌≡◌, ℕ, ◌<◌, ◌≤◌, ◌⊎◌, Bool, true, false, not, ◌&&◌, ◌==◌, List, [], ◌∷◌, Option, Some, None, length, nat_lt}
+use Rattle.std.specs.Prelude.{slice_get, slice_index_or}
+use Rattle.std.specs.List.{AllByRecursion as Each, count_by, list_all, list_any}
+use Rattle.model_value.specs.declared.action.Action.TheVariants.{SleepDone, Step, Extra as OfExtra}
 use Rattle.model_value.specs.declared.input.Input.TheVariants.{Send, Throw}
 use Rattle.model_value.specs.declared.outcome.Outcome.TheVariants.{Value as Returned}
 use Rattle.model_value.specs.declared.request.Request.TheVariants as request
@@ -16,10 +17,11 @@ use Rattle.model_says.specs.Endings.{Asks, Exchange}
 use Rattle.model_says.specs.Says.{exchanges_along, step_limit}
 use Rattle.model_wire.specs.declared.event.Handed.{Handed}
 use Rattle.model_wire.specs.declared.event.Handed.TheVariants as to
+use Rattle.model_loop.specs.Entries.{entries}
 use Rattle.model_loop.specs.Futures.{future_outcome, next_future}
 use Rattle.model_loop.specs.Groups.{group_of}
 use Rattle.model_loop.specs.Loop.{Loop, TimeoutState, Active, Expiring}
-use Rattle.model_loop.specs.Owning.{is_main_done, is_plain}
+use Rattle.model_loop.specs.Owning.{is_main_done, is_plain, own_future, owner_of}
 use Rattle.model_loop.specs.Parts.{Future, Handle, Parts, Plain, Timer}
 use Rattle.model_loop.specs.Sound.{IsSound}
 use Rattle.model_loop.specs.Tasks.{future_of, lives, next_task}
@@ -29,8 +31,9 @@ use Rattle.model_loop.specs.Ways.{is_running}
 use Rattle.model_stream.specs.Kept.{StreamsKeep, times_kept}
 use Rattle.model_stream.specs.Requests.{StreamReader, OfConn, OfChild}
 use Rattle.model_stream.specs.Streams.{Streams, no_streams}
-use Rattle.model_machine.specs.Extra.{Extra}
-use Rattle.model_machine.specs.State.{ResumePoint, Asked, Sleeping, Leaving, Serving, Connecting, Yielding, Reading, ReadingAll, State, generator_of}
+use Rattle.model_machine.specs.Extra.{Extra, Keeping}
+use Rattle.model_machine.specs.State.{ResumePoint, Asked, Sleeping, Leaving, Serving, Connecting, Yielding, Reading, ReadingAll, Generator, State}
+use Rattle.model_machine.specs.State.{generator, generator_of}
 use Rattle.model_machine.specs.Step.{says_of}
 use Rattle.model_machine.specs.Told.{told_in}
 
@@ -195,6 +198,54 @@ pub record AreScriptsFutures {S : Type 0} (s : State S) : Type 0 where
   pub once : (place other id : ℕ) → slice_get s.futures place ≡ Some id → slice_get s.futures other ≡ Some id → place ≡ other
   pub apart : (place id : ℕ) → slice_get s.futures place ≡ Some id → times_kept id s.streams ≡ 0
 
+-- ---- what is added
+-- a future of `future()`, of which these are all, or a task's own
+abbrev pub IsAwaitable : (futures : List ℕ) → Parts → ℕ → Type 0
+IsAwaitable futures p id = ((place : ℕ) × (slice_get futures place ≡ Some id)) ⊎ ((task : ℕ) × (own_future p task ≡ Some id))
+
+-- it was made, and is no task's
+abbrev pub IsOwned : Parts → ℕ → Type 0
+IsOwned p id = (id < next_future p) × (owner_of p id ≡ None)
+
+-- none of these
+abbrev pub IsNoneOf : List ℕ → ℕ → Type 0
+IsNoneOf ids id = (place : ℕ) → slice_get ids place ≡ Some id → ⊥
+
+abbrev pub is_extra : Action → Bool
+is_extra (OfExtra key) = true
+is_extra _ = false
+
+-- what has a tag and is no handle of what is added
+abbrev pub no_extra_as : ℕ → ℕ → Action → Bool
+no_extra_as tag other it = (other == tag) && not (is_extra it)
+
+-- it was given, and what has it is a handle of what is added
+abbrev pub IsTagOwned : Parts → ℕ → Type 0
+IsTagOwned p tag = (tag < p.next_tag) × (entries (no_extra_as tag) p ≡ 0)
+
+-- What is added keeps what was made: futures that scripts may await, others of its own, which are no task's and no script's, and
+-- tags of its own handles. `futures` are those of `future()`.
+pub record AreKept (keeping : Keeping) (futures : List ℕ) (p : Parts) : Type 0 where
+  pub tasks : Each (λ task. task < next_task p) keeping.tasks
+  pub awaitable : Each (IsAwaitable futures p) keeping.futures
+  pub own : Each (IsOwned p) keeping.own
+  pub apart : Each (IsNoneOf futures) keeping.own
+  pub tags : Each (IsTagOwned p) keeping.tags
+  pub values : list_all (names_made (next_task p)) keeping.values ≡ true
+
+-- the task stands at a request under this key
+abbrev pub StandsUnder : List Generator → (task key : ℕ) → Type 0
+StandsUnder generators task key = (slice_index_or generators task (generator 0 [])).resume_point ≡ Serving key
+
+-- no task does
+abbrev pub IsFree : List Generator → (key : ℕ) → Type 0
+IsFree generators key = (task : ℕ) → StandsUnder generators task key → ⊥
+
+-- each key under which a task stands is one that is kept, and is no other task's
+pub record AreKeysKept (has_key : ℕ → Bool) (generators : List Generator) : Type 0 where
+  pub known : (task key : ℕ) → StandsUnder generators task key → has_key key ≡ true
+  pub once : (task other key : ℕ) → StandsUnder generators task key → StandsUnder generators other key → task ≡ other
+
 -- ---- streams
 -- nothing is open, and nothing can be opened
 abbrev pub IsClosed : {S : Type 0} → State S → Type 0
@@ -227,6 +278,8 @@ pub record IsSoundOver {S : Type 0} (Blocks : Type 0) (running excused : Option 
   pub kept_once : AreKeptOnce s
   pub futures : AreScriptsFutures s
   pub made : AreTasksMade s
+  pub kept : AreKept (added.keeps s.extra) s.futures s.loop.parts
+  pub keys : AreKeysKept (added.keeps s.extra).has_key s.generators
 
 -- all of its blocks
 abbrev pub IsSoundBut : {S : Type 0} → (running excused : Option ℕ) → Extra S → State S → Type 0

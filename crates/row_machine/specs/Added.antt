@@ -16,7 +16,7 @@ use Rattle.model_wire.specs.Event.{Event}
 use Rattle.model_wire.specs.Journal.{Entry, Answered}
 use Rattle.model_loop.specs.Futures.{next_future}
 use Rattle.model_wire.specs.declared.event.End.TheVariants.{Returned}
-use Rattle.model_machine.specs.Extra.{CallsLater, Extra, ExtraAnswer, MakesPlain, Answers, Raises, Settles, Waits}
+use Rattle.model_machine.specs.Extra.{CallsLater, Extra, ExtraAnswer, MakesPlain, Answers, Raises, Settles, Waits, nothing_kept}
 use Rattle.model_machine.specs.Replies.{most_ids, shown_all}
 use Rattle.model_machine.specs.Run.{Run, run_on}
 use Rattle.model_machine.specs.State.{start}
@@ -43,6 +43,7 @@ alarm =
       act = λ key s. record { state = s.extra; steps = Settles s.extra (Resolved Nothing) ∷ [] };
       item = λ code bytes s. record { state = s.extra; steps = [] };
       watches = λ s. false;
+      keeps = λ s. nothing_kept;
     }
 
 abbrev pub seen_with_alarm : List ℕ → List ℕ → Seen

@@ -14,7 +14,7 @@ use Rattle.model_wire.specs.declared.event.Event.TheVariants.{Called, Got, Ran, 
 use Rattle.model_wire.specs.Call.{Call}
 use Rattle.model_wire.specs.Event.{Event}
 use Rattle.model_wire.specs.JournalText.{entries_of}
-use Rattle.model_machine.specs.Extra.{Extra, ExtraAnswer, ExtraSaid, Answers, Raises, Asks}
+use Rattle.model_machine.specs.Extra.{Extra, ExtraAnswer, ExtraSaid, Answers, Raises, Asks, nothing_kept}
 use Rattle.model_machine.specs.Replies.{most_ids}
 use Rattle.model_machine.specs.Run.{Run, run_on}
 use Rattle.model_machine.specs.State.{start}
@@ -41,6 +41,7 @@ asking more =
       act = λ key s. record { state = tt; steps = [] };
       item = λ code bytes s. record { state = tt; steps = [] };
       watches = λ s. false;
+      keeps = λ s. nothing_kept;
     }
 
 -- ---- runs over a journal

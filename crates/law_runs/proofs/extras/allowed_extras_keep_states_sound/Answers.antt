@@ -8,5 +8,5 @@ pub returns-clause-keeps : goal.returns-clause-keeps
 returns-clause-keeps g c = λ added allowed. allowed_keeps added allowed
 
 pub returns-clause-runs : goal.returns-clause-runs
-returns-clause-runs g c = λ added allowed most state program answers turns.
-    run_in added (allowed_keeps added allowed) turns (start most state program answers) (begins_sound added most state program answers)
+returns-clause-runs g c = λ added allowed most state program answers turns nothing.
+    run_in added (allowed_keeps added allowed) turns (start most state program answers) (begins_sound added most state program answers nothing)
