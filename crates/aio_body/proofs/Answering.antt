@@ -41,6 +41,8 @@ module _ {S : Type 0} (added : Extra S) (answers : List Entry) (s : State S) whe
     kept_once = h.kept_once;
     futures = record { plain = h.futures.plain; once = h.futures.once; apart = h.futures.apart };
     made = record { arguments = h.made.arguments; tape = h.made.tape; outcomes = h.made.outcomes };
+    kept = h.kept;
+    keys = h.keys;
   }
 
   pub state_again : IsStateSound added s → IsStateSound added now
@@ -50,7 +52,7 @@ module _ {S : Type 0} (added : Extra S) (answers : List Entry) (s : State S) whe
   step_again task h = record { others = sound_again _ _ h.others; resume_point = h.resume_point; begun = h.begun; exits = h.exits }
 
   pub asked_again : (task : ℕ) (stood : resume_point.ResumePoint) (asked : Request) → IsAsked added task stood asked s → IsAsked added task stood asked now
-  asked_again task stood asked h = record { others = sound_again _ _ h.others; resume_point = h.resume_point; says = h.says; exits = h.exits }
+  asked_again task stood asked h = record { others = sound_again _ _ h.others; resume_point = h.resume_point; says = h.says; exits = h.exits; alone = h.alone }
 
 -- ---- in code
 module _ {X : Type 0} {a : Added X} (answers : List Entry) (c : Context a) (body : RunState X) (s : State a.Kept) where

@@ -2,6 +2,7 @@
 use Rattle.std.proofs.Common.{◌≡◌, ℕ, ◌+◌, ◌<◌, ◌⊎◌, true, [], ◌∷◌, ◌++◌, Option, Some, None, length, slice_get, ◌∙◌, refl, sym, ap, subst, inl, inr}
 use Rattle.std.proofs.Common.{arith}
 use Rattle.std.proofs.lemmas.Bool.{cases_lt}
+use Rattle.std.specs.List.{AllByRecursion as Each}
 use Rattle.std.specs.Prelude.{◌≤◌, min, pos}
 use Rattle.model_value.specs.Number.{most}
 use Rattle.model_value.specs.declared.action.Action.TheVariants.{SleepDone}
@@ -13,7 +14,7 @@ use Rattle.model_loop.specs.Suspend.{suspend}
 use Rattle.model_loop.specs.Tasks.{next_task, waiter_of}
 use Rattle.model_stream.specs.Kept.{times_asked, times_kept}
 use Rattle.model_machine.specs.Replies.{alarmed, waits}
-use Rattle.model_machine.specs.Sound.{AreStreamsFutures}
+use Rattle.model_machine.specs.Sound.{AreStreamsFutures, IsOwned}
 use Rattle.model_machine.specs.State as plain
 use Rattle.model_machine.specs.State.{State, stands, unbooked_in}
 use Rattle.law_cancel.proofs.Lookups.{get-push_last}
@@ -24,6 +25,7 @@ use Rattle.refine_parts.proofs.Calls.{kept_suspend}
 use Rattle.law_steps.proofs.CancelSound.{plain_within}
 use Rattle.law_cases.proofs.Fits.{asked_kept, kept_nowhere}
 use Rattle.aio_cancel.specs.Awaitables.{Appended}
+use Rattle.aio_body.proofs.Adding.{each_among}
 use Rattle.aio_timer.specs.declared.live.TimerId.{TimerId}
 use Rattle.aio_timer.specs.Schedule.{placed_after, timer}
 use Rattle.aio_task.specs.Keeps.{ByTimer, Keeps, Kept, Knows, NameMap}
@@ -147,7 +149,7 @@ module _ {X : Type 0} {a : Added X} where
   pub sleeps_so : (task delay : ℕ) (c : Context a) (old new : RunState X) (s : State a.Kept) (v w : View) (id : TimerId) (future : ℕ)
       → (h : IsInStep task c old s) → OwnsFutures s.loop.parts
       → ((place it : ℕ) → slice_get s.futures place ≡ Some it → is_plain s.loop.parts it ≡ true) → AreStreamsFutures s
-      → ((other on : ℕ) → waiter_of s.loop.parts other ≡ Some on → on < next_future s.loop.parts) → task < next_task s.loop.parts
+      → Each (IsOwned s.loop.parts) (a.meaning.keeps s.extra).own → ((other on : ℕ) → waiter_of s.loop.parts other ≡ Some on → on < next_future s.loop.parts) → task < next_task s.loop.parts
       → future ≡ length old.parts.futures → id ≡ record { number = old.parts.schedule.next; when = min (old.parts.time + delay) most }
       → length old.parts.futures ≡ next_future s.loop.parts
       → v ≡ alarmed_view id task old.parts
@@ -157,7 +159,7 @@ module _ {X : Type 0} {a : Added X} where
       → HasSuspended task c new
       (stands (plain.Sleeping s.loop.parts.next_tag) task
       (waits task (next_future s.loop.parts) (unbooked_in (alarmed task (pos delay)) s)))
-  sleeps_so task delay c old new s v w id future h owns plains keep waiting within number is made alarm after appended frame slots items = record {
+  sleeps_so task delay c old new s v w id future h owns plains keep mine waiting within number is made alarm after appended frame slots items = record {
     stands =
         stands_resume_point c (record old { parts = w }) new (waits task on (unbooked_in (alarmed task (pos delay)) s)) task (Sleeping id future)
         (plain.Sleeping p.next_tag) asleep (at_it) slots items tasks;
@@ -222,7 +224,7 @@ module _ {X : Type 0} {a : Added X} where
 
       there : (it : ℕ) → named_in a s it → it < next_future p
       there it (inl found) = (plain_within p it (plains found.0 it found.1)).1
-      there it (inr (inl own)) = a.made h.stands.name_map p old.extra s.extra h.stands.extra it own
+      there it (inr (inl own)) = (each_among (IsOwned p) (a.meaning.keeps s.extra).own mine own.0 it own.1).0
       there it (inr (inr kept)) = asked_within s keep it kept
 
       at_it : Knows asleep.name_map r p.next_tag (ByTimer id) × IsOwnSleep r (named_in a s) (Some task) future

@@ -12,7 +12,7 @@ use Rattle.aio_timer.specs.declared.live.TimerId.{TimerId}
 use Rattle.aio_task.specs.Keeps.{NameMap, Extends, Keeps, Kept, Knows, ByTimer}
 use Rattle.aio_task.specs.View.{View}
 use Rattle.aio_timeout.specs.declared.timeout.Timeout.{Timeout}
-use Rattle.aio_extra.specs.Added.{Added, GoesBeside, named_in}
+use Rattle.aio_extra.specs.Added.{Added, GoesBeside, named_in, owned_by}
 use Rattle.aio_group.specs.GoesOn.{PartsGoOn}
 use Rattle.aio_group.specs.Held.{Held}
 use Rattle.aio_body.specs.declared.run_state.RunState.{RunState}
@@ -183,7 +183,7 @@ module _ {X : Type 0} {a : Added X} where
       stands_after new out c old s v timeouts groups old.extra m s.extra left h kept leaves blocks
       (λ sleeper id. own_on new s.loop.parts m.parts (named_in a s) sleeper id leaves spares)
       (a.goes_on h.name_map kept.name_map s.loop.parts m.parts old.extra s.extra h.extra
-      (goes_beside (a.owns s.extra) h.name_map kept.name_map s.loop.parts m.parts kept.extends leaves.plain leaves.goes_on)) below same still
+      (goes_beside (owned_by a s.extra) h.name_map kept.name_map s.loop.parts m.parts kept.extends leaves.plain leaves.goes_on)) below same still
 
   -- An operation on the parts alone, whose view is `v` then, with so many handles before the bar.
   pub stands_by : (new : Option (ℕ × ℕ)) (out : Option ℕ) (c : Context a) (old : RunState X) (s : State a.Kept) (v : View) (change : Loop → Loop)

@@ -24,7 +24,7 @@ use Rattle.aio_task.specs.View.{View}
 use Rattle.aio_group.specs.GoesOn.{PartsGoOn}
 use Rattle.aio_group.specs.Held.{Held}
 use Rattle.aio_group.proofs.Going.{spawn_on}
-use Rattle.aio_extra.specs.Added.{Added, named_in}
+use Rattle.aio_extra.specs.Added.{Added, named_in, owned_by}
 use Rattle.aio_body.specs.Slots.{HoldsMore}
 use Rattle.aio_body.specs.Stands.{AreBlocks, HasSlot, IsOwnSleep, Context, Stands, StandsAt, WaitsAs, coroutine_in}
 use Rattle.aio_body.specs.declared.run_state.RunState.{RunState}
@@ -105,7 +105,7 @@ module _ {X : Type 0} {a : Added X} where
         rest = h.rest;
         extra =
             a.goes_on h.name_map kept.name_map p q old.extra s.extra h.extra
-            (goes_beside (a.owns s.extra) h.name_map kept.name_map p q kept.extends more.plain more.goes_on);
+            (goes_beside (owned_by a s.extra) h.name_map kept.name_map p q kept.extends more.plain more.goes_on);
         count = h.count;
       })
     where

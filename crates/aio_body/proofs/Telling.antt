@@ -11,7 +11,7 @@ use Rattle.model_machine.specs.Arguments.{as_future, as_awaited}
 use Rattle.model_machine.specs.State.{State}
 use Rattle.law_steps.proofs.CancelSound.{plain_within}
 use Rattle.aio_task.specs.View.{parts}
-use Rattle.aio_extra.specs.Added.{Added, IsNamed, named_in}
+use Rattle.aio_extra.specs.Added.{Added, IsNamed, named_in, owned_by}
 use Rattle.aio_body.specs.declared.run_state.RunState.{RunState}
 use Rattle.aio_body.specs.Named.{future_in, awaited_in}
 use Rattle.aio_body.specs.Stands.{IsOwnSleep, Context, Stands}
@@ -21,7 +21,7 @@ use Rattle.refine_parts.proofs.Telling.{future_of_kept}
 -- ---- what is named
 module _ {X : Type 0} (a : Added X) (s : State a.Kept) where
   -- by a script, or as the own one of what is added
-  pub named_also : (id : ℕ) → IsNamed s.futures (a.owns s.extra) id → named_in a s id
+  pub named_also : (id : ℕ) → IsNamed s.futures (owned_by a s.extra) id → named_in a s id
   named_also id (inl found) = inl found
   named_also id (inr mine) = inr (inl mine)
 

@@ -25,7 +25,7 @@ use Rattle.model_machine.specs.Step.{step}
 use Rattle.model_machine.specs.Turn.{effect, ran}
 use Rattle.model_machine.specs.Went.{Went, Goes, Stops, state_of}
 use Rattle.law_replies.specs.InStep.{LeavesStateSound}
-use Rattle.law_runs.proofs.Callbacks.{callback_in}
+use Rattle.law_runs.proofs.Callbacks.{callback_in, idle_in}
 use Rattle.law_steps.proofs.CancelSound.{plain_within}
 use Rattle.law_groups.proofs.Quiet.{handles-first}
 use Rattle.refine_parts.proofs.Calls.{kept_settle}
@@ -40,12 +40,12 @@ use Rattle.aio_wire.specs.Outside.{Outside}
 use Rattle.aio_wire.specs.Port.{ported}
 use Rattle.aio_extra.specs.Added.{Added, named_in}
 use Rattle.model_loop.specs.Deadlines.{fires}
-use Rattle.model_machine.specs.Told.{told_by, told_in}
-use Rattle.law_steps.specs.Frames.{is_followed, taken}
-use Rattle.law_sound.proofs.Steps.{idle_sound}
-use Rattle.law_turns.specs.SoundState.{HasSoundLoop}
-use Rattle.law_turns.proofs.Turning.{as_told, tells_none}
-use Rattle.law_runs.specs.Allowed.{AreAllowed}
+use Rattle.model_machine.specs.Told.{told_by}
+use Rattle.law_steps.specs.Frames.{is_followed}
+use Rattle.law_runs.specs.Allowed.{IsCallAllowed}
+use Rattle.law_runs.proofs.Called.{may_call}
+use Rattle.law_turns.specs.After.{is_step}
+use Rattle.model_machine.specs.Sound.{IsStateSound}
 use Rattle.model_machine.specs.Extra.{Extra, ExtraCall, called as called_after}
 use Rattle.aio_task.specs.Keeps.{NameMap}
 use Rattle.aio_extra.specs.Called.{CallsAs, IsServed, MayServe}
@@ -117,16 +117,12 @@ module _ {X : Type 0} {a : Added X} (it : Action) (c : Context a) (body : RunSta
       (subst (λ d. LeavesStateSound a.meaning (ran step_limit a.meaning d h.handle.action out)) h.live
       (callback_in a.meaning (extra_sound a) h.before h.handle h.rest h.pending h.sound)))
 
-  -- where it is of nothing that the loop follows, the loop is sound as it begins
-  pub idle_so : is_followed it ≡ false → ((id : ℕ) → fires id it ≡ false) → ((group : ℕ) → told_by group it [] ≡ []) → HasSoundLoop s
-  idle_so unfollowed no_fire none =
-      subst HasSoundLoop (sym h.after)
-      (as_told None (told_in h.before.events) (told_in (h.before.events ++ event.Ran it ∷ [])) (in_parts (taken h.rest) h.before.loop)
-      (tells_none h.before.events it none)
-      (idle_sound (told_in h.before.events) h.handle h.rest h.before.loop h.pending
-      (λ test follows. ap (λ k. not h.handle.dead && test k) h.runs ∙ ap (λ b. not h.handle.dead && b) (follows it unfollowed) ∙ off (not h.handle.dead))
-      (λ id. ap (λ k. not h.handle.dead && fires id k) h.runs ∙ ap (λ b. not h.handle.dead && b) (no_fire id) ∙ off (not h.handle.dead))
-      h.sound.loop))
+  -- where it is of nothing that the loop follows, the state is sound as it begins
+  pub idle_state : is_followed it ≡ false → ((id : ℕ) → fires id it ≡ false) → ((group : ℕ) → told_by group it [] ≡ [])
+      → ((task : ℕ) → is_step task it ≡ false) → IsStateSound a.meaning s
+  idle_state unfollowed no_fire none steps_none =
+      subst (IsStateSound a.meaning) (sym h.after)
+      (idle_in a.meaning (extra_sound a) h.before h.handle h.rest h.pending h.sound it h.runs unfollowed no_fire none steps_none)
 
   pub called_so : (task : ℕ) → steps task it ≡ true → stepped it ≡ Some task → IsCalled task c body s
   called_so task mine one = record {
@@ -377,54 +373,54 @@ HearsNews a old v x number bytes =
 module _ {X : Type 0} {a : Added X} where
   -- ---- handles of what is added, and news for it
   idle_served : (it : Action) (body : RunState X) → is_followed it ≡ false → ((id : ℕ) → fires id it ≡ false) → ((group : ℕ) → told_by group it [] ≡ [])
-      → stepped it ≡ None → Possible a (IsTaken it) body → MayServe a None body.extra body.parts
-  idle_served it body unfollowed no_fire none idle m =
+      → ((task : ℕ) → is_step task it ≡ false) → stepped it ≡ None → Possible a (IsTaken it) body → MayServe a None body.extra body.parts
+  idle_served it body unfollowed no_fire none steps_none idle m =
       ∥∥₁_map m (λ w.
       let h = w.1.1 in (
         h.stands.name_map,
         (
           w.1.0,
           served_of None None w.0 body w.1.0 h.stands (h.called ∙ idle) h.running
-              (idle_so it w.0 body w.1.0 h unfollowed no_fire none),
+              (may_call a.meaning None None w.1.0 (idle_state it w.0 body w.1.0 h unfollowed no_fire none steps_none)),
         ),
       ))
 
   -- a call of it that steps no task
-  module _ (it : Action) (c : Context a) (old : RunState X) (s : State a.Kept) (h : IsTaken it c old s) (sound : HasSoundLoop s) (idle : stepped it ≡ None)
-      (call : ExtraCall a.Kept) (may : AreAllowed call.steps s.loop) (does : effect step_limit a.meaning it s ≡ Goes (called_after call s)) (v : View)
+  module _ (it : Action) (c : Context a) (old : RunState X) (s : State a.Kept) (h : IsTaken it c old s) (sound : IsStateSound a.meaning s)
+      (idle : stepped it ≡ None) (call : ExtraCall a.Kept) (may : IsCallAllowed a.meaning None call s) (does : effect step_limit a.meaning it s ≡ Goes (called_after call s)) (v : View)
       (x : X) where
     calls_so : ((t : NameMap) (now : State a.Kept) → IsServed a None t now old.extra old.parts → now ≡ s → CallsAs a t s old.parts v x call)
         → TaskSteps c (record old { parts = v; extra = x }) went.Goes (effect step_limit a.meaning it s)
     calls_so calls =
-        let r = calls h.stands.name_map s (served_of None None c old s h.stands (h.called ∙ idle) h.running sound) refl in
+        let r = calls h.stands.name_map s (served_of None None c old s h.stands (h.called ∙ idle) h.running (may_call a.meaning None None s sound)) refl in
         after_so it c old s h (record old { parts = v; extra = x }) (called_after call s) does (record {
-          stands = stands_called None None c old s v x call h.stands may sound r;
+          stands = stands_called None None c old s v x call h.stands None may sound.loop r;
           called = r.called ∙ h.called ∙ idle;
           running = r.running ∙ h.running;
         })
 
   pub extra_serves : (key : ℕ) (body : RunState X) → Possible a (IsTaken (action.Extra key)) body → MayServe a None body.extra body.parts
-  extra_serves key body m = idle_served (action.Extra key) body refl (λ id. refl) (λ g. refl) refl m
+  extra_serves key body m = idle_served (action.Extra key) body refl (λ id. refl) (λ g. refl) (λ task. refl) refl m
 
   pub extra_acts : (key : ℕ) (old : RunState X) (v : View) (x : X)
       → ((t : NameMap) (s : State a.Kept) → IsServed a None t s old.extra old.parts → CallsAs a t s old.parts v x (a.meaning.act key s))
       → Acts a (action.Extra key) old (record old { parts = v; extra = x }) went.Goes
   unfolding effect
   extra_acts key old v x does c s h =
-      let sound = idle_so (action.Extra key) c old s h refl (λ id. refl) (λ g. refl) in
-      calls_so (action.Extra key) c old s h sound refl (a.meaning.act key s) (a.allowed.act key s sound) refl v x
+      let sound = idle_state (action.Extra key) c old s h refl (λ id. refl) (λ g. refl) (λ task. refl) in
+      calls_so (action.Extra key) c old s h sound refl (a.meaning.act key s) (a.allowed.act key s (may_call a.meaning None None s sound)) refl v x
       (λ t now served same. does t s (subst (λ n. IsServed a None t n old.extra old.parts) same served))
 
   pub item_serves : (number : ℤ) (bytes : List ℕ) (body : RunState X) → Possible a (IsTaken (action.ExtraItem number bytes)) body
       → MayServe a None body.extra body.parts
-  item_serves number bytes body m = idle_served (action.ExtraItem number bytes) body refl (λ id. refl) (λ g. refl) refl m
+  item_serves number bytes body m = idle_served (action.ExtraItem number bytes) body refl (λ id. refl) (λ g. refl) (λ task. refl) refl m
 
   pub item_acts : (number : ℤ) (bytes : List ℕ) (old : RunState X) (v : View) (x : X)
       → HearsNews a old v x number bytes → Acts a (action.ExtraItem number bytes) old (record old { parts = v; extra = x }) went.Goes
   unfolding effect
   item_acts number bytes old v x does c s h =
-      let sound = idle_so (action.ExtraItem number bytes) c old s h refl (λ id. refl) (λ g. refl) in
-      calls_so (action.ExtraItem number bytes) c old s h sound refl (a.meaning.item number bytes s) (a.allowed.item number bytes s sound) refl v x
+      let sound = idle_state (action.ExtraItem number bytes) c old s h refl (λ id. refl) (λ g. refl) (λ task. refl) in
+      calls_so (action.ExtraItem number bytes) c old s h sound refl (a.meaning.item number bytes s) (a.allowed.item number bytes s (may_call a.meaning None None s sound)) refl v x
       (λ t now served same. does t s (subst (λ n. IsServed a None t n old.extra old.parts) same served))
 
 -- ---- callbacks of listeners, connections and children

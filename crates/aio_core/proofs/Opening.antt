@@ -178,7 +178,7 @@ module _ {X : Type 0} (a : Added X) (program : Program) (none held : RunState X)
     rest = refl;
     extra =
         subst (λ y. a.stands (callback_kept (profile_of program)).name_map first_parts y kept) (sym (ap (λ (b : RunState X). b.extra) holds.frame ∙ e.added))
-        (fresh (callback_kept (profile_of program)).name_map first_parts);
+        (fresh.stands (callback_kept (profile_of program)).name_map first_parts);
     count = ap (λ (b : RunState X). b.events.answers) holds.frame ∙ ap (λ (l : EventList). l.answers) e.events;
   }
     where
@@ -218,7 +218,7 @@ module _ {X : Type 0} (a : Added X) (program : Program) (none held : RunState X)
       stands = begins_at answers;
       called = refl;
       running = refl;
-      sound = begins_sound a.meaning most_ids kept program answers;
+      sound = begins_sound a.meaning most_ids kept program answers fresh.names;
     },
   )
 

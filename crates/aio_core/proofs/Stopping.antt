@@ -23,6 +23,7 @@ use Rattle.law_turns.specs.After.{IsLoopAfter}
 use Rattle.law_turns.proofs.Loops.{book_loop}
 use Rattle.law_turns.proofs.Requests.{each_after}
 use Rattle.law_replies.proofs.Nobody.{nobody, over_as}
+use Rattle.law_replies.proofs.Kept.{futures_stay}
 use Rattle.refine_parts.proofs.Calls.{kept_request}
 use Rattle.refine_parts.proofs.Requesting.{each_one}
 use Rattle.refine_parts.proofs.Telling.{future_of_kept, outcome_kept, pending_kept}
@@ -204,7 +205,7 @@ module _ {X : Type 0} {a : Added X} where
 -- all of them: that leaves a sound state
 cancelled_sound : {S : Type 0} (added : Extra S) (s : State S) → IsStateSound added s → IsStateSound added (in_loop cancel_everything s)
 cancelled_sound added s sound =
-    nobody added s sound (in_loop cancel_everything s) (record { program = refl; generators = refl; streams = refl }) refl
+    nobody added s sound (in_loop cancel_everything s) (record { program = refl; generators = refl; streams = refl; extra = refl; scripts = futures_stay }) refl
     (over_as added s sound (cancel_everything s.loop) all) all (end_of_run_sound None (told_in s.events) s.loop sound.loop)
   where
     all : IsLoopAfter (names_made (next_task s.loop.parts)) false None None None None s.loop (cancel_everything s.loop)

@@ -34,7 +34,7 @@ use Rattle.aio_group.specs.GoesOn.{PartsGoOn}
 use Rattle.aio_group.proofs.Standing.{groups_on}
 use Rattle.aio_task.specs.View.{View}
 use Rattle.aio_task.specs.Keeps.{NameMap, Keeps, Knows, ByTimer, handle_as}
-use Rattle.aio_extra.specs.Added.{Added, GoesBeside, named_in}
+use Rattle.aio_extra.specs.Added.{Added, GoesBeside, named_in, owned_by}
 use Rattle.aio_body.specs.declared.run_state.RunState.{RunState}
 use Rattle.aio_body.specs.Stands.{Context, Stands, IsBetween, IsOwnSleep, Possible}
 use Rattle.aio_body.proofs.Lasting.{parts_change, spares_none, stands_left}
@@ -126,7 +126,7 @@ module _ {X : Type 0} {a : Added X} where
         failures = λ _ _ e. e;
       }
 
-      frame : GoesBeside (a.owns s.extra) h.name_map p u q
+      frame : GoesBeside (owned_by a s.extra) h.name_map p u q
       frame = record {
         known = λ tag below. refl;
         tags = omega arith;

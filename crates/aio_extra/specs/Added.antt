@@ -4,9 +4,9 @@ use Rattle.model_loop.specs.Futures.{next_future}
 use Rattle.model_loop.specs.Owning.{is_plain, owner_of}
 use Rattle.model_loop.specs.Parts.{Parts}
 use Rattle.model_stream.specs.Kept.{times_asked}
-use Rattle.model_machine.specs.Extra.{Extra, WakesFall}
+use Rattle.model_machine.specs.Extra.{Extra, NamesNothing, WakesFall}
 use Rattle.model_machine.specs.State.{State}
-use Rattle.law_runs.specs.Allowed.{MakesAllowedSteps}
+use Rattle.law_runs.specs.Allowed.{IsAmong, MakesAllowedSteps}
 use Rattle.aio_task.specs.Keeps.{NameMap}
 
 -- The loop goes on beside what is added: tags are known as before, what it made stays what it was, and of its own futures
@@ -23,21 +23,21 @@ pub record GoesBeside (owned : ℕ → Type 0) (t : NameMap) (p : Parts) (u : Na
 pub record Added (X : Type 0) : Type 1 where
   -- what the machine keeps of it
   pub Kept : Type 0
-  -- what its calls mean
+  -- what its calls mean, and what a state of it names of the machine's
   pub meaning : Extra Kept
-  -- the futures that are its own: it made them, and no script names them
-  pub owns : Kept → ℕ → Type 0
   -- An object stands for what the machine keeps. It knows handles and timers by their names, where the machine has tags.
   pub stands : NameMap → Parts → X → Kept → Type 0
   -- it goes on doing so whatever else the loop does
-  pub goes_on : (t u : NameMap) (p q : Parts) (x : X) (kept : Kept) → stands t p x kept → GoesBeside (owns kept) t p u q
-      → stands u q x kept
-  -- what is its own was made
-  pub made : (t : NameMap) (p : Parts) (x : X) (kept : Kept) → stands t p x kept → (id : ℕ) → owns kept id → id < next_future p
-  -- its steps keep a loop sound
+  pub goes_on : (t u : NameMap) (p q : Parts) (x : X) (kept : Kept) → stands t p x kept
+      → GoesBeside (IsAmong (meaning.keeps kept).own) t p u q → stands u q x kept
+  -- its steps keep states sound, and what it keeps right
   pub allowed : MakesAllowedSteps meaning
-  -- a request that is woken and is to be woken again is woken fewer times each time
+  -- a request that is woken and is to be woken again at once is so fewer times each time
   pub falls : WakesFall meaning
+
+-- the futures that are its own: it made them, and no script names them
+abbrev pub owned_by : {X : Type 0} → (a : Added X) → a.Kept → ℕ → Type 0
+owned_by a kept id = IsAmong (a.meaning.keeps kept).own id
 
 -- a script names this future, or it is somebody's own
 abbrev pub IsNamed : (named : List ℕ) → (owned : ℕ → Type 0) → ℕ → Type 0
@@ -45,12 +45,13 @@ IsNamed named owned id = ((place : ℕ) × (slice_get named place ≡ Some id)) 
 
 -- it is the own one of what is added, or a connection or a child keeps it, but for what its connect waits on
 abbrev pub owned_in : {X : Type 0} → (a : Added X) → State a.Kept → ℕ → Type 0
-owned_in a s id = a.owns s.extra id ⊎ (0 < times_asked id s.streams)
+owned_in a s id = owned_by a s.extra id ⊎ (0 < times_asked id s.streams)
 
 -- which futures of a state are named so
 abbrev pub named_in : {X : Type 0} → (a : Added X) → State a.Kept → ℕ → Type 0
 named_in a s id = IsNamed s.futures (owned_in a s) id
 
--- An object keeps nothing so far: it stands for this whatever was made.
-abbrev pub KeepsNothing : {X : Type 0} → (a : Added X) → X → a.Kept → Type 0
-KeepsNothing a x kept = (t : NameMap) (p : Parts) → a.stands t p x kept
+-- An object keeps nothing so far: it stands for this whatever was made, and that names nothing.
+pub record KeepsNothing {X : Type 0} (a : Added X) (x : X) (kept : a.Kept) : Type 0 where
+  pub stands : (t : NameMap) (p : Parts) → a.stands t p x kept
+  pub names : NamesNothing (a.meaning.keeps kept)

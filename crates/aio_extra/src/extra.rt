@@ -2,42 +2,44 @@
 ghost use Rattle.std.specs.Prelude.{◌≡◌, true, List, None, Some, IfOk, OnOk, is_some};
 ghost use Rattle.model_value.specs.Value.{Value as AnyValue};
 ghost use Rattle.model_loop.specs.Parts as plain;
-ghost use Rattle.model_machine.specs.Arguments.{as_list};
+ghost use Rattle.model_loop.specs.Tasks.{next_task};
+ghost use Rattle.model_machine.specs.Sound.{sends_made};
 ghost use Rattle.model_machine.specs.State.{State};
 ghost use Rattle.aio_task.specs.Keeps.{NameMap};
 ghost use Rattle.aio_extra.specs.Added.{Added};
-ghost use Rattle.aio_extra.specs.Called.{CallsAs, IsServed, MayServe, SaysAs};
+ghost use Rattle.aio_extra.specs.Called.{CallsAs, IsAskedOf, IsServed, MayAsk, MayServe, SaysAs};
 
 use crate::asked::Asked;
 use aio_base::{Input, Memory, Value};
-use aio_task::Parts;
+use aio_task::{FutureId, Parts};
 use std::alloc::Global;
 
 /// What serves requests that are added to the loop's own: `extra(code, list)`. It changes the
 /// loop's parts by the steps alone that its meaning says, and keeps what it made of them by number
 /// and by name. After want of memory the loop makes no call.
 pub trait Extra {
-    /// What the machine keeps of it, what its calls mean, which futures are its own, when it stands
+    /// What the machine keeps of it, what its calls mean, what of the loop it keeps, when it stands
     /// for what the machine keeps, and what holds of these.
     ghost added: { Added Self };
 
-    /// A task's request, with a list of arguments.
+    /// A task's request, with a list of arguments, and the futures of scripts by their numbers.
     fn ask(
         &mut self,
         alloc: Global,
         task: u32,
         code: i64,
         arguments: &Value,
+        futures: &[FutureId],
         parts: &mut Parts,
     ) -> Result<Asked, Memory>
-        requires list { is_some (as_list arguments.now) ≡ true }
-        requires serves { MayServe added (Some task) self.old parts.old }
+        requires { MayAsk added task futures.now arguments.now self.old parts.old }
         ensures { IfOk result (λ asked. (t : NameMap) (s : State added.Kept) (items : List AnyValue)
-            → as_list arguments.now ≡ Some items → IsServed added (Some task) t s self.old parts.old
+            → IsAskedOf added task t s futures.now arguments.now items self.old parts.old
             → SaysAs added t s parts.old parts.new self.new asked
             (added.meaning.ask task code items s)) };
 
-    /// What the wait of the request under this key came to, as the task goes on.
+    /// What the wait of the request under this key came to, as the task goes on. Where it is to be
+    /// woken again it stays under its key.
     fn wake(
         &mut self,
         alloc: Global,
@@ -49,6 +51,8 @@ pub trait Extra {
         requires serves { MayServe added parts.old.running self.old parts.old }
         ensures { IfOk result (λ asked. (t : NameMap) (s : State added.Kept)
             → IsServed added parts.old.running t s self.old parts.old
+            → (added.meaning.keeps s.extra).has_key key ≡ true
+            → sends_made (next_task s.loop.parts) input ≡ true
             → SaysAs added t s parts.old parts.new self.new asked
             (added.meaning.wake key input s)) };
 

@@ -5,7 +5,7 @@ ghost use Rattle.model_machine.specs.Extra.{unknown_code};
 use crate::asked::Asked;
 use crate::extra::Extra;
 use aio_base::{Input, Kind, Memory, Value, exception};
-use aio_task::Parts;
+use aio_task::{FutureId, Parts};
 use std::alloc::Global;
 
 /// Nothing is added: each code is unknown.
@@ -23,6 +23,7 @@ impl Extra for NoExtra {
         _task: u32,
         code: i64,
         _arguments: &Value,
+        _futures: &[FutureId],
         _parts: &mut Parts,
     ) -> Result<Asked, Memory> {
         unknown(alloc, code)

@@ -1,42 +1,46 @@
 -- What is added serves a request, in code as in the machine.
 use Rattle.std.proofs.Common.{◌≡◌, ℕ, ℤ, suc, ◌+◌, ◌-◌, ◌<◌, true, List, [], ◌++◌, Option, Some, None, Result, Ok, Err, length}
 use Rattle.std.proofs.Common.{slice_get, ◌∙◌, refl, sym, ap, subst, append-nil, arith}
-use Rattle.std.specs.Prelude.{IfOk, is_none}
+use Rattle.std.specs.List.{list_all}
+use Rattle.std.specs.Option.{option_map_or}
+use Rattle.std.specs.Prelude.{IfOk, is_none, is_some}
 use Rattle.std.proofs.Math.Logic.{∥∥₁_elim, ∥∥₁_map}
 use Rattle.std.proofs.Props.{props}
 use Rattle.std.proofs.lemmas.Bool.{eq-eqb}
+use Rattle.std.proofs.lemmas.Option.{none-some}
 use Rattle.model_value.specs.Input.{Input}
 use Rattle.model_wire.specs.Event.{Event}
-use Rattle.model_value.specs.Value.{Exc, Outcome, Value}
+use Rattle.model_value.specs.Value.{Exc, Items, Outcome, Value, list_of}
 use Rattle.model_value.specs.declared.request.Request.TheVariants as request
 use Rattle.model_wire.specs.declared.call.Call.TheVariants as call
 use Rattle.model_loop.specs.Futures.{future_outcome, is_pending_at, outcome_at}
-use Rattle.model_loop.specs.Sound.{IsSound}
 use Rattle.model_loop.specs.Suspend.{suspend}
 use Rattle.model_loop.specs.Tasks.{next_task}
 use Rattle.model_machine.specs.Arguments.{as_int, as_list}
 use Rattle.model_machine.specs.Extra as extra
-use Rattle.model_machine.specs.Extra.{Extra, ExtraAnswer, ExtraSaid, WakesFall, called, key_of}
+use Rattle.model_machine.specs.Extra.{Extra, ExtraAnswer, ExtraSaid, WakesFall, called, is_woken_at_once, key_of}
 use Rattle.model_machine.specs.Outcomes.{input_of}
 use Rattle.model_machine.specs.Replies as plain
 use Rattle.model_machine.specs.Replies.{ended, input_by, serves_as, serves_until, waits, woken, woken_within}
 use Rattle.model_machine.specs.State as resume_point
-use Rattle.model_machine.specs.State.{State, stands}
-use Rattle.model_machine.specs.Told.{told_in}
-use Rattle.law_runs.specs.Allowed.{IsSaidAllowed}
+use Rattle.model_machine.specs.Sound.{AreKeysKept, IsFree, names_made, sends_made}
+use Rattle.model_machine.specs.State.{Generator, State, stands}
+use Rattle.law_runs.specs.Allowed.{IsSaidAllowed, MayCall}
+use Rattle.law_runs.proofs.Called.{IsWokenFree, ended_sends, keys_called, may_call, may_on, none_free, said_free}
+use Rattle.law_replies.proofs.Given.{made_closed, of_all}
+use Rattle.law_replies.proofs.Replying.{handed_on}
 use Rattle.law_replies.proofs.Counts.{get_there, lives_within}
 use Rattle.refine_parts.proofs.Telling.{outcome_kept, pending_kept}
 use Rattle.law_runs.proofs.Waking.{asks_alike, woken_ends}
-use Rattle.law_turns.specs.Replied.{RunsSound}
 use Rattle.aio_cancel.specs.Awaitables.{Appended}
 use Rattle.aio_task.specs.Keeps.{NameMap}
 use Rattle.aio_task.specs.View.{View, parts}
 use Rattle.aio_extra.specs.Added.{Added, named_in}
 use Rattle.aio_extra.specs.Called as by_call
-use Rattle.aio_extra.specs.Called.{IsServed, MayServe, SaysAs}
+use Rattle.aio_extra.specs.Called.{IsAskedOf, IsServed, MayAsk, MayServe, SaysAs}
 use Rattle.aio_extra.specs.declared.asked.Asked.{Asked}
 use Rattle.aio_extra.specs.declared.asked.Asked.TheVariants.{Answer, Raise, Wait}
-use Rattle.aio_body.specs.Asked.{HasSuspended, IsAskingFor, IsDeciding, IsGoing, IsInStep, Says}
+use Rattle.aio_body.specs.Asked.{HasSuspended, IsAskingFor, IsDeciding, IsInStep, Says}
 use Rattle.aio_body.specs.Slots.{resume_point_at}
 use Rattle.aio_body.specs.Stands.{IsOwnSleep, Context, Possible}
 use Rattle.aio_body.specs.declared.run_state.RunState.{RunState}
@@ -94,18 +98,25 @@ module _ {S : Type 0} (added : Extra S) (falls : WakesFall added) (task : ℕ) w
       now : State S
       now = called (added.wake key input s).call s
 
-      until : (on next : ℕ) → added.wakes_left next (added.wake key input s).call.state < added.wakes_left key s.extra → (o : Option Outcome)
+      until : (on next : ℕ) (o : Option Outcome)
+          → (is_some o ≡ true → added.wakes_left next (added.wake key input s).call.state < added.wakes_left key s.extra)
           → serves_until o (woken_within added (added.wakes_left key s.extra) task) task on next now ≡ serves_until o (woken added task) task on next now
-      until on next less (Some outcome) = enough (added.wakes_left key s.extra) next (input_of outcome) now less
-      until on next less None = refl
+      until on next (Some outcome) less = enough (added.wakes_left key s.extra) next (input_of outcome) now (less refl)
+      until on next None less = refl
+
+      -- fewer are left, where the request is woken at once
+      fewer : (answer : ExtraAnswer) (next : ℕ) → (added.wake key input s).answer ≡ answer → key_of answer ≡ Some next
+          → is_woken_at_once answer now.loop ≡ true → added.wakes_left next (added.wake key input s).call.state < added.wakes_left key s.extra
+      fewer answer next e named once =
+          falls key input s next (ap key_of e ∙ named) (ap (λ it. is_woken_at_once it now.loop) e ∙ once)
 
       at : (answer : ExtraAnswer) → (added.wake key input s).answer ≡ answer
           → serves_as answer (woken_within added (added.wakes_left key s.extra) task) task now ≡ serves_as answer (woken added task) task now
       at (extra.Answers value) e = refl
       at (extra.Raises fault) e = refl
-      at (extra.Waits on next) e = until on next (falls key input s next (ap key_of e)) (ended now on)
+      at (extra.Waits on next) e = until on next (ended now on) (λ done. fewer (extra.Waits on next) next e refl done)
       at (extra.Asks code bytes next) e =
-          let less = falls key input s next (ap key_of e) in
+          let less = fewer (extra.Asks code bytes next) next e refl refl in
           asks_alike (call.Extra code bytes) (λ said. woken_within added (added.wakes_left key s.extra) task next (input_by said))
           (λ said. woken added task next (input_by said)) now
           (λ said t same. enough (added.wakes_left key s.extra) next (input_by said) t (let is = ap (added.wakes_left next) same in omega (arith, less, is)))
@@ -128,14 +139,49 @@ answered_begins added task (extra.Asks code bytes key) s events same =
     (in_callback added (in_answer added (decides_comes added task (resume_point.Serving key) (input_by said) t).reaches)))) same)
 
 -- ---- what it may rely on
+some_of : {A : Type 0} (o : Option A) → is_some o ≡ true → (x : A) × (o ≡ Some x)
+some_of None e = absurd (cc)
+some_of (Some x) e = (x, refl)
+
+-- the items of a list that is handed on were made
+arguments_made : (n : ℕ) (it : Value) (items : List Value) → names_made n it ≡ true → as_list it ≡ Some items → list_all (names_made n) items ≡ true
+arguments_made n (Items held) items made e =
+    subst (λ l. list_all (names_made n) l ≡ true) (ap (λ o. option_map_or (λ (l : List Value). l) o items) e)
+    (of_all n (list_of held) ((made_closed n).held held made))
+arguments_made n _ items made e = absurd (none-some items e)
+
+-- nobody stands under this key
+pub alone_free : (generators : List Generator) (key : ℕ) → IsFree generators key → IsWokenFree generators (Some key)
+alone_free generators key free other same =
+    subst (IsFree generators) (ap (λ o. option_map_or (λ (x : ℕ). x) o key) same) free
+
 module _ {X : Type 0} {a : Added X} where
-  pub asks_served : (task : ℕ) (body : RunState X) (code arguments : Value) → Possible a (IsAskingFor task (request.Extra code arguments)) body
-      → MayServe a (Some task) body.extra body.parts
-  asks_served task body code arguments m =
+  -- in a step
+  step_may : (task : ℕ) (running : Option ℕ) (s : State a.Kept) → running ≡ Some task → MayCall a.meaning (Some task) s → MayCall a.meaning running s
+  step_may task running s same may = subst (λ r. MayCall a.meaning r s) (sym same) may
+
+  -- what it is asked, in whichever state
+  asked_of : (task : ℕ) (c : Context a) (body : RunState X) (s : State a.Kept) (code arguments : Value) (items : List Value)
+      → as_list arguments ≡ Some items → (h : IsAskingFor task (request.Extra code arguments) c body s)
+      → IsAskedOf a task h.going.in_step.stands.name_map s body.futures.items arguments items body.extra body.parts
+  asked_of task c body s code arguments items listed h =
+      let in_step = h.going.in_step in
+      let others = h.going.sound.others in
+      record {
+        served =
+            served_of (Some task) (Some task) c body s in_step.stands in_step.called in_step.running (may_call a.meaning (Some task) (Some task) s others);
+        named = in_step.stands.futures;
+        listed = listed;
+        made = arguments_made (next_task s.loop.parts) arguments items (handed_on a.meaning task s h.going.sound (request.Extra code arguments) h.says)
+            listed;
+      }
+
+  pub asks_served : (task : ℕ) (body : RunState X) (code arguments : Value) → is_some (as_list arguments) ≡ true
+      → Possible a (IsAskingFor task (request.Extra code arguments)) body → MayAsk a task body.futures.items arguments body.extra body.parts
+  asks_served task body code arguments listed m =
+      let items = some_of (as_list arguments) listed in
       ∥∥₁_map m (λ w.
-      let going = w.1.1.going in
-      let h = going.in_step in
-      (h.stands.name_map, (w.1.0, served_of (Some task) (Some task) w.0 body w.1.0 h.stands h.called h.running going.sound.others.loop)))
+      (w.1.1.going.in_step.stands.name_map, (w.1.0, (items.0, asked_of task w.0 body w.1.0 code arguments items.0 items.1 w.1.1))))
 
   pub decides_served : (task key : ℕ) (body : RunState X) → Possible a (IsDeciding task (resume_point.Serving key)) body
       → MayServe a body.parts.running body.extra body.parts
@@ -146,7 +192,7 @@ module _ {X : Type 0} {a : Added X} where
         (
           w.1.0,
           served_of (Some task) body.parts.running w.0 body w.1.0 h.stands h.called refl
-              (subst (λ r. IsSound r (told_in w.1.0.events) w.1.0.loop) (sym h.running) w.1.1.asked.others.loop),
+              (step_may task body.parts.running w.1.0 h.running (may_call a.meaning (Some task) (Some task) w.1.0 w.1.1.asked.others)),
         ),
       ))
 
@@ -159,7 +205,7 @@ module _ {X : Type 0} {a : Added X} where
         (
           w.1.0,
           served_of (Some task) body.parts.running w.0 body w.1.0 h.stands h.called refl
-              (subst (λ r. IsSound r (told_in w.1.0.events) w.1.0.loop) (sym h.running) w.1.1.1.sound),
+              (step_may task body.parts.running w.1.0 h.running w.1.1.1.may),
         ),
       ))
 
@@ -175,28 +221,30 @@ module _ {X : Type 0} {a : Added X} (task : ℕ) (asked : Asked) (body : RunStat
   answers_there =
       ∥∥₁_elim m (hlevel props) (λ w.
       subst (λ n. task < n) (sym w.1.1.1.in_step.stands.made)
-      (lives_within w.1.0.loop.parts task (w.1.1.1.sound.parts.runs task (eq-eqb task task refl))))
+      (lives_within w.1.0.loop.parts task (w.1.1.1.may.loop.parts.runs task (eq-eqb task task refl))))
 
 pub decides_run : {X : Type 0} {a : Added X} (task key : ℕ) (body : RunState X) → Possible a (IsDeciding task (resume_point.Serving key)) body
     → body.parts.running ≡ Some task
 decides_run task key body m = ∥∥₁_elim m (same_prop body.parts.running (Some task)) (λ w. w.1.1.in_step.running)
 
 -- ---- what comes of a call
-module _ {X : Type 0} {a : Added X} (task : ℕ) (c : Context a) (old : RunState X) (s : State a.Kept) (h : IsInStep task c old s) (sound : RunsSound task s)
-    (v : View) (x : X) (asked : Asked) (said : ExtraSaid a.Kept) (may : IsSaidAllowed said s)
-    (r : SaysAs a h.stands.name_map s old.parts v x asked said) where
+module _ {X : Type 0} {a : Added X} (task : ℕ) (c : Context a) (old : RunState X) (s : State a.Kept) (h : IsInStep task c old s)
+    (called_may : MayCall a.meaning (Some task) s) (keys : AreKeysKept (a.meaning.keeps s.extra).has_key s.generators) (v : View) (x : X) (asked : Asked) (woken : Option ℕ) (free : IsWokenFree s.generators woken)
+    (said : ExtraSaid a.Kept) (may : IsSaidAllowed a.meaning woken said s) (r : SaysAs a h.stands.name_map s old.parts v x asked said) where
   pub answering_so : IsAnswering task asked said.answer c (record old { parts = v; extra = x }) (called said.call s)
   answering_so = record {
     in_step = record {
-      stands = stands_called (Some task) (Some task) c old s v x said.call h.stands may.0 sound r.calls;
+      stands = stands_called (Some task) (Some task) c old s v x said.call h.stands woken may.call called_may.loop r.calls;
       called = r.calls.called ∙ h.called;
       running = r.calls.running ∙ h.running;
     };
-    sound = sound_called (Some task) (Some task) c old s v x said.call h.stands may.0 sound r.calls;
+    may = may_on a.meaning (Some task) woken said.call s may.call called_may;
+    keys = keys_called a.meaning woken said.call s free may.call keys;
     answers =
         subst (λ t. by_call.AnswersAs a t (called said.call s) asked said.answer)
-        (sym (name_map_called (Some task) (Some task) c old s v x said.call h.stands may.0 sound r.calls)) r.answers;
-    allowed = may.1;
+        (sym (name_map_called (Some task) (Some task) c old s v x said.call h.stands woken may.call called_may.loop r.calls)) r.answers;
+    allowed = may.answer;
+    keyed = said_free a.meaning woken said s free may keys;
   }
 
 -- an answer that is none, and one that is
@@ -240,7 +288,7 @@ module _ {X : Type 0} {a : Added X} (task on key : ℕ) (c : Context a) (body : 
       ∙ ap is_none (sym (ap outcome_at it.1) ∙ sym outcome_is ∙ none)
 
   pub within : task < next_task s.loop.parts
-  within = lives_within s.loop.parts task (h.sound.parts.runs task (eq-eqb task task refl))
+  within = lives_within s.loop.parts task (h.may.loop.parts.runs task (eq-eqb task task refl))
 
   -- what is waited for is no sleep's own
   spares : Spares (Some (task, on)) s.loop.parts (named_in a s)
@@ -273,21 +321,27 @@ module _ {X : Type 0} {a : Added X} (task on key : ℕ) (c : Context a) (body : 
   pub wakes_so : (outcome : Outcome) (input : Input) → outcome_at (slice_get body.parts.futures on) ≡ Some outcome → input ≡ input_of outcome
       → (v : View) (x : X) (asked : Asked)
       → ((t : NameMap) (now : State a.Kept) → IsServed a body.parts.running t now body.extra body.parts
+      → (a.meaning.keeps now.extra).has_key key ≡ true → sends_made (next_task now.loop.parts) input ≡ true
       → SaysAs a t now body.parts v x asked (a.meaning.wake key input now))
       → AnswersAgain task asked c (record body { parts = v; extra = x }) (answered a.meaning task (extra.Waits on key) s)
   wakes_so outcome input is heard v x asked wakes = record {
     now = called (a.meaning.wake key input s).call s;
     it = (a.meaning.wake key input s).answer;
     answering =
-        answering_so task c body s h.in_step h.sound v x asked (a.meaning.wake key input s) (a.allowed.wake task key input s h.sound)
+        answering_so task c body s h.in_step h.may h.keys v x asked (Some key) (alone_free s.generators key (h.keyed key refl).0) (a.meaning.wake key input s)
+        (a.allowed.wake task key input s h.may (h.keyed key refl).1 made)
         (wakes h.in_step.stands.name_map s
         (served_of (Some task) body.parts.running c body s h.in_step.stands h.in_step.called refl
-        (subst (λ r. IsSound r (told_in s.events) s.loop) (sym h.in_step.running) h.sound)));
+        (step_may task body.parts.running s h.in_step.running h.may)) (h.keyed key refl).1 made);
     same =
         sym (woken_on a.meaning a.falls task key input s)
         ∙ ap (λ i. woken a.meaning task key i s) heard
         ∙ ap (λ o. serves_until o (woken a.meaning task) task on key s) (sym (sym outcome_is ∙ is));
   }
+    where
+      made : sends_made (next_task s.loop.parts) input ≡ true
+      made =
+          ap (sends_made (next_task s.loop.parts)) heard ∙ ended_sends a.meaning (Some task) s h.may on outcome (sym outcome_is ∙ is)
 
 pub waits_may : {X : Type 0} {a : Added X} (task on key : ℕ) (body : RunState X) → Possible a (HasAnswer task (Wait on key)) body
     → outcome_at (slice_get body.parts.futures on) ≡ None → is_pending_at (slice_get body.parts.futures on) ≡ true
@@ -309,25 +363,25 @@ AreAnswered a o task first old was asked body is =
 -- it was asked, with this code
 abbrev pub Asks : {X : Type 0} → (a : Added X) → (task : ℕ) (body : RunState X) (arguments : Value) (v : View) (x : X) (asked : Asked) (number : ℤ) → Type 0
 Asks a task body arguments v x asked number =
-    (t : NameMap) (s : State a.Kept) (items : List Value) → as_list arguments ≡ Some items → IsServed a (Some task) t s body.extra body.parts
+    (t : NameMap) (s : State a.Kept) (items : List Value) → IsAskedOf a task t s body.futures.items arguments items body.extra body.parts
     → SaysAs a t s body.parts v x asked (a.meaning.ask task number items s)
 
 module _ {X : Type 0} (a : Added X) (task : ℕ) (body : RunState X) (code arguments : Value) (number : ℤ) (items : List Value)
     (is_code : as_int code ≡ Some number) (are_items : as_list arguments ≡ Some items) (v : View) (x : X) (asked : Asked)
     (asks : Asks a task body arguments v x asked number) where
-  asked_so : (c : Context a) (s : State a.Kept) → IsGoing task c body s
+  asked_so : (c : Context a) (s : State a.Kept) → IsAskingFor task (request.Extra code arguments) c body s
       → IsAnswering task asked (a.meaning.ask task number items s).answer c (record body { parts = v; extra = x })
       (called (a.meaning.ask task number items s).call s)
   asked_so c s h =
-      let sound = h.sound.others.loop in
-      answering_so task c body s h.in_step sound v x asked (a.meaning.ask task number items s) (a.allowed.ask task number items s sound)
-      (asks h.in_step.stands.name_map s items are_items
-      (served_of (Some task) (Some task) c body s h.in_step.stands h.in_step.called h.in_step.running sound))
+      let may = may_call a.meaning (Some task) (Some task) s h.going.sound.others in
+      let it = asked_of task c body s code arguments items are_items h in
+      answering_so task c body s h.going.in_step may h.going.sound.others.keys v x asked None (none_free s.generators) (a.meaning.ask task number items s)
+      (a.allowed.ask task number items s may it.made) (asks h.going.in_step.stands.name_map s items it)
 
   pub asks_answer : Possible a (IsAskingFor task (request.Extra code arguments)) body → Possible a (HasAnswer task asked) (record body { parts = v; extra = x })
   asks_answer m =
       ∥∥₁_map m (λ w.
-      (w.0, (called (a.meaning.ask task number items w.1.0).call w.1.0, ((a.meaning.ask task number items w.1.0).answer, asked_so w.0 w.1.0 w.1.1.going))))
+      (w.0, (called (a.meaning.ask task number items w.1.0).call w.1.0, ((a.meaning.ask task number items w.1.0).answer, asked_so w.0 w.1.0 w.1.1))))
 
   pub asks_go : {W : Type 0} (o : Outside W) (new : RunState X) (was is : W) (result : Result RequestReply Stop)
       → Comes o (answering a task asked (record body { parts = v; extra = x }) new) (ported was body.events) (ported is new.events) result
@@ -343,23 +397,27 @@ module _ {X : Type 0} (a : Added X) (task : ℕ) (body : RunState X) (code argum
         told_none body.events.events,
         (
           (called (a.meaning.ask task number items s).call s, (a.meaning.ask task number items s).answer),
-          (asked_so c s h.going, added_means a.meaning task s code arguments number items is_code are_items),
+          (asked_so c s h, added_means a.meaning task s code arguments number items is_code are_items),
         ),
       )))
       answers
 
 module _ {X : Type 0} {a : Added X} (task key : ℕ) (body : RunState X) (input : Input) (v : View) (x : X) (asked : Asked)
+    (made : sends_made (length body.slots.items) input ≡ true)
     (wakes : (t : NameMap) (s : State a.Kept) → IsServed a body.parts.running t s body.extra body.parts
+    → (a.meaning.keeps s.extra).has_key key ≡ true → sends_made (next_task s.loop.parts) input ≡ true
     → SaysAs a t s body.parts v x asked (a.meaning.wake key input s)) where
   woken_so : (c : Context a) (s : State a.Kept) → IsDeciding task (resume_point.Serving key) c body s
       → IsAnswering task asked (a.meaning.wake key input s).answer c (record body { parts = v; extra = x })
       (called (a.meaning.wake key input s).call s)
   woken_so c s h =
-      let sound = h.asked.others.loop in
-      answering_so task c body s h.in_step sound v x asked (a.meaning.wake key input s) (a.allowed.wake task key input s sound)
+      let may = may_call a.meaning (Some task) (Some task) s h.asked.others in
+      let good : sends_made (next_task s.loop.parts) input ≡ true = subst (λ n. sends_made n input ≡ true) h.in_step.stands.made made in
+      answering_so task c body s h.in_step may h.asked.others.keys v x asked (Some key) (alone_free s.generators key h.asked.alone.0) (a.meaning.wake key input s)
+      (a.allowed.wake task key input s may h.asked.alone.1 good)
       (wakes h.in_step.stands.name_map s
       (served_of (Some task) body.parts.running c body s h.in_step.stands h.in_step.called refl
-      (subst (λ r. IsSound r (told_in s.events) s.loop) (sym h.in_step.running) sound)))
+      (step_may task body.parts.running s h.in_step.running may)) h.asked.alone.1 good)
 
   pub wakes_answer : Possible a (IsDeciding task (resume_point.Serving key)) body → Possible a (HasAnswer task asked) (record body { parts = v; extra = x })
   wakes_answer m =

@@ -48,7 +48,9 @@ module _ {X : Type 0} (a : Added X) (answers : List Entry) where
       → IsAnswering task asked it c body s → IsAnswering task asked it (with_rest answers c) body (with_answers answers s)
   answering_again task asked it c body s h = record {
     in_step = in_step_again answers c body s task h.in_step;
-    sound = h.sound;
+    may = record { loop = h.may.loop; kept = h.may.kept; scripts = h.may.scripts; outcomes = h.may.outcomes };
+    keys = h.keys;
     answers = answers_again h.in_step.stands.name_map s asked it h.answers;
     allowed = allowed_again answers it s h.allowed;
+    keyed = h.keyed;
   }

@@ -9,17 +9,17 @@ use Rattle.model_wire.specs.Call.{Answer, Call}
 use Rattle.model_wire.specs.Event.{Event}
 use Rattle.model_wire.specs.Journal.{Entry, Answered as Answered_}
 use Rattle.model_machine.specs.Extra as extra
-use Rattle.model_machine.specs.Extra.{ExtraAnswer, called}
+use Rattle.model_machine.specs.Extra.{ExtraAnswer, called, key_of}
 use Rattle.model_machine.specs.Replies as plain
 use Rattle.model_machine.specs.Replies.{input_by, woken}
+use Rattle.model_machine.specs.Sound.{AreKeysKept}
 use Rattle.model_machine.specs.State as resume_point
 use Rattle.model_machine.specs.State.{State, noted}
-use Rattle.model_machine.specs.Told.{told_in}
 use Rattle.model_machine.specs.Went.{answered_so, answers_in, fitted_so}
-use Rattle.model_loop.specs.Sound.{IsSound}
-use Rattle.law_turns.specs.Replied.{RunsSound}
-use Rattle.law_turns.proofs.TreeSteps.{told_in-none}
-use Rattle.law_turns.proofs.Turning.{as_told}
+use Rattle.model_loop.specs.Tasks.{next_task}
+use Rattle.law_replies.specs.InStep.{MayStandAt}
+use Rattle.law_runs.specs.Allowed.{MayCall}
+use Rattle.law_runs.proofs.Called.{answer_sends, may_heard}
 use Rattle.aio_wire.specs.EventList.{EventList}
 use Rattle.aio_wire.specs.Events.{pushed}
 use Rattle.aio_wire.specs.Outside.{Outside}
@@ -46,7 +46,7 @@ use Rattle.aio_body.proofs.Answering.{alive_come, stands_again}
 use Rattle.aio_body.proofs.Growing.{decides_begins}
 use Rattle.aio_body.proofs.Noting.{counted, stands_noted}
 use Rattle.aio_body.specs.Answers.{with_answers}
-use Rattle.aio_serve.proofs.Adding.{answered_begins, answering_so, woken_on}
+use Rattle.aio_serve.proofs.Adding.{alone_free, answered_begins, answering_so, woken_on}
 use Rattle.aio_serve.proofs.Again.{answering_again}
 use Rattle.aio_serve.specs.Adding.{AnswersAgain, HasAnswer, IsAnswering, Woke, answered, answering_once}
 use Rattle.aio_serve.specs.declared.added.Answered.{Answered}
@@ -207,7 +207,9 @@ module _ {X W : Type 0} (a : Added X) (o : Outside W) (task : ℕ) (code : ℤ) 
     -- the request goes on from there
     pub record HasHeard (c : Context a) (at : At) : Type 0 where
       pub in_step : IsInStep task c body (got_at answer c.answers at.0)
-      pub sound : RunsSound task (got_at answer c.answers at.0)
+      pub may : MayCall a.meaning (Some task) (got_at answer c.answers at.0)
+      pub keys : AreKeysKept (a.meaning.keeps at.0.extra).has_key at.0.generators
+      pub keyed : MayStandAt (a.meaning.keeps at.0.extra).has_key at.0.generators (resume_point.Serving key)
       pub same : answered a.meaning task at.1 at.0 ≡ wakes answer (got_at answer c.answers at.0)
 
     heard_so : (c : Context a) (at : At) → From (before had c) at → HasHeard c at
@@ -225,10 +227,9 @@ module _ {X W : Type 0} (a : Added X) (o : Outside W) (task : ℕ) (code : ℤ) 
             called = h.in_step.called;
             running = h.in_step.running;
           };
-          sound =
-              as_told (Some task) (told_in s.events) (told_in (got_at answer c.answers s).events) s.loop
-              (λ group. told_in-none (called_at s).events (event.Got answer ∷ []) (λ any. refl) group
-              ∙ told_in-none s.events (event.Called asks ∷ []) (λ any. refl) group) h.sound;
+          may = may_heard a.meaning (Some task) asks answer c.answers s h.may;
+          keys = h.keys;
+          keyed = h.keyed key (ap key_of (sym (asks_is b s at.1 h)));
           same =
               asks_as b s at.1 h (Answered_ answer ∷ c.answers) stands.rest
               ∙ ap (λ fit. fitted_so plain.Halts fit asks answer wakes (got_at answer c.answers s)) one.fit.0;
@@ -246,10 +247,8 @@ module _ {X W : Type 0} (a : Added X) (o : Outside W) (task : ℕ) (code : ℤ) 
         alive_come o From (λ answers c at h. ((with_answers answers at.0, at.1), answering_again a answers task Asks_ at.1 c old at.0 h)) had
         (ported was old.events) (ported mid events) HasHeard has_heard (∥∥₁_map m (λ w. (w.0, ((w.1.0, w.1.1.0), w.1.1.1))))
 
-    runs_sound : (c : Context a) (at : At) → HasHeard c at
-        → IsSound body.parts.running (told_in (got_at answer c.answers at.0).events) (got_at answer c.answers at.0).loop
-    runs_sound c at h =
-        subst (λ r. IsSound r (told_in (got_at answer c.answers at.0).events) (got_at answer c.answers at.0).loop) (sym h.in_step.running) h.sound
+    runs_may : (c : Context a) (at : At) → HasHeard c at → MayCall a.meaning body.parts.running (got_at answer c.answers at.0)
+    runs_may c at h = subst (λ r. MayCall a.meaning r (got_at answer c.answers at.0)) (sym h.in_step.running) h.may
 
     pub heard_served : Possible a (HasAnswer task Asks_) old → MayServe a body.parts.running body.extra body.parts
     heard_served m =
@@ -259,7 +258,7 @@ module _ {X W : Type 0} (a : Added X) (o : Outside W) (task : ℕ) (code : ℤ) 
           (
             got_at answer w.0.answers w.1.0.0,
             served_of (Some task) body.parts.running w.0 body (got_at answer w.0.answers w.1.0.0) h.in_step.stands h.in_step.called refl
-                (runs_sound w.0 w.1.0 h),
+                (runs_may w.0 w.1.0 h),
           ),
         ))
 
@@ -273,9 +272,11 @@ module _ {X W : Type 0} (a : Added X) (o : Outside W) (task : ℕ) (code : ℤ) 
           now = called said.call t;
           it = said.answer;
           answering =
-              answering_so task c body t h.in_step h.sound new.parts new.extra next said (a.allowed.wake task key (input_by answer) t h.sound)
+              answering_so task c body t h.in_step h.may h.keys new.parts new.extra next (Some key) (alone_free t.generators key h.keyed.0) said
+              (a.allowed.wake task key (input_by answer) t h.may h.keyed.1 (answer_sends (next_task t.loop.parts) answer))
               (woke.says h.in_step.stands.name_map t
-              (served_of (Some task) body.parts.running c body t h.in_step.stands h.in_step.called refl (runs_sound c at h)));
+              (served_of (Some task) body.parts.running c body t h.in_step.stands h.in_step.called refl (runs_may c at h)) h.keyed.1
+              (answer_sends (next_task t.loop.parts) answer));
           same = sym (woken_on a.meaning a.falls task key (input_by answer) t) ∙ sym h.same;
         })
 

@@ -1,12 +1,14 @@
 -- What comes of an answer of what is added, in a state that is stood for.
-use Rattle.std.specs.Prelude.{◌≡◌, ℕ}
-use Rattle.model_machine.specs.Extra.{Extra, ExtraAnswer}
+use Rattle.std.specs.Prelude.{◌≡◌, ℕ, true, Some}
+use Rattle.model_loop.specs.Tasks.{next_task}
+use Rattle.model_machine.specs.Extra.{Extra, ExtraAnswer, key_of}
+use Rattle.model_machine.specs.Sound.{AreKeysKept, sends_made}
 use Rattle.model_machine.specs.Replies as plain
 use Rattle.model_value.specs.Input.{Input}
 use Rattle.model_machine.specs.Replies.{decides, serves_as, woken}
 use Rattle.model_machine.specs.State.{State, Serving}
-use Rattle.law_runs.specs.Allowed.{IsAnswerAllowed}
-use Rattle.law_turns.specs.Replied.{RunsSound}
+use Rattle.law_replies.specs.InStep.{MayStandAt}
+use Rattle.law_runs.specs.Allowed.{IsAnswerAllowed, MayCall}
 use Rattle.aio_task.specs.Keeps.{NameMap}
 use Rattle.aio_extra.specs.Added.{Added}
 use Rattle.aio_extra.specs.Called as called
@@ -27,9 +29,12 @@ answered added task it s = serves_as it (woken added task) task s
 pub record IsAnswering {X : Type 0} {a : Added X} (task : ℕ) (asked : Asked) (it : ExtraAnswer) (c : Context a)
     (body : RunState X) (s : State a.Kept) : Type 0 where
   pub in_step : IsInStep task c body s
-  pub sound : RunsSound task s
+  pub may : MayCall a.meaning (Some task) s
+  pub keys : AreKeysKept (a.meaning.keeps s.extra).has_key s.generators
   pub answers : called.AnswersAs a in_step.stands.name_map s asked it
   pub allowed : IsAnswerAllowed it s
+  -- under the key that it keeps the task may come to stand
+  pub keyed : (key : ℕ) → key_of it ≡ Some key → MayStandAt (a.meaning.keeps s.extra).has_key s.generators (Serving key)
 
 -- whatever the machine's answer is
 abbrev pub HasAnswer : {X : Type 0} {a : Added X} → ℕ → Asked → Context a → RunState X → State a.Kept → Type 0
@@ -47,6 +52,7 @@ pub record AnswersAgain {X : Type 0} {a : Added X} (task : ℕ) (asked : Asked) 
 pub record Woke {X : Type 0} (a : Added X) (key : ℕ) (input : Input) (old new : RunState X) (asked : Asked) : Type 0 where
   pub frame : new ≡ record old { parts = new.parts; extra = new.extra }
   pub says : (t : NameMap) (s : State a.Kept) → called.IsServed a old.parts.running t s old.extra old.parts
+      → (a.meaning.keeps s.extra).has_key key ≡ true → sends_made (next_task s.loop.parts) input ≡ true
       → called.SaysAs a t s old.parts new.parts new.extra asked (a.meaning.wake key input s)
 
 abbrev pub AnswersAs : {X : Type 0} {a : Added X} → ℕ → Context a → RunState X → Answered → plain.RequestReply a.Kept → Type 0

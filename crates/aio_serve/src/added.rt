@@ -1,8 +1,9 @@
 //! Requests that are added to the loop's own.
-ghost use Rattle.std.specs.Prelude.{◌≡◌, true, IfOk, is_some};
+ghost use Rattle.std.specs.Prelude.{◌≡◌, true, IfOk, is_some, length};
 ghost use Rattle.model_value.specs.declared.request.Request.TheVariants as request;
 ghost use Rattle.model_machine.specs.Extra.{ExtraAnswer};
 ghost use Rattle.model_machine.specs.Replies.{extra_refused as plain_extra_refused, input_by as plain_input_by};
+ghost use Rattle.model_machine.specs.Sound.{sends_made};
 ghost use Rattle.model_machine.specs.State.{State, Serving};
 ghost use Rattle.aio_wire.specs.Port.{ported};
 ghost use Rattle.aio_exchange.specs.Exchanged.{AsksOne};
@@ -54,7 +55,7 @@ pub fn extra<W: Wire, X: Extra>(
     }
     match body
         .extra
-        .ask(alloc, task, code, arguments, &mut body.parts)
+        .ask(alloc, task, code, arguments, &body.futures, &mut body.parts)
     {
         Ok(asked) => answer(body, alloc, wire, task, asked),
         Err(Memory) => Err(Stop::Memory),
@@ -70,7 +71,8 @@ pub fn wake<W: Wire, X: Extra>(
     key: u64,
     input: Input,
 ) -> Result<RequestReply, Stop>
-    requires { Possible X.added (IsDeciding task (Serving key)) body.old }
+    requires deciding { Possible X.added (IsDeciding task (Serving key)) body.old }
+    requires made { sends_made (length body.old.slots.items) input ≡ true }
     ensures { Comes W.outside (waking X.added task key input body.old body.new)
         (ported wire.old body.old.events) (ported wire.new body.new.events) result }
 {

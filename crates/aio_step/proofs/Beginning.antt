@@ -14,7 +14,7 @@ use Rattle.model_machine.specs.State.{Generator, State, generator_of, stands}
 use Rattle.law_cancel.proofs.Lookups.{get-set_same, get-set_other}
 use Rattle.law_steps.proofs.CancelSound.{plain_within}
 use Rattle.aio_task.specs.Keeps.{release}
-use Rattle.aio_extra.specs.Added.{Added, GoesBeside, named_in}
+use Rattle.aio_extra.specs.Added.{Added, GoesBeside, named_in, owned_by}
 use Rattle.aio_body.specs.declared.run_state.RunState.{RunState}
 use Rattle.aio_gen.specs.declared.generator.Gen.{Gen}
 use Rattle.aio_body.specs.declared.resume_point.Slot.{Slot}
@@ -80,12 +80,12 @@ module _ {X : Type 0} {a : Added X} where
       or_none false = refl
 
       -- it is no own one of what is added
-      frame : GoesBeside (a.owns s.extra) h.name_map s.loop.parts (release id h.name_map) s.loop.parts
+      frame : GoesBeside (owned_by a s.extra) h.name_map s.loop.parts (release id h.name_map) s.loop.parts
       frame = record {
         known = λ tag k. refl;
         tags = omega arith;
         gone = λ other mine.
-            ap (λ b. h.name_map.gone other || b) (ne_eqb other id (λ same. own.unnamed (inr (inl (subst (a.owns s.extra) same mine)))))
+            ap (λ b. h.name_map.gone other || b) (ne_eqb other id (λ same. own.unnamed (inr (inl (subst (owned_by a s.extra) same mine)))))
             ∙ or_none (h.name_map.gone other);
         futures = omega arith;
         plain = λ other e. e;

@@ -10,7 +10,7 @@ use Rattle.model_machine.specs.State as plain
 use Rattle.model_machine.specs.State.{State, generator_of}
 use Rattle.law_cancel.proofs.Lookups.{get_within}
 use Rattle.law_replies.specs.InStep.{IsAsked, RepliesInStep}
-use Rattle.law_runs.proofs.Beginning.{begins_in, begun_asked, stepped_lives}
+use Rattle.law_runs.proofs.Beginning.{begins_in, begun_asked, stepped_lives, heard_made, same_count as count_kept}
 use Rattle.law_steps.proofs.Waiting.{task_there}
 use Rattle.aio_extra.specs.Added.{Added}
 use Rattle.aio_body.specs.declared.run_state.RunState.{RunState}
@@ -18,6 +18,9 @@ use Rattle.aio_body.specs.declared.resume_point.Slot.{Slot}
 use Rattle.aio_body.specs.Stands.{Context, HasSlot}
 use Rattle.aio_step.specs.Stepping.{IsCalled, HearsMade, begun_by, begun_in}
 use Rattle.aio_body.proofs.Sound.{extra_sound}
+
+pub made_as : (n m : ℕ) (input : Input) → n ≡ m → sends_made m input ≡ true → sends_made n input ≡ true
+made_as n m input same made = ap (λ k. sends_made k input) same ∙ made
 
 module _ {X : Type 0} {a : Added X} (task : ℕ) (c : Context a) (body : RunState X) (s : State a.Kept) (h : IsCalled task c body s) where
   lived : lives h.before.loop.parts task ≡ true
@@ -65,6 +68,19 @@ module _ {X : Type 0} {a : Added X} (task : ℕ) (c : Context a) (body : RunStat
 
   same_count : length body.slots.items ≡ next_task h.before.loop.parts
   same_count = h.stands.made ∙ ap (λ (x : State a.Kept). next_task x.loop.parts) h.after
+
+  -- what it is taken for names what was made
+  pub called_heard : (input : Input) → HearsMade input body
+      → sends_made (next_task (begun_in task input s).loop.parts) (begun_by task input s).input ≡ true
+  called_heard input made =
+      subst (λ (x : State a.Kept). sends_made (next_task (begun_in task input x).loop.parts) (begun_by task input x).input ≡ true) (sym h.after)
+      (made_as _ _ _
+      (count_kept a.meaning h.before task input h.handle h.rest h.pending h.live h.steps h.sound (extra_sound a) given_)
+      (heard_made a.meaning h.before task input h.handle h.rest h.pending h.live h.steps h.sound (extra_sound a) given_
+      (generator_of task h.before).resume_point))
+    where
+      given_ : sends_made (next_task h.before.loop.parts) input ≡ true
+      given_ = ap (λ n. sends_made n input) (sym same_count) ∙ made
 
   -- what the input means is sound
   pub called_sound : (input : Input) → HearsMade input body

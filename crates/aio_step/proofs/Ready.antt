@@ -1,10 +1,12 @@
 -- What a call may do where there is a state that is stood for, whichever it is.
-use Rattle.std.proofs.Common.{◌≡◌, ℕ, ◌<◌, Option, Some, None, length, slice_get, ◌∙◌, refl, sym, ap, subst}
+use Rattle.std.proofs.Common.{◌≡◌, ℕ, ◌<◌, true, Option, Some, None, length, slice_get, ◌∙◌, refl, sym, ap, subst}
 use Rattle.std.proofs.Math.Logic.{∥∥₁_elim, ∥∥₁_map}
+use Rattle.std.proofs.Props.{props}
 use Rattle.std.specs.Coded.{le_prop}
 use Rattle.model_value.specs.Input.{Input}
 use Rattle.model_loop.specs.Owning.{owner_at}
 use Rattle.model_loop.specs.Parts.{Parts}
+use Rattle.model_machine.specs.Sound.{sends_made}
 use Rattle.model_machine.specs.State as plain
 use Rattle.model_machine.specs.State.{State, generator_of}
 use Rattle.refine_parts.proofs.Telling.{owner_kept}
@@ -23,8 +25,8 @@ use Rattle.aio_body.specs.GivingUp.{IsNoTasks}
 use Rattle.aio_body.specs.Stands.{Context, StandsAt, WaitsAs, holding, Possible}
 use Rattle.aio_body.proofs.May.{same_prop}
 use Rattle.aio_step.specs.declared.steps.Started.{Started}
-use Rattle.aio_step.specs.Stepping.{DecidesAs, HasBegun, IsCalled, begun_in, IsDecidingAs}
-use Rattle.aio_step.proofs.Called.{called_own, called_slot, own_slot}
+use Rattle.aio_step.specs.Stepping.{DecidesAs, HasBegun, HearsMade, IsCalled, begun_in, IsDecidingAs}
+use Rattle.aio_step.proofs.Called.{called_heard, called_own, called_slot, made_as, own_slot}
 
 -- ---- a step begins
 module _ {X : Type 0} {a : Added X} (task : ℕ) (body : RunState X) (may : Possible a (IsCalled task) body) where
@@ -114,6 +116,14 @@ module _ {X : Type 0} {a : Added X} where
   decide_of task input old new started may begun =
       ∥∥₁_map may (λ w. let b = begun w.0 w.1.0 w.1.1 in
       (holding started.coroutine w.0, (begun_in task input w.1.0, ((generator_of task w.1.0).resume_point, (b.decides, b.deciding)))))
+
+  pub decide_hears : (task : ℕ) (input : Input) (old new : RunState X) (started : Started) → Possible a (IsCalled task) old → HearsMade input old
+      → ((c : Context a) (s : State a.Kept) → IsCalled task c old s → HasBegun task input c s started new) → HearsMade started.input new
+  decide_hears task input old new started may made begun =
+      ∥∥₁_elim may (hlevel props) (λ w.
+      let b = begun w.0 w.1.0 w.1.1 in
+      ap (sends_made (length new.slots.items)) b.heard
+      ∙ made_as _ _ _ b.deciding.in_step.stands.made (called_heard task w.0 old w.1.0 w.1.1 input made))
 
   -- where the machine's task stood at this alone
   pub stood_of : (task : ℕ) (code : ResumePoint) (stood : plain.ResumePoint) → ((other : plain.ResumePoint) → DecidesAs code other → stood ≡ other)

@@ -112,7 +112,8 @@ fn decide<W: Wire, X: Extra>(
     resume_point: ResumePoint,
     input: Input,
 ) -> Result<RequestReply, Stop>
-    requires { Possible X.added (IsDecidingAs task resume_point) body.old }
+    requires deciding { Possible X.added (IsDecidingAs task resume_point) body.old }
+    requires made { HearsMade input body.old }
     ensures { Comes W.outside (deciding X.added task resume_point input body.old body.new)
         (ported wire.old body.old.events) (ported wire.new body.new.events) result }
 {

@@ -17,7 +17,7 @@ use Rattle.model_stream.specs.Kept.{child_times, connection_asked, one_time, tim
 use Rattle.model_stream.specs.Streams.{Streams, add_connection, connect}
 use Rattle.model_machine.specs.Replies as plain
 use Rattle.model_machine.specs.Replies.{connects_as, reply, streams_do, waits}
-use Rattle.model_machine.specs.Sound.{AreStreamsFutures}
+use Rattle.model_machine.specs.Sound.{AreStreamsFutures, IsOwned}
 use Rattle.model_machine.specs.State.{State}
 use Rattle.model_machine.specs.State as state
 use Rattle.aio_base.specs.declared.memory.Memory.{Memory}
@@ -34,6 +34,7 @@ use Rattle.law_cases.proofs.Fits.{asked_kept, kept_nowhere}
 use Rattle.law_cases.proofs.Opening.{connects}
 use Rattle.aio_transports.specs.Standing.{Answers as AnswersTree, StandsAfter, TransportsStandFor as AreTransports}
 use Rattle.aio_task.specs.Keeps.{NameMap}
+use Rattle.aio_body.proofs.Adding.{each_among}
 use Rattle.aio_extra.specs.Added.{Added, named_in}
 use Rattle.aio_body.specs.declared.run_state.RunState.{RunState}
 use Rattle.aio_body.specs.declared.reply.RequestReply.{RequestReply}
@@ -229,6 +230,8 @@ module _ {X W : Type 0} {a : Added X} (task number : ℕ) (request : Request) (o
         g.alone task begun.1 (made_it _ _ g.made) (none d s from g.now.streams g.stands.transports) (record {
           scripts = plain_named a.meaning task s from.going.sound;
           waiting = from.going.sound.others.loop.parts.waits_made;
+          own = λ id mine.
+              (each_among (IsOwned s.loop.parts) (a.meaning.keeps s.extra).own from.going.sound.others.kept.own mine.0 id mine.1).0;
         }),
       )
 

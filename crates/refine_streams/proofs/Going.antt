@@ -27,7 +27,7 @@ use Rattle.aio_task.specs.View.{View}
 use Rattle.aio_change.specs.Seen.{seen_changed}
 use Rattle.aio_transports.specs.Kept.{Kept as Transports}
 use Rattle.aio_transports.specs.Standing.{TransportsStandFor as AreTransports}
-use Rattle.aio_extra.specs.Added.{Added, named_in}
+use Rattle.aio_extra.specs.Added.{Added, named_in, owned_by}
 use Rattle.aio_body.specs.declared.run_state.RunState.{RunState}
 use Rattle.aio_body.specs.Asking.{Comes, Piece, before}
 use Rattle.aio_body.specs.Stands.{IsOwnSleep, Context, Stands}
@@ -153,7 +153,7 @@ module _ {X W A M R : Type 0} {a : Added X} (p : Piece a (State a.Kept) M R) (ca
         on : Stands out c new (with_streams (ends it.it) t)
         on = stands_passed out c old new s it.way (ends it.it) h.stands h.owns ended it.so.0 it.parts it.events frame
 
-        alone : (task on_ : ℕ) → IsMade (next_future s.loop.parts) (next_future t.loop.parts) on_ → times_asked on_ (ends it.it) ≡ 0 → AreMade s
+        alone : (task on_ : ℕ) → IsMade (next_future s.loop.parts) (next_future t.loop.parts) on_ → times_asked on_ (ends it.it) ≡ 0 → AreMade a s
             → IsOwnSleep (suspend task on_ t.loop.parts).parts (named_in a (waits task on_ (with_streams (ends it.it) t))) (Some task) on_
         alone task on_ was none were = record {
           plain = (leaves_suspend task on_ t.loop.parts).plain on_ (came.0.made on_ was.0 was.1).0;
@@ -174,7 +174,7 @@ module _ {X W A M R : Type 0} {a : Added X} (p : Piece a (State a.Kept) M R) (ca
                 past ((plain_within s.loop.parts on_
                 (were.scripts found.0 on_ (ap (λ (xs : List ℕ). slice_get xs found.0) (sym came.0.futures) ∙ found.1))).1)
             unnamed (inr (inl mine)) =
-                past (a.made h.stands.name_map s.loop.parts old.extra s.extra h.stands.extra on_ (subst (λ x. a.owns x on_) came.0.extra mine))
+                past (were.own on_ (subst (λ x. owned_by a x on_) came.0.extra mine))
             unnamed (inr (inr asked)) = omega (arith, none, asked)
 
             at : (other : ℕ) → (waiter_of s.loop.parts other ≡ Some on_) ⊎ IsNew (Some (task, on_)) other on_ → Some task ≡ Some other

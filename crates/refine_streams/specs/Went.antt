@@ -11,7 +11,7 @@ use Rattle.model_machine.specs.State.{State}
 use Rattle.law_cases.specs.Trees.{IsMade}
 use Rattle.aio_cancel.specs.Awaitables.{Appended}
 use Rattle.aio_task.specs.View.{View, parts}
-use Rattle.aio_extra.specs.Added.{Added, named_in}
+use Rattle.aio_extra.specs.Added.{Added, named_in, owned_by}
 use Rattle.aio_body.specs.declared.run_state.RunState.{RunState}
 use Rattle.aio_body.specs.Stands.{IsOwnSleep, Context, Stands}
 
@@ -28,10 +28,11 @@ pub record CallsSuspend (task on : ℕ) (old new : View) : Type 0 where
   pub queue : Appended old.queue new.queue
   pub frame : new ≡ record old { queue = new.queue; futures = new.futures; tasks = new.tasks; running = None }
 
--- what scripts name and what tasks wait for was made
-pub record AreMade {S : Type 0} (s : State S) : Type 0 where
+-- what scripts name, what tasks wait for, and what is added has as its own was made
+pub record AreMade {X : Type 0} (a : Added X) (s : State a.Kept) : Type 0 where
   pub scripts : (place id : ℕ) → slice_get s.futures place ≡ Some id → is_plain s.loop.parts id ≡ true
   pub waiting : (task id : ℕ) → waiter_of s.loop.parts task ≡ Some id → id < next_future s.loop.parts
+  pub own : (id : ℕ) → owned_by a s.extra id → id < next_future s.loop.parts
 
 -- A call was made, the body is as the new one, and the machine goes on so. `Made` says what was made in it, by what `IsMade` of
 -- the call's futures is.
@@ -49,7 +50,7 @@ pub record HasGone {X M : Type 0} {a : Added X} (out : Option ℕ) (Made : (firs
   pub waiting : (task on : ℕ) (v : View) → IsMade (next_future s.loop.parts) (next_future now.loop.parts) on → CallsSuspend task on new.parts v
       → Stands out c (record new { parts = v }) (waits task on now)
   -- and is its own then, where no connection and no child asks for it
-  pub alone : (task on : ℕ) → IsMade (next_future s.loop.parts) (next_future now.loop.parts) on → times_asked on now.streams ≡ 0 → AreMade s
+  pub alone : (task on : ℕ) → IsMade (next_future s.loop.parts) (next_future now.loop.parts) on → times_asked on now.streams ≡ 0 → AreMade a s
       → IsOwnSleep (waits task on now).loop.parts (named_in a (waits task on now)) (Some task) on
 
 -- where a connect waits: the number of its connection beside

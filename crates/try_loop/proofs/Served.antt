@@ -28,11 +28,11 @@ use Rattle.aio_ready.specs.Queue.{Queue}
 use Rattle.aio_future.specs.Settled as settled
 use Rattle.aio_task.specs.Keeps.{Extends, Keeps, Kept, NameMap}
 use Rattle.aio_task.specs.View.{View}
-use Rattle.aio_extra.specs.Called.{AnswersAs, CallsAs, IsServed, MayServe, SaysAs}
+use Rattle.aio_extra.specs.Called.{AnswersAs, CallsAs, IsServed, MayAsk, MayServe, SaysAs}
 use Rattle.aio_extra.specs.declared.asked.Asked.{Asked}
 use Rattle.aio_extra.specs.declared.asked.Asked.TheVariants.{Wait}
 use Rattle.try_loop.specs.NextTurn as next
-use Rattle.try_loop.specs.NextTurn.{IsOwn, next_turn, next_turn_means, resolved, resolved_at, stays, waits}
+use Rattle.try_loop.specs.NextTurn.{IsOwn, next_turn, next_turn_means, resolved_at, stays, waits}
 use Rattle.try_loop.specs.declared.next_turn.NextTurn.{NextTurn}
 
 -- ---- what it may rely on
@@ -41,6 +41,10 @@ same_prop a b = hlevel props
 
 pub idle : (running : Option ℕ) (x : NextTurn) (v : View) → MayServe next_turn running x v → v.called ≡ None
 idle running x v m = ∥∥₁_elim m (same_prop v.called None) (λ w. w.1.1.called)
+
+pub idle_asked : (task : ℕ) (futures : List ℕ) (arguments : Value) (x : NextTurn) (v : View) → MayAsk next_turn task futures arguments x v
+    → v.called ≡ None
+idle_asked task futures arguments x v m = ∥∥₁_elim m (same_prop v.called None) (λ w. w.1.1.1.served.called)
 
 -- a future of its own is no task's
 pub unowned : (running : Option ℕ) (x : NextTurn) (v : View) (key id : ℕ) → slice_get x.made.items key ≡ Some id → MayServe next_turn running x v
@@ -97,7 +101,6 @@ module _ (running : Option ℕ) (t : NameMap) (s : State next.MadeFutures) (x : 
     keeps = h.keeps;
     extends = extends_same t p;
     stands = h.stands;
-    own = λ id own. inl own;
     below = refl;
     profile = refl;
     called = refl;
@@ -138,10 +141,6 @@ module _ (running : Option ℕ) (t : NameMap) (s : State next.MadeFutures) (x : 
       ap kept.name_map.gone new ∙ new_gone,
     )
 
-    since : (id : ℕ) → IsOwn s.extra id ⊎ (id ≡ next_future p) → IsOwn s.extra id ⊎ (next_future p ≤ id)
-    since id (inl old) = inl old
-    since id (inr new) = inr (omega (arith, new))
-
     waits_calls : CallsAs next_turn t s v w y (waits s).call
     waits_calls = record {
       name_map = kept.name_map;
@@ -151,7 +150,6 @@ module _ (running : Option ℕ) (t : NameMap) (s : State next.MadeFutures) (x : 
         made ∙ ap (λ n. x.made.items ++ n ∷ []) number ∙ ap (λ xs. xs ++ next_future p ∷ []) h.stands.0,
         λ id mine. own id (own_split s.extra (next_future p) id mine),
       );
-      own = λ id mine. since id (own_split s.extra (next_future p) id mine);
       below = ap (λ (z : View). length z.queue.below) is;
       profile = ap (λ (z : View). z.profile) is;
       called = ap (λ (z : View). z.called) is;
@@ -174,7 +172,7 @@ module _ (running : Option ℕ) (t : NameMap) (s : State next.MadeFutures) (x : 
   -- ---- its handle runs
   pub acts_alone : (key : ℕ) → slice_get x.made.items key ≡ None → CallsAs next_turn t s v v x (next_turn_means.act key s)
   acts_alone key e =
-      subst (λ o. CallsAs next_turn t s v v x (record { state = s.extra; steps = resolved_at o key p }))
+      subst (λ o. CallsAs next_turn t s v v x (record { state = s.extra; steps = resolved_at o key }))
       (sym (ap (λ made. slice_get made key) (sym h.stands.0) ∙ e)) stays_so
 
   pub acts_so : (key id : ℕ) (value : Value) (w : View) → slice_get x.made.items key ≡ Some id → value ≡ Int (pos key)
@@ -183,17 +181,13 @@ module _ (running : Option ℕ) (t : NameMap) (s : State next.MadeFutures) (x : 
         queue = queue.soon_all (settled.called id v.futures) v.queue;
       } → CallsAs next_turn t s v w x (next_turn_means.act key s)
   acts_so key id value w e number is =
-      subst (λ o. CallsAs next_turn t s v w x (record { state = s.extra; steps = resolved_at o key p })) (sym mine.1)
-      (subst (λ b. CallsAs next_turn t s v w x (record { state = s.extra; steps = resolved b id key })) (sym plain) settles)
+      subst (λ o. CallsAs next_turn t s v w x (record { state = s.extra; steps = resolved_at o key })) (sym mine.1) settles
     where
       outcome : Outcome
       outcome = Returned (Int (pos key))
 
       mine : IsOwn s.extra id
       mine = (key, ap (λ made. slice_get made key) (sym h.stands.0) ∙ e)
-
-      plain : is_plain p id ≡ true
-      plain = (h.stands.1 id mine).0
 
       call : ExtraCall next.MadeFutures
       call = record { state = s.extra; steps = Settles id outcome ∷ [] }
@@ -219,7 +213,6 @@ module _ (running : Option ℕ) (t : NameMap) (s : State next.MadeFutures) (x : 
           h.stands.0,
           λ other own. (settled_stays id outcome p other (was other own).0, ap (λ f. f other) kept.extends.gone ∙ (was other own).1),
         );
-        own = λ other own. inl own;
         below = ap (λ (z : View). length z.queue.below) is ∙ ap length (below_all (settled.called id v.futures) v.queue);
         profile = ap (λ (z : View). z.profile) is;
         called = ap (λ (z : View). z.called) is;

@@ -1,11 +1,11 @@
 //! What is added: a request that asks the outside, once or twice, in the middle of its step.
-ghost use Rattle.std.specs.Prelude.{◌≡◌, IfOk};
+ghost use Rattle.std.specs.Prelude.{◌≡◌, [], IfOk};
 ghost use Rattle.model_machine.specs.Extra.{unknown_code};
-ghost use Rattle.try_loop.specs.Asker.{Says, bytes_by, heard_by, question_by};
+ghost use Rattle.try_loop.specs.Asker.{SaysIt, asks_first, bytes_by, heard_by, left_at, question_by};
 
 use aio_base::{Blob, Input, Kind, Memory, Value, ValueCase, exception};
 use aio_extra::{Asked, Extra};
-use aio_task::Parts;
+use aio_task::{FutureId, Parts};
 use std::alloc::Global;
 
 /// What a code asks.
@@ -19,19 +19,58 @@ pub enum Question {
     Nothing,
 }
 
-/// It keeps nothing: the key says how often it asks again.
-#[derive(Clone, Copy)]
-pub struct Asker;
+/// How often each request asks again. Its key is its place.
+#[derive(Drop)]
+pub struct Asker {
+    left: Vec<u64>,
+}
 
 impl Asker {
     ghost use Rattle.aio_extra.specs.Added.{KeepsNothing};
     ghost use Rattle.try_loop.specs.Asker.{asker};
 
-    /// One that keeps nothing.
-    pub fn new() -> Asker
-        ensures { KeepsNothing asker result tt }
+    /// Nothing was asked.
+    pub fn new(alloc: Global) -> Asker
+        ensures { KeepsNothing asker result [] }
     {
-        Asker
+        Asker {
+            left: Vec::new(alloc),
+        }
+    }
+
+    // A new request asks the outside, and again so many times.
+    fn ask_first(&mut self, alloc: Global, code: i64, more: u64) -> Result<Asked, Memory>
+        ensures { IfOk result (λ asked. SaysIt asked self.new.left.items
+            (asks_first more code self.old.left.items)) }
+    {
+        let key = self.left.len() as u64;
+        self.left.push(more)?;
+        asks(alloc, code, b"q", key)
+    }
+
+    // What the outside answered.
+    fn hear(&mut self, alloc: Global, key: u64, value: &Value) -> Result<Asked, Memory>
+        ensures { IfOk result (λ asked. SaysIt asked self.new.left.items
+            (heard_by key value.now self.old.left.items)) }
+    {
+        match value.case() {
+            ValueCase::Bytes(bytes) => self.hear_bytes(alloc, key, bytes.as_slice()),
+            _ => Ok(Asked::Answer(Value::nothing())),
+        }
+    }
+
+    // They are the answer, or they are asked back under the same key.
+    fn hear_bytes(&mut self, alloc: Global, key: u64, bytes: &[u8]) -> Result<Asked, Memory>
+        ensures { IfOk result (λ asked. SaysIt asked self.new.left.items
+            (bytes_by (left_at self.old.left.items key) key bytes.now self.old.left.items)) }
+    {
+        if let Some(left) = self.left.get_mut(key as usize) {
+            if *left > 0 {
+                *left -= 1;
+                return asks(alloc, 6, bytes, key);
+            }
+        }
+        Ok(Asked::Answer(Value::bytes_from(alloc, bytes)?))
     }
 }
 
@@ -46,11 +85,12 @@ impl Extra for Asker {
         _task: u32,
         code: i64,
         _arguments: &Value,
+        _futures: &[FutureId],
         _parts: &mut Parts,
     ) -> Result<Asked, Memory> {
         match question_of(code) {
-            Question::Once => asks(alloc, code, b"q", 0),
-            Question::Twice => asks(alloc, code, b"q", 1),
+            Question::Once => self.ask_first(alloc, code, 0),
+            Question::Twice => self.ask_first(alloc, code, 1),
             Question::Nothing => unknown(alloc, code),
         }
     }
@@ -64,7 +104,7 @@ impl Extra for Asker {
     ) -> Result<Asked, Memory> {
         match input {
             Input::Send(value) => {
-                let heard = hear(alloc, key, &value);
+                let heard = self.hear(alloc, key, &value);
                 drop(value);
                 heard
             }
@@ -108,26 +148,6 @@ fn asks(alloc: Global, code: i64, bytes: &[u8], key: u64) -> Result<Asked, Memor
 {
     let bytes = Blob::of(Vec::from_slice(alloc, bytes)?);
     Ok(Asked::Outside { code, bytes, key })
-}
-
-// What the outside answered.
-fn hear(alloc: Global, key: u64, value: &Value) -> Result<Asked, Memory>
-    ensures { IfOk result (λ asked. Says asked (heard_by key value.now)) }
-{
-    match value.case() {
-        ValueCase::Bytes(bytes) => hear_bytes(alloc, key, bytes.as_slice()),
-        _ => Ok(Asked::Answer(Value::nothing())),
-    }
-}
-
-// They are the answer, or they are asked back.
-fn hear_bytes(alloc: Global, key: u64, bytes: &[u8]) -> Result<Asked, Memory>
-    ensures { IfOk result (λ asked. Says asked (bytes_by key bytes.now)) }
-{
-    if key == 0 {
-        return Ok(Asked::Answer(Value::bytes_from(alloc, bytes)?));
-    }
-    asks(alloc, 6, bytes, 0)
 }
 
 fn unknown(alloc: Global, code: i64) -> Result<Asked, Memory>

@@ -44,7 +44,7 @@ pub fn run_extra<R: Print>(rt: &R, alloc: Global) -> Result<(), RowsStopped> {
         print_case(rt, name, text)?;
     }
     for (name, script, answers) in &ASKING {
-        let text = transcript(alloc, script, answers, Asker::new())?;
+        let text = transcript(alloc, script, answers, Asker::new(alloc))?;
         print_case(rt, name, text)?;
     }
     Ok(())

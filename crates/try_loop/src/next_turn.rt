@@ -75,6 +75,7 @@ impl Extra for NextTurn {
         _task: u32,
         code: i64,
         _arguments: &Value,
+        _futures: &[FutureId],
         parts: &mut Parts,
     ) -> Result<Asked, Memory> {
         match wanted_of(code) {

@@ -45,8 +45,9 @@ returns-then-not-is_list g c =
     (none_of (as_list c.args.arguments.now) (sym c.is_list.ensures ∙ c.if-not-is_list.true))) h.going.in_step)
     c.bad_argument-then-not-is_list.ensures))
 
-pub ask-requires-clause-serves : goal.ask-requires-clause-serves
-ask-requires-clause-serves g c = asks_served c.args.task c.args.body.now c.args.code.now c.args.arguments.now c.requires
+pub ask-requires : goal.ask-requires
+ask-requires g c =
+    asks_served c.args.task c.args.body.now c.args.code.now c.args.arguments.now (sym c.is_list.ensures ∙ c.if-not-is_list.false) c.requires
 
 pub answer-requires : goal.answer-requires
 answer-requires g c =

@@ -54,7 +54,7 @@ returns g c at s h =
     }) made.number in
     sleeps_so task c.args.delay at old c.stand_far.new.self s v w id future h.in_step h.sound.others.loop.parts.owns
     (plain_named g.X.Extra.added.meaning task s h.sound) h.sound.others.streams
-    h.sound.others.loop.parts.waits_made (within_going task at old s h) made.number made.id (next_kept stands.name_map old.parts p stands.keeps) alarm
+    h.sound.others.kept.own h.sound.others.loop.parts.waits_made (within_going task at old s h) made.number made.id (next_kept stands.name_map old.parts p stands.keeps) alarm
     c.suspend-suspension.ensures.after c.suspend-suspension.ensures.queue c.suspend-suspension.ensures.frame
     (c.in_ok-stand_far.ensures.frame ∙ ap (λ (b : RunState _). record b { parts = w; slots = c.stand_far.new.self.slots }) made.after)
     (c.in_ok-stand_far.ensures.slots ∙ ap (λ (b : RunState _). resume_point_at task (Sleeping id future) b.slots.items) made.after)

@@ -22,7 +22,7 @@ pub leave_group-requires : goal.leave_group-requires
 leave_group-requires g c =
     let code = Leaving c.in-Leaving.group in
     stood_of c.args.task code (plain.Leaving c.in-Leaving.group) (stood_is code) c.args.body.now
-    (subst (λ x. Possible g.X.Extra.added (IsDecidingAs c.args.task x) c.args.body.now) c.in-Leaving.is c.requires)
+    (subst (λ x. Possible g.X.Extra.added (IsDecidingAs c.args.task x) c.args.body.now) c.in-Leaving.is c.requires.deciding)
 
 pub returns-in-Leaving : goal.returns-in-Leaving
 returns-in-Leaving g c =
@@ -31,11 +31,14 @@ returns-in-Leaving g c =
     (plain.Leaving c.in-Leaving.group) (stood_is code)
     c.leave_group.new.body c.leave_group.result c.leave_group.ensures c.or_stop.result c.or_stop.ensures)
 
-pub wake-requires : goal.wake-requires
-wake-requires g c =
+pub wake-requires-clause-made : goal.wake-requires-clause-made
+wake-requires-clause-made g c = c.requires.made
+
+pub wake-requires-clause-deciding : goal.wake-requires-clause-deciding
+wake-requires-clause-deciding g c =
     let code = Serving c.in-Serving.key in
     stood_of c.args.task code (plain.Serving c.in-Serving.key) (stood_is code) c.args.body.now
-    (subst (λ x. Possible g.X.Extra.added (IsDecidingAs c.args.task x) c.args.body.now) c.in-Serving.is c.requires)
+    (subst (λ x. Possible g.X.Extra.added (IsDecidingAs c.args.task x) c.args.body.now) c.in-Serving.is c.requires.deciding)
 
 pub returns-in-Serving : goal.returns-in-Serving
 returns-in-Serving g c =
@@ -48,7 +51,7 @@ pub connected-requires : goal.connected-requires
 connected-requires g c =
     let code = Connecting c.in-Connecting.conn c.in-Connecting.future in
     stood_of c.args.task code (plain.Connecting c.in-Connecting.conn) (stood_is code) c.args.body.now
-    (subst (λ x. Possible g.X.Extra.added (IsDecidingAs c.args.task x) c.args.body.now) c.in-Connecting.is c.requires)
+    (subst (λ x. Possible g.X.Extra.added (IsDecidingAs c.args.task x) c.args.body.now) c.in-Connecting.is c.requires.deciding)
 
 pub returns-in-Connecting : goal.returns-in-Connecting
 returns-in-Connecting g c =
@@ -61,7 +64,7 @@ pub yielded-requires : goal.yielded-requires
 yielded-requires g c =
     let code = Yielding c.in-Yielding.whom in
     stood_of c.args.task code (plain.Yielding c.in-Yielding.whom) (stood_is code) c.args.body.now
-    (subst (λ x. Possible g.X.Extra.added (IsDecidingAs c.args.task x) c.args.body.now) c.in-Yielding.is c.requires)
+    (subst (λ x. Possible g.X.Extra.added (IsDecidingAs c.args.task x) c.args.body.now) c.in-Yielding.is c.requires.deciding)
 
 pub returns-in-Yielding : goal.returns-in-Yielding
 returns-in-Yielding g c =
@@ -74,7 +77,7 @@ pub read_on-requires : goal.read_on-requires
 read_on-requires g c =
     let code = Reading c.in-Reading.from c.in-Reading.op c.in-Reading.on in
     stood_of c.args.task code (plain.Reading (reader_as c.in-Reading.from) c.in-Reading.op c.in-Reading.on) (stood_is code) c.args.body.now
-    (subst (λ x. Possible g.X.Extra.added (IsDecidingAs c.args.task x) c.args.body.now) c.in-Reading.is c.requires)
+    (subst (λ x. Possible g.X.Extra.added (IsDecidingAs c.args.task x) c.args.body.now) c.in-Reading.is c.requires.deciding)
 
 pub returns-in-Reading : goal.returns-in-Reading
 returns-in-Reading g c =
@@ -87,7 +90,7 @@ pub read_all_on-requires : goal.read_all_on-requires
 read_all_on-requires g c =
     let code = ReadingAll c.in-ReadingAll.from c.in-ReadingAll.taken c.in-ReadingAll.on in
     stood_of c.args.task code (plain.ReadingAll (reader_as c.in-ReadingAll.from) c.in-ReadingAll.taken c.in-ReadingAll.on) (stood_is code) c.args.body.now
-    (subst (λ x. Possible g.X.Extra.added (IsDecidingAs c.args.task x) c.args.body.now) c.in-ReadingAll.is c.requires)
+    (subst (λ x. Possible g.X.Extra.added (IsDecidingAs c.args.task x) c.args.body.now) c.in-ReadingAll.is c.requires.deciding)
 
 pub returns-in-ReadingAll : goal.returns-in-ReadingAll
 returns-in-ReadingAll g c =

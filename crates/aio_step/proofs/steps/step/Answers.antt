@@ -1,15 +1,20 @@
 use Rattle.model_value.specs.declared.input.Input.TheVariants.{Send, Throw}
 use Rattle.aio_body.specs.declared.reply.RequestReply.TheVariants.{Answers, Raises}
 use Rattle.aio_step.proofs.First.{answers_first, raises_first}
-use Rattle.aio_step.proofs.Ready.{decide_of}
+use Rattle.aio_step.proofs.Ready.{decide_hears, decide_of}
 use Rattle.aio_step.proofs.Whole.{decides_stop, serve_of, serves_on, waits_on, waits_there}
 use Rattle.aio_step.proofs.steps.step.Goals as goal
 
 pub begin-coroutine-requires : goal.begin-coroutine-requires
 begin-coroutine-requires g c = c.requires.called
 
-pub decide-requires : goal.decide-requires
-decide-requires g c =
+pub decide-requires-clause-made : goal.decide-requires-clause-made
+decide-requires-clause-made g c =
+    decide_hears c.args.task c.args.input c.args.body.now c.begin-coroutine.new.body c.begin-coroutine.result c.requires.called c.requires.made
+    c.begin-coroutine.ensures
+
+pub decide-requires-clause-deciding : goal.decide-requires-clause-deciding
+decide-requires-clause-deciding g c =
     decide_of c.args.task c.args.input c.args.body.now c.begin-coroutine.new.body c.begin-coroutine.result c.requires.called c.begin-coroutine.ensures
 
 pub serve-requires : goal.serve-requires
