@@ -12,12 +12,13 @@ use Rattle.model_wire.specs.Journal.{Entry}
 use Rattle.model_wire.specs.JournalText.{entries_of}
 use Rattle.model_wire.specs.Trace.{End, line}
 use Rattle.model_loop.specs.Tasks.{next_task}
-use Rattle.model_machine.specs.Extra.{Extra, no_extra}
+use Rattle.model_machine.specs.Extra.{Extra}
 use Rattle.model_machine.specs.Replies.{most_ids}
 use Rattle.model_machine.specs.State.{State, start}
 use Rattle.model_machine.specs.Turn.{turn}
 use Rattle.model_machine.specs.Went.{Went, Goes, Stops}
-use Rattle.model_program.specs.Runs.{run}
+use Rattle.model_program.specs.Added.{added, first_added}
+use Rattle.model_program.specs.Runs.{run, run_over}
 use Rattle.model_program.specs.Transcript.{status_of}
 use Rattle.model_program.specs.Written.{ProgramOutput}
 use Rattle.model_words.specs.Words.{most_turns}
@@ -69,14 +70,18 @@ pub record Counts : Type 0 where
   pub calls : ℕ
   pub said : ℕ
 
--- those of a program's run
-abbrev pub counts_of : Program → List Entry → (allowed : ℕ) → Counts
-counts_of program answers allowed =
+-- those of a program's run, where this is added to the loop's own requests, and keeps this as the run begins
+abbrev pub counts_over : {S : Type 0} → Extra S → (first : S) → Program → List Entry → (allowed : ℕ) → Counts
+counts_over extra first program answers allowed =
     record {
-      tasks = tasks_on step_limit no_extra allowed (start most_ids tt program answers);
-      calls = counted (count_by is_call (run program answers allowed).events);
-      said = counted (count_by is_said (run program answers allowed).events);
+      tasks = tasks_on step_limit extra allowed (start most_ids first program answers);
+      calls = counted (count_by is_call (run_over extra first program answers allowed).events);
+      said = counted (count_by is_said (run_over extra first program answers allowed).events);
     }
+
+-- with what the program adds
+abbrev pub counts_of : Program → List Entry → (allowed : ℕ) → Counts
+counts_of program answers allowed = counts_over added first_added program answers allowed
 
 -- ---- what is written of them
 abbrev pub counts_text : Counts → List ℕ

@@ -1,3 +1,4 @@
+pub mod Added
 pub mod Runs
 pub mod Written
 pub mod Transcript
