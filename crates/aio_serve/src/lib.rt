@@ -10,8 +10,6 @@ mod time;
 mod timeouts;
 mod waiting;
 
-pub use aio_streaming::{act, made};
-pub use aio_streaming::{connected, read_all_on, read_on, yielded};
 pub use added::{Answered, wake};
 pub use aio_body::or_stop;
 pub use aio_streaming::{act, connected, made, read_all_on, read_on, yielded};
