@@ -1,3 +1,4 @@
+mod Added
 mod Reading
 mod Replying
 mod Turning

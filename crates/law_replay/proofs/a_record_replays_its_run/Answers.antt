@@ -1,11 +1,10 @@
-use Rattle.std.proofs.Common.{[], List, map, ap, sym, append-nil, ◌∙◌}
-use Rattle.model_wire.specs.Journal.{Entry, Answered}
-use Rattle.model_program.specs.Runs.{run}
-use Rattle.law_journal.specs.RecordedAnswers.{answers_of}
+use Rattle.model_program.specs.Added.{added, first_added}
+use Rattle.law_replay.proofs.Added.{added_foresees}
+use Rattle.law_replay.proofs.Turning.{replays_itself}
 use Rattle.law_replay.proofs.a_record_replays_its_run.Goals as goal
 
-pub returns : goal.returns
-returns c = λ program answers turns fit may.
-    let events = (run program answers turns).events in
-    ap (λ (es : List Entry). run program es turns) (c.what_is_recorded_is_read.ensures events fit ∙ sym (append-nil (map Answered (answers_of events))))
-    ∙ (c.what_is_not_read_does_not_matter.ensures program answers turns).again [] may
+pub returns-clause-program : goal.returns-clause-program
+returns-clause-program g c = replays_itself added added_foresees first_added c.what_is_recorded_is_read.ensures
+
+pub returns-clause-any : goal.returns-clause-any
+returns-clause-any g c = λ extra foresees first. replays_itself extra foresees first c.what_is_recorded_is_read.ensures
