@@ -28,15 +28,15 @@ use Rattle.model_stream.specs.Listeners.{Server}
 use Rattle.model_stream.specs.Receivers.{AllGot, StreamGot}
 use Rattle.model_stream.specs.Requests.{StreamReader, OfConn, OfChild, asked_one, drain, limits, write_eof, close, noted, written_by, write_unnoted, write}
 use Rattle.model_stream.specs.Requests.{drop_connect, read, read_all, give_up_read, sender_of, wait, kill}
-use Rattle.model_stream.specs.Senders.{Drain, Sender}
+use Rattle.model_stream.specs.Senders.{Drain, Sender, is_closing}
 use Rattle.model_stream.specs.Streams.{Streams, act, accept, accept_most, add_connection, add_child, add_server, close_server, closed_server, connect}
 use Rattle.model_stream.specs.Streams.{its_children, its_connections, launch, listen, may_connect, most_accepts, on_one}
-use Rattle.law_stream.specs.Ways.{Always}
+use Rattle.law_stream.specs.Ways.{Move, Always, told_by}
 use Rattle.law_stream.proofs.Along.{always_into, always_map}
 use Rattle.law_stream.specs.ReceiverOrder.{went}
 use Rattle.law_walk.specs.Walks.{AreTrees}
-use Rattle.law_received.specs.Calm.{Apart, SameChild, SameConn}
-use Rattle.law_received.specs.Readers.{bytes_if, held_of, may_hear, pipe_hears, told_to}
+use Rattle.law_received.specs.Calm.{Apart, FailedConn, SameChild, SameConn}
+use Rattle.law_received.specs.Readers.{bytes_if, held_of, may_hear, pipe_hears, received, told_to}
 use Rattle.law_received.proofs.Apart.{BringNone, apart_always, apart_if, apart_map, apart_then, bring_nothing}
 use Rattle.law_received.proofs.Own as own
 use Rattle.law_received.proofs.Own.{OwnFed}
@@ -179,8 +179,35 @@ readable_fed id s = at (slice_get s.connections id) refl
     at None e = apart_fed (λ (after : Streams). after) s (Ends s) (still_same s)
     at (Some c) e =
         always_into (AreOnlyFed None s) (now_conn s id) (connection.readable id c)
-        (always_map (λ moves after. OwnFed (OfConn id) c.receiver [] [] moves after.receiver) (λ moves after. AreOnlyFed None s moves (now_conn s id after))
-        (connection.readable id c) (λ moves after fed. conn_only s id c after moves e fed) (own.readable_fed id c))
+        (always_map (own.ConnFed id c) (λ moves after. AreOnlyFed None s moves (now_conn s id after))
+        (connection.readable id c) (λ moves after fed. conn_only s id c after moves e [] fed) (own.readable_fed id c))
+
+-- ---- a loss: with an exception what is held is let go
+lost_own : (id : ℕ) (c after : Connection) (moves : List Move) → BringNone moves → FailedConn after
+    → OwnFed (OfConn id) c.receiver (is_closing c.sender) [] c.receiver.reader.held moves after.receiver (is_closing after.sender)
+lost_own id c after moves none it =
+    record {
+      schedule = none.schedule;
+      fed = own.one_came c.receiver (is_closing c.sender) (received (OfConn id) (told_by moves)) [] [] c.receiver.reader.held after.receiver
+          (is_closing after.sender) (none.bring (OfConn id))
+          (own.one_fails c.receiver (is_closing c.sender) after.receiver (is_closing after.sender) it.held it.failed it.closes);
+      others = λ other apart. none.bring other;
+    }
+
+broken_fed : (id : ℕ) (s : Streams) → Always (AreOnlyFed None s) (on_one its_connections id (connection.lose id true) s)
+broken_fed id s = at (slice_get s.connections id) refl
+  where
+    at : (found : Option Connection) → slice_get s.connections id ≡ found → Always (AreOnlyFed None s) (elim found [
+      | None ↦ Ends s
+      | Some one ↦ and_then (connection.lose id true one) (λ after. Ends (now_conn s id after))
+    ])
+    at None e = apart_fed (λ (after : Streams). after) s (Ends s) (still_same s)
+    at (Some c) e =
+        always_into (AreOnlyFed None s) (now_conn s id) (connection.lose id true c)
+        (always_map (λ moves after. BringNone moves × FailedConn after) (λ moves after. AreOnlyFed None s moves (now_conn s id after))
+        (connection.lose id true c)
+        (λ moves after it. conn_only s id c after moves e c.receiver.reader.held (lost_own id c after moves it.0 it.1))
+        (apart_always FailedConn (connection.lose id true c) (own.lose_conn id true c)))
 
 -- a pipe of another child is told nothing
 told_if : (pipe : Stream) (number id : ℕ) (bytes : List ℕ) (c : Bool) → ((pipe_ : Stream) → OfChild pipe number ≡ OfChild pipe_ id → ⊥) → eqb number id ≡ c
@@ -291,8 +318,9 @@ acts_fed next returned (action.Up id) s =
     fed_alone s (act next returned (action.Up id) s) (conn_changes id s (connection.up id) (own.up_apart id))
 acts_fed next returned (action.Down id) s =
     fed_alone s (act next returned (action.Down id) s) (conn_changes id s (connection.down id) (own.down_apart id))
-acts_fed next returned (action.Lost id broken) s =
-    fed_alone s (act next returned (action.Lost id broken) s) (conn_changes id s (connection.lose id broken) (own.lose_conn id broken))
+acts_fed next returned (action.Lost id true) s = broken_fed id s
+acts_fed next returned (action.Lost id false) s =
+    fed_alone s (act next returned (action.Lost id false) s) (conn_changes id s (connection.lose id false) (own.lose_conn id false))
 acts_fed next returned (action.HandlerDone id task) s =
     fed_alone s (act next returned (action.HandlerDone id task) s) (conn_changes id s (connection.handler_done id returned) (own.handled_apart id returned))
 acts_fed next returned (action.WritableChild id) s =

@@ -2,6 +2,7 @@
 -- up takes nothing.
 use Rattle.std.proofs.Common.{◌≡◌, ◌⊎◌, inl, inr, ℕ, Bool, true, false, cond, eqb, not, ◌&&◌, List, [], ◌++◌, Option, Some, None}
 use Rattle.std.proofs.Common.{slice_get, slice_set, refl, sym, ap, subst, ◌∙◌}
+use Rattle.std.specs.Prelude.{is_some}
 use Rattle.std.proofs.lemmas.Bool.{cases_eq}
 use Rattle.std.proofs.lemmas.List.{append-nil}
 use Rattle.model_pump.specs.declared.stream.Stream.{Stream}
@@ -15,17 +16,19 @@ use Rattle.model_stream.specs.Receivers as receiver
 use Rattle.model_stream.specs.Receivers.{AllGot, Receiver, StreamGot}
 use Rattle.model_stream.specs.Requests.{StreamReader, OfConn, OfChild}
 use Rattle.model_stream.specs.Requests.{read, read_all, read_as, give_up_read}
+use Rattle.model_stream.specs.Senders.{is_closing}
 use Rattle.model_stream.specs.Streams.{Streams}
 use Rattle.law_cancel.proofs.Lookups.{get-set_kept, get-set_same}
-use Rattle.law_stream.specs.Ways.{Move, Always}
+use Rattle.law_stream.specs.Ways.{Move, Always, told_by}
 use Rattle.law_stream.proofs.Along.{always_into, always_map}
-use Rattle.law_stream.specs.ReceiverOrder.{went}
-use Rattle.law_received.specs.Readers.{conn_receiver, held_of, may_hear, pipe_hears, pipe_receiver}
+use Rattle.law_stream.specs.ReceiverOrder.{has_failed, went}
+use Rattle.law_received.specs.Readers.{conn_receiver, held_of, is_failed, is_shut, may_hear, pipe_hears, pipe_receiver, received, receiver_of}
 use Rattle.law_received.proofs.Apart.{BringNone, bring_nothing}
 use Rattle.law_received.specs.Feeding.{AreFed, IsLook}
 use Rattle.law_received.proofs.Fed.{PipeFed, Still, child_fed, conn_fed}
 use Rattle.law_received.proofs.Fed.{now_child, now_conn, number_of, only_fed}
-use Rattle.law_received.proofs.Fed.{other_child, other_conn, still_conn, still_fed}
+use Rattle.law_received.proofs.Fed.{other_child, other_conn, still_conn, still_fed, which_conn}
+use Rattle.law_received.proofs.Own.{one_came, one_look}
 use Rattle.law_received.proofs.Fed.{still_same}
 use Rattle.law_received.proofs.Looks.{Looks, all_looks, read_looks}
 
@@ -42,27 +45,48 @@ vainly from s =
     record {
       fed = only_fed None s [] s (still_fed None s [] s bring_nothing (λ other. refl) (still_same s));
       none = bring_nothing;
-      look = record { takes = refl; others = λ other apart. refl };
+      look = record { takes = refl; leaves = λ is. refl; others = λ other apart. refl; failed = λ which. refl };
     }
 
 conn_looks : (s : Streams) (id : ℕ) (c : Connection) (r : Receiver) (took : List ℕ) (moves : List Move) → slice_get s.connections id ≡ Some c
     → Looks took c.receiver moves r → LooksAt (OfConn id) took s moves (now_conn s id (record c { receiver = r }))
 conn_looks s id c r took moves e it =
-    let after = record c { receiver = r } in
     record {
-      fed = conn_fed s id c after moves e took
+      fed = conn_fed s id c (record c { receiver = r }) moves e took []
           (record {
             schedule = it.none.schedule;
-            order = ap (λ bytes. c.receiver.reader.held ++ bytes) (it.none.bring (OfConn id)) ∙ append-nil c.receiver.reader.held ∙ it.order;
+            fed = one_came c.receiver (is_closing c.sender) (received (OfConn id) (told_by moves)) [] took [] r (is_closing c.sender)
+                (it.none.bring (OfConn id)) (one_look c.receiver (is_closing c.sender) took r (is_closing c.sender) it.look (λ is. is));
             others = λ other apart. it.none.bring other;
           });
       none = it.none;
-      look = record {
-        takes = ap (λ (x : Receiver). x.reader.held) (ap conn_receiver e) ∙ it.order
-            ∙ ap (λ (x : Receiver). took ++ x.reader.held) (sym (ap conn_receiver (get-set_same s.connections id c after e)));
-        others = λ other apart. ap (λ (x : Receiver). x.reader.held) (other_conn s id after other apart);
-      };
+      look = record { takes = takes; leaves = leaves; others = others; failed = λ which. fails which (which_conn which id) };
     }
+  where
+    now : receiver_of (OfConn id) (now_conn s id (record c { receiver = r })) ≡ r
+    now = ap conn_receiver (get-set_same s.connections id c (record c { receiver = r }) e)
+
+    was : receiver_of (OfConn id) s ≡ c.receiver
+    was = ap conn_receiver e
+
+    takes : held_of (OfConn id) s ≡ took ++ held_of (OfConn id) (now_conn s id (record c { receiver = r }))
+    takes =
+        ap (λ (x : Receiver). x.reader.held) was ∙ sym (append-nil c.receiver.reader.held) ∙ it.look.order
+        ∙ ap (λ (x : Receiver). took ++ x.reader.held) (sym now)
+
+    leaves : is_failed (OfConn id) s ≡ true → held_of (OfConn id) (now_conn s id (record c { receiver = r })) ≡ held_of (OfConn id) s
+    leaves is =
+        ap (λ (x : Receiver). x.reader.held) now ∙ it.look.leaves (sym (ap has_failed was) ∙ is) ∙ sym (ap (λ (x : Receiver). x.reader.held) was)
+
+    others : (other : StreamReader) → (other ≡ OfConn id → ⊥) → held_of other (now_conn s id (record c { receiver = r })) ≡ held_of other s
+    others other apart = ap (λ (x : Receiver). x.reader.held) (other_conn s id (record c { receiver = r }) other apart)
+
+    fails : (which : StreamReader) → (which ≡ OfConn id) ⊎ (which ≡ OfConn id → ⊥)
+        → is_failed which (now_conn s id (record c { receiver = r })) ≡ is_failed which s
+    fails which (inl same) =
+        subst (λ x. is_failed x (now_conn s id (record c { receiver = r })) ≡ is_failed x s) (sym same)
+        (ap has_failed now ∙ it.look.same ∙ sym (ap has_failed was))
+    fails which (inr apart) = ap has_failed (other_conn s id (record c { receiver = r }) which apart)
 
 -- the other pipe stays
 abbrev put_pipe : Stream → Receiver → Child → Child
@@ -78,13 +102,13 @@ took_of stream.Errs took stream.Out = []
 pipes_read : (pipe : Stream) (id : ℕ) (p : Child) (r : Receiver) (took : List ℕ) (moves : List Move) → Looks took ((its_pipe pipe).get p) moves r
     → (other : Stream) → PipeFed other id None (took_of pipe took other) ((its_pipe other).get p) ((its_pipe other).get (put_pipe pipe r p))
 pipes_read stream.Out id p r took moves it stream.Out =
-    record { order = append-nil p.out.reader.held ∙ it.order; takes = λ told may. it.takes may }
+    record { order = it.look.order; failed = it.look.same; takes = λ told may. it.takes may }
 pipes_read stream.Errs id p r took moves it stream.Errs =
-    record { order = append-nil p.errs.reader.held ∙ it.order; takes = λ told may. it.takes may }
+    record { order = it.look.order; failed = it.look.same; takes = λ told may. it.takes may }
 pipes_read stream.Out id p r took moves it stream.Errs =
-    record { order = append-nil p.errs.reader.held; takes = λ told may. may }
+    record { order = append-nil p.errs.reader.held; failed = refl; takes = λ told may. may }
 pipes_read stream.Errs id p r took moves it stream.Out =
-    record { order = append-nil p.out.reader.held; takes = λ told may. may }
+    record { order = append-nil p.out.reader.held; failed = refl; takes = λ told may. may }
 
 got_pipe : (pipe : Stream) (r : Receiver) (p : Child) → (its_pipe pipe).get (put_pipe pipe r p) ≡ r
 got_pipe stream.Out r p = refl
@@ -96,21 +120,48 @@ other_pipe stream.Errs stream.Errs r p apart = absurd (apart refl)
 other_pipe stream.Out stream.Errs r p apart = refl
 other_pipe stream.Errs stream.Out r p apart = refl
 
+-- whether each failed, where the one that was read stays so
+put_failed : (pipe other : Stream) (r : Receiver) (p : Child) → has_failed r ≡ has_failed ((its_pipe pipe).get p)
+    → has_failed ((its_pipe other).get (put_pipe pipe r p)) ≡ has_failed ((its_pipe other).get p)
+put_failed stream.Out stream.Out r p same = same
+put_failed stream.Errs stream.Errs r p same = same
+put_failed stream.Out stream.Errs r p same = refl
+put_failed stream.Errs stream.Out r p same = refl
+
 child_looks : (pipe : Stream) (s : Streams) (id : ℕ) (p : Child) (r : Receiver) (took : List ℕ) (moves : List Move) → slice_get s.children id ≡ Some p
     → Looks took ((its_pipe pipe).get p) moves r → LooksAt (OfChild pipe id) took s moves (now_child s id (put_pipe pipe r p))
 child_looks pipe s id p r took moves e it =
     record {
       fed = child_fed s id p (put_pipe pipe r p) moves None e it.none (λ other apart. refl) (took_of pipe took) (pipes_read pipe id p r took moves it);
       none = it.none;
-      look = record {
-        takes = ap (λ (x : Receiver). x.reader.held) (ap (pipe_receiver pipe) e) ∙ it.order
-            ∙ ap (λ (x : Receiver). took ++ x.reader.held) (sym (ap (pipe_receiver pipe) is ∙ got_pipe pipe r p));
-        others = others;
-      };
+      look = record { takes = takes; leaves = leaves; others = others; failed = fails };
     }
   where
     is : slice_get (slice_set s.children id (put_pipe pipe r p)) id ≡ Some (put_pipe pipe r p)
     is = get-set_same s.children id p (put_pipe pipe r p) e
+
+    now : receiver_of (OfChild pipe id) (now_child s id (put_pipe pipe r p)) ≡ r
+    now = ap (pipe_receiver pipe) is ∙ got_pipe pipe r p
+
+    was : receiver_of (OfChild pipe id) s ≡ (its_pipe pipe).get p
+    was = ap (pipe_receiver pipe) e
+
+    takes : held_of (OfChild pipe id) s ≡ took ++ held_of (OfChild pipe id) (now_child s id (put_pipe pipe r p))
+    takes =
+        ap (λ (x : Receiver). x.reader.held) was ∙ sym (append-nil ((its_pipe pipe).get p).reader.held) ∙ it.look.order
+        ∙ ap (λ (x : Receiver). took ++ x.reader.held) (sym now)
+
+    leaves : is_failed (OfChild pipe id) s ≡ true
+        → held_of (OfChild pipe id) (now_child s id (put_pipe pipe r p)) ≡ held_of (OfChild pipe id) s
+    leaves failed =
+        ap (λ (x : Receiver). x.reader.held) now ∙ it.look.leaves (sym (ap has_failed was) ∙ failed)
+        ∙ sym (ap (λ (x : Receiver). x.reader.held) was)
+
+    fails : (which : StreamReader) → is_failed which (now_child s id (put_pipe pipe r p)) ≡ is_failed which s
+    fails (OfConn number) = refl
+    fails (OfChild stream_ number) =
+        get-set_kept (λ o. has_failed (pipe_receiver stream_ o)) s.children id number p (put_pipe pipe r p) e
+        (put_failed pipe stream_ r p it.look.same)
 
     others : (other : StreamReader) → (other ≡ OfChild pipe id → ⊥) → held_of other (now_child s id (put_pipe pipe r p)) ≡ held_of other s
     others (OfConn number) apart = refl
@@ -236,8 +287,17 @@ put_same stream.Errs stream.Out r p same = refl
 
 still_put : (s : Streams) (id : ℕ) (p after : Child) → slice_get s.children id ≡ Some p
     → ((pipe : Stream) → ((its_pipe pipe).get after).reader ≡ ((its_pipe pipe).get p).reader) → Still s (now_child s id after)
-still_put s id p after e same = record { holds = holds; hears = hears }
+still_put s id p after e same = record { holds = holds; fails = fails; shuts = shuts; hears = hears }
   where
+    fails : (from : StreamReader) → is_failed from (now_child s id after) ≡ is_failed from s
+    fails (OfConn other) = refl
+    fails (OfChild pipe other) =
+        get-set_kept (λ o. has_failed (pipe_receiver pipe o)) s.children id other p after e (ap (λ (x : Reading). is_some x.failed) (same pipe))
+
+    shuts : (from : StreamReader) → is_shut from s ≡ true → is_shut from (now_child s id after) ≡ true
+    shuts (OfConn other) is = is
+    shuts (OfChild pipe other) is = is
+
     holds : (from : StreamReader) → held_of from (now_child s id after) ≡ held_of from s
     holds (OfConn other) = refl
     holds (OfChild pipe other) =
@@ -257,7 +317,12 @@ gives_up on (OfConn id) s = at (slice_get s.connections id) refl
     ])
     at None e = still_same s
     at (Some c) e =
-        still_conn s id c (record c { receiver = receiver.give_up_read on c.receiver }) e (ap (λ (x : Reading). x.held) (given_up on c.receiver))
+        still_conn s id c (record c { receiver = receiver.give_up_read on c.receiver }) e
+        (record {
+          held = ap (λ (x : Reading). x.held) (given_up on c.receiver);
+          failed = ap (λ (x : Reading). is_some x.failed) (given_up on c.receiver);
+          closes = λ is. is;
+        })
 gives_up on (OfChild pipe id) s = at (slice_get s.children id) refl
   where
     at : (found : Option Child) → slice_get s.children id ≡ found → Still s (elim found [

@@ -87,84 +87,76 @@ apart_then Holds Then (Changes (Settle future outcome) rest) next h each = apart
 apart_then Holds Then (Changes (CallSoon it) rest) next h each = (h.0, apart_then Holds Then rest next h.1 each)
 apart_then Holds Then (Asks it rest) next h each = (h.0, λ answer. apart_then Holds Then (rest answer) next (h.1 answer) each)
 
--- ---- whatever comes of it
-abbrev pub Calm : {A : Type 0} → Doing A → Type 0
-Calm doing = Apart (λ result. Unit {0}) doing
+-- ---- a sender: one that closes goes on to
+abbrev pub Closes : Sender → Sender → Type 0
+Closes s after = is_closing s ≡ true → is_closing after ≡ true
 
-pub calm_if : {A : Type 0} (b : Bool) (x y : Doing A) → Calm x → Calm y → Calm (cond b x y)
-calm_if {A} b x y here there = apart_if (λ (result : A). Unit {0}) b x y here there
+abbrev pub IsClosed : Sender → Type 0
+IsClosed after = is_closing after ≡ true
 
-pub calm_told : {A : Type 0} (futures : List ℕ) (outcome : Outcome) (rest : Doing A) → Calm rest → Calm (settles futures outcome rest)
-calm_told {A} futures outcome rest h = apart_told (λ (result : A). Unit {0}) futures outcome rest h
-
-pub calm_into : {A B : Type 0} (Then : B → Type 0) (into : A → B) (doing : Doing A) → Calm doing → ((result : A) → Then (into result))
-    → Apart Then (and_then doing (λ result. Ends (into result)))
-calm_into {A} Then into doing h each =
-    apart_then (λ (result : A). Unit {0}) Then doing (λ result. Ends (into result)) h (λ result any. each result)
-
--- ---- a sender
 module _ (o : Outlet) (sends : (bytes : List ℕ) → is_recv (o.sends bytes) ≡ false) (closes : is_recv o.closes ≡ false)
     (loses : (broken : Bool) → is_news (o.loses broken) ≡ false) where
-  pub fail_apart : (s : Sender) → Calm (fail_sender o s)
-  fail_apart s = calm_if s.writer.ended (Ends s) (schedule_loss o true s) tt (loses true, tt)
+  pub schedule_apart : (broken : Bool) (s : Sender) → Apart (Closes s) (schedule_loss o broken s)
+  schedule_apart broken s = (loses broken, λ is. refl)
 
-  pub schedule_apart : (broken : Bool) (s : Sender) → Calm (schedule_loss o broken s)
-  schedule_apart broken s = (loses broken, tt)
+  pub fail_apart : (s : Sender) → Apart (Closes s) (fail_sender o s)
+  fail_apart s = apart_if (Closes s) s.writer.ended (Ends s) (schedule_loss o true s) (λ is. is) (schedule_apart true s)
 
-  pub close_apart : (s : Sender) → Calm (close_sender o s)
+  pub close_apart : (s : Sender) → Apart (Closes s) (close_sender o s)
   close_apart s =
-      calm_if (is_closing s) (Ends s) _ tt
-      (calm_if (has_unsent s) (Ends (record s { phase = phase.Closing })) (schedule_loss o false s) tt (loses false, tt))
+      apart_if (Closes s) (is_closing s) (Ends s) _ (λ is. is)
+      (apart_if (Closes s) (has_unsent s) (Ends (record s { phase = phase.Closing })) (schedule_loss o false s) (λ is. refl) (schedule_apart false s))
 
-  pub lose_apart : (broken : Bool) (s : Sender) → Calm (lose_sender o broken s)
+  pub lose_apart : (broken : Bool) (s : Sender) → Apart IsClosed (lose_sender o broken s)
   lose_apart broken s =
-      calm_told (waiting_for_loss s) (outcome_of (loss_of o broken))
-      (asks o.closes (Ends (record (ended_sender (phase.Lost broken) s) { drains = [] }))) (closes, λ came. tt)
+      apart_told IsClosed (waiting_for_loss s) (outcome_of (loss_of o broken))
+      (asks o.closes (Ends (record (ended_sender (phase.Lost broken) s) { drains = [] }))) (closes, λ came. refl)
 
-  offered_apart : (s : Sender) (came : Answer) → Calm (offered o s came)
+  offered_apart : (s : Sender) (came : Answer) → Apart (Closes s) (offered o s came)
   offered_apart s came = at (sent_by came)
     where
-      at : (it : Sent) → Calm (elim it [
+      at : (it : Sent) → Apart (Closes s) (elim it [
         | SentSome count ↦ Ends (with_writer (took count s.writer) s)
         | SentNone ↦ Ends (with_writer (took 0 s.writer) s)
         | SendFailed ↦ fail_sender o s
       ])
-      at (SentSome count) = tt
-      at SentNone = tt
+      at (SentSome count) = λ is. is
+      at SentNone = λ is. is
       at SendFailed = fail_apart s
 
-  written_apart : (it : Put) (s : Sender) → Calm (write_as it o s)
-  written_apart AfterEof s = tt
+  written_apart : (it : Put) (s : Sender) → Apart (λ (done : Sender × Wrote). Closes s done.0) (write_as it o s)
+  written_apart AfterEof s = λ is. is
   written_apart Offer s = (
     sends (offer s.writer),
     λ came.
-        calm_into {A = Sender} {B = Sender × Wrote} (λ done. Unit {0}) (λ after. (after, wrote.Done)) (offered o s came) (offered_apart s came) (λ after. tt),
+        apart_then {A = Sender} {B = Sender × Wrote} (Closes s) (λ done. Closes s done.0) (offered o s came) (λ after. Ends (after, wrote.Done))
+        (offered_apart s came) (λ after still. still),
   )
-  written_apart Kept s = tt
-  written_apart Empty s = tt
-  written_apart Dropped s = tt
+  written_apart Kept s = λ is. is
+  written_apart Empty s = λ is. is
+  written_apart Dropped s = λ is. is
 
-  pub write_apart : (piece : List ℕ) (s : Sender) → Calm (write o piece s)
+  pub write_apart : (piece : List ℕ) (s : Sender) → Apart (λ (done : Sender × Wrote). Closes s done.0) (write o piece s)
   write_apart piece s = written_apart (put_answer piece s.writer) (with_writer (put piece s.writer) s)
 
-  pub send_apart : (s : Sender) → Calm (send_more o s)
+  pub send_apart : (s : Sender) → Apart (Closes s) (send_more o s)
   send_apart s = (sends (offer s.writer), λ came. at (sent_by came))
     where
-      at : (it : Sent) → Calm (elim it [
+      at : (it : Sent) → Apart (Closes s) (elim it [
         | SentSome count ↦ sent count s
         | SentNone ↦ Ends s
         | SendFailed ↦ fail_sender o s
       ])
       at (SentSome count) =
-          calm_if (s.writer.paused && not (took count s.writer).paused)
+          apart_if (Closes s) (s.writer.paused && not (took count s.writer).paused)
           (settles s.drains (Returned Nothing) (Ends (record s { writer = took count s.writer; drains = [] }))) (Ends (with_writer (took count s.writer) s))
-          (calm_told s.drains (Returned Nothing) (Ends (record s { writer = took count s.writer; drains = [] })) tt) tt
-      at SentNone = tt
+          (apart_told (Closes s) s.drains (Returned Nothing) (Ends (record s { writer = took count s.writer; drains = [] })) (λ is. is)) (λ is. is)
+      at SentNone = λ is. is
       at SendFailed = fail_apart s
 
-pub drain_apart : (yielded : Bool) (next : ℕ) (s : Sender) → Calm (drain_sender yielded next s)
+pub drain_apart : (yielded : Bool) (next : ℕ) (s : Sender) → Apart (λ (done : Sender × Drain). Closes s done.0) (drain_sender yielded next s)
 drain_apart yielded next s =
-    calm_if {A = Sender × Drain} (is_closing s && not yielded) (Ends (s, drain_as.Yields)) _ tt
-    (calm_if {A = Sender × Drain} (is_lost s) (Ends (s, drain_as.Raises (exception_of ConnectionResetError lost_text))) _ tt
-    (calm_if {A = Sender × Drain} s.writer.paused
-    (Changes MakeFuture (Ends (record s { drains = s.drains ++ next ∷ [] }, drain_as.Waits next))) (Ends (s, drain_as.Goes)) tt tt))
+    apart_if (λ (done : Sender × Drain). Closes s done.0) (is_closing s && not yielded) (Ends (s, drain_as.Yields)) _ (λ is. is)
+    (apart_if (λ (done : Sender × Drain). Closes s done.0) (is_lost s) (Ends (s, drain_as.Raises (exception_of ConnectionResetError lost_text))) _ (λ is. is)
+    (apart_if (λ (done : Sender × Drain). Closes s done.0) s.writer.paused
+    (Changes MakeFuture (Ends (record s { drains = s.drains ++ next ∷ [] }, drain_as.Waits next))) (Ends (s, drain_as.Goes)) (λ is. is) (λ is. is)))

@@ -2,6 +2,7 @@
 -- what it holds after.
 use Rattle.std.proofs.Common.{◌≡◌, ◌⊎◌, inl, inr, ℕ, ℤ, Bool, true, false, cond, eqb, List, [], ◌∷◌, ◌++◌, Option, Some, None, length, slice_get, slice_set}
 use Rattle.std.proofs.Common.{refl, sym, ap, subst, ◌∙◌}
+use Rattle.std.specs.Prelude.{is_some}
 use Rattle.std.proofs.lemmas.Bool.{cases_eq, eq-eqb, false≢true}
 use Rattle.std.proofs.lemmas.List.{append-nil}
 use Rattle.model_pump.specs.declared.stream.Stream.{Stream}
@@ -15,38 +16,47 @@ use Rattle.model_stream.specs.Doing.{Doing, Ends, and_then, on}
 use Rattle.model_stream.specs.Reading.{Reading, feed, feed_eof}
 use Rattle.model_stream.specs.Receivers.{Receiver, new_receiver, receive, receive_end, takes_more, wakes}
 use Rattle.model_stream.specs.Requests.{StreamReader, OfConn, OfChild}
+use Rattle.model_stream.specs.Senders.{is_closing}
 use Rattle.model_stream.specs.Streams.{Streams, add_child, add_connection}
 use Rattle.law_cancel.proofs.Lookups.{get-push_last, get-push_other, get-set_kept, get-set_other, get-set_same}
 use Rattle.law_stream.specs.Ways.{Move, Always, told_by}
 use Rattle.law_stream.proofs.Along.{always_map}
-use Rattle.law_received.specs.Feeding.{AreFed, AreOnlyFed, IsFed, News, fed_if, is_told}
+use Rattle.law_stream.specs.ReceiverOrder.{has_failed}
+use Rattle.law_received.specs.Feeding.{AreFed, AreOnlyFed, IsFed, News, OneFed, fed_if, is_told}
 use Rattle.law_received.specs.Calm.{Apart, SameChild, SameConn}
-use Rattle.law_received.specs.Readers.{bytes_if, conn_receiver, held_of, is_news_to, may_hear, pipe_hears, pipe_receiver, received, receiver_of, told_to}
+use Rattle.law_received.specs.Readers.{bytes_if, conn_receiver, conn_shut, held_of, is_failed, is_news_to, is_shut, may_hear, pipe_hears}
+use Rattle.law_received.specs.Readers.{pipe_receiver, received, receiver_of, told_to}
 use Rattle.law_received.proofs.Apart.{BringNone, apart_always, apart_map}
-use Rattle.law_received.proofs.Own.{OwnFed, break_apart, exit_apart}
+use Rattle.law_received.proofs.Own.{OwnFed, break_apart, exit_apart, one_came, one_still, one_taken}
 
 -- ---- what goes
 pub only_fed : (news : News) (s : Streams) (moves : List Move) (after : Streams) → AreOnlyFed news s moves after → AreFed news s moves after
-only_fed news s moves after only = record { schedule = only.schedule; each = λ from. ([], only.each from) }
+only_fed news s moves after only =
+    record { schedule = only.schedule; each = λ from. ([], (only.each from).0, (only.each from).1) }
 
 -- something did, unless this holds
 pub record FedBy (None_ : Type 0) (from : StreamReader) (news : News) (s : Streams) (moves : List Move) (after : Streams) : Type 0 where
   pub went : List ℕ
-  pub is : IsFed from news went s moves after
+  pub let_go : List ℕ
+  pub is : IsFed from news went let_go s moves after
   pub none : None_ → went ≡ []
 
--- ---- where each holds what it held
+-- ---- where each holds what it held, and none fails
 pub record Still (s after : Streams) : Type 0 where
   pub holds : (from : StreamReader) → held_of from after ≡ held_of from s
+  pub fails : (from : StreamReader) → is_failed from after ≡ is_failed from s
+  pub shuts : (from : StreamReader) → is_shut from s ≡ true → is_shut from after ≡ true
   pub hears : (from : StreamReader) → may_hear from s ≡ true → may_hear from after ≡ true
 
 pub still_same : (s : Streams) → Still s s
-still_same s = record { holds = λ from. refl; hears = λ from is. is }
+still_same s = record { holds = λ from. refl; fails = λ from. refl; shuts = λ from is. is; hears = λ from is. is }
 
 pub still_both : (s mid after : Streams) → Still s mid → Still mid after → Still s after
 still_both s mid after first second =
     record {
       holds = λ from. second.holds from ∙ first.holds from;
+      fails = λ from. second.fails from ∙ first.fails from;
+      shuts = λ from is. second.shuts from (first.shuts from is);
       hears = λ from is. second.hears from (first.hears from is);
     }
 
@@ -55,13 +65,21 @@ pub still_fed : (news : News) (s : Streams) (moves : List Move) (after : Streams
 still_fed news s moves after none told still =
     record {
       schedule = none.schedule;
-      each = λ from.
-          record {
-            order = ap (λ bytes. held_of from s ++ (bytes ++ received from (told_by moves))) (told from)
-                ∙ ap (λ bytes. held_of from s ++ bytes) (none.bring from) ∙ append-nil (held_of from s) ∙ sym (still.holds from);
-            hears = λ is may. still.hears from may;
-          };
+      each = λ from. (
+        [],
+        record {
+          fed = one_came (receiver_of from s) (is_shut from s) (fed_if (may_hear from s) from news ++ received from (told_by moves)) [] [] []
+              (receiver_of from after) (is_shut from after)
+              (ap (λ bytes. bytes ++ received from (told_by moves)) (told from) ∙ none.bring from) (one_of from);
+          hears = λ is may. still.hears from may;
+        },
+      );
     }
+  where
+    one_of : (from : StreamReader) → OneFed (receiver_of from s) (is_shut from s) [] [] [] (receiver_of from after) (is_shut from after)
+    one_of from =
+        one_still (receiver_of from s) (is_shut from s) (receiver_of from after) (is_shut from after) (still.holds from) (still.fails from)
+        (still.shuts from)
 
 pub apart_fed : {A : Type 0} (now : A → Streams) (s : Streams) (doing : Doing A) → Apart (λ result. Still s (now result)) doing
     → Always (λ moves result. AreOnlyFed None s moves (now result)) doing
@@ -83,11 +101,26 @@ abbrev pipe_holds : Stream → Option Child → List ℕ
 pipe_holds pipe o = (pipe_receiver pipe o).reader.held
 
 pub still_conn : (s : Streams) (id : ℕ) (c after : Connection) → slice_get s.connections id ≡ Some c → SameConn c after → Still s (now_conn s id after)
-still_conn s id c after e same = record { holds = holds; hears = hears }
+still_conn s id c after e same = record { holds = holds; fails = fails; shuts = shuts; hears = hears }
   where
     holds : (from : StreamReader) → held_of from (now_conn s id after) ≡ held_of from s
-    holds (OfConn other) = get-set_kept conn_holds s.connections id other c after e same
+    holds (OfConn other) = get-set_kept conn_holds s.connections id other c after e same.held
     holds (OfChild pipe other) = refl
+
+    fails : (from : StreamReader) → is_failed from (now_conn s id after) ≡ is_failed from s
+    fails (OfConn other) = get-set_kept (λ o. has_failed (conn_receiver o)) s.connections id other c after e same.failed
+    fails (OfChild pipe other) = refl
+
+    shut : (other : ℕ) → (id ≡ other) ⊎ (id ≡ other → ⊥) → is_shut (OfConn other) s ≡ true → is_shut (OfConn other) (now_conn s id after) ≡ true
+    shut other (inl mine) is =
+        ap (λ n. conn_shut (slice_get (slice_set s.connections id after) n)) (sym mine)
+        ∙ ap conn_shut (get-set_same s.connections id c after e)
+        ∙ same.closes (sym (ap conn_shut e) ∙ ap (λ n. conn_shut (slice_get s.connections n)) mine ∙ is)
+    shut other (inr apart) is = ap conn_shut (get-set_other s.connections id other after apart) ∙ is
+
+    shuts : (from : StreamReader) → is_shut from s ≡ true → is_shut from (now_conn s id after) ≡ true
+    shuts (OfConn other) is = shut other (cases_eq id other) is
+    shuts (OfChild pipe other) is = is
 
     hears : (from : StreamReader) → may_hear from s ≡ true → may_hear from (now_conn s id after) ≡ true
     hears (OfConn other) is = is
@@ -98,12 +131,21 @@ same_pipe p after same stream.Out = same.0
 same_pipe p after same stream.Errs = same.1
 
 pub still_child : (s : Streams) (id : ℕ) (p after : Child) → slice_get s.children id ≡ Some p → SameChild p after → Still s (now_child s id after)
-still_child s id p after e same = record { holds = holds; hears = hears }
+still_child s id p after e same = record { holds = holds; fails = fails; shuts = shuts; hears = hears }
   where
     holds : (from : StreamReader) → held_of from (now_child s id after) ≡ held_of from s
     holds (OfConn other) = refl
     holds (OfChild pipe other) =
         get-set_kept (pipe_holds pipe) s.children id other p after e (ap (λ (r : Receiver). r.reader.held) (same_pipe p after same pipe))
+
+    fails : (from : StreamReader) → is_failed from (now_child s id after) ≡ is_failed from s
+    fails (OfConn other) = refl
+    fails (OfChild pipe other) =
+        get-set_kept (λ o. has_failed (pipe_receiver pipe o)) s.children id other p after e (ap has_failed (same_pipe p after same pipe))
+
+    shuts : (from : StreamReader) → is_shut from s ≡ true → is_shut from (now_child s id after) ≡ true
+    shuts (OfConn other) is = is
+    shuts (OfChild pipe other) is = is
 
     hears : (from : StreamReader) → may_hear from s ≡ true → may_hear from (now_child s id after) ≡ true
     hears (OfConn other) is = is
@@ -112,11 +154,21 @@ still_child s id p after e same = record { holds = holds; hears = hears }
 
 -- where connections and children are the same
 pub still_alike : (s after : Streams) → after.connections ≡ s.connections → after.children ≡ s.children → Still s after
-still_alike s after conns childs = record { holds = holds; hears = hears }
+still_alike s after conns childs =
+    record {
+      holds = λ from. ap (λ (r : Receiver). r.reader.held) (same from);
+      fails = λ from. ap has_failed (same from);
+      shuts = shuts;
+      hears = hears;
+    }
   where
-    holds : (from : StreamReader) → held_of from after ≡ held_of from s
-    holds (OfConn id) = ap (λ cs. conn_holds (slice_get cs id)) conns
-    holds (OfChild pipe id) = ap (λ ps. pipe_holds pipe (slice_get ps id)) childs
+    same : (from : StreamReader) → receiver_of from after ≡ receiver_of from s
+    same (OfConn id) = ap (λ cs. conn_receiver (slice_get cs id)) conns
+    same (OfChild pipe id) = ap (λ ps. pipe_receiver pipe (slice_get ps id)) childs
+
+    shuts : (from : StreamReader) → is_shut from s ≡ true → is_shut from after ≡ true
+    shuts (OfConn id) is = ap (λ cs. conn_shut (slice_get cs id)) conns ∙ is
+    shuts (OfChild pipe id) is = is
 
     hears : (from : StreamReader) → may_hear from s ≡ true → may_hear from after ≡ true
     hears (OfConn id) is = is
@@ -128,19 +180,35 @@ get-end [] = refl
 get-end (x ∷ xs) = get-end xs
 
 pub still_opened : (s : Streams) (c : Connection) → c.receiver ≡ new_receiver → Still s (add_connection c s)
-still_opened s c new = record { holds = holds; hears = hears }
+still_opened s c new =
+    record {
+      holds = λ from. ap (λ (r : Receiver). r.reader.held) (same from);
+      fails = λ from. ap has_failed (same from);
+      shuts = shuts;
+      hears = hears;
+    }
   where
     at : (other : ℕ) → (other ≡ length s.connections) ⊎ (other ≡ length s.connections → ⊥)
-        → held_of (OfConn other) (add_connection c s) ≡ held_of (OfConn other) s
+        → receiver_of (OfConn other) (add_connection c s) ≡ receiver_of (OfConn other) s
     at other (inl last) =
-        ap (λ n. conn_holds (slice_get (s.connections ++ c ∷ []) n)) last ∙ ap conn_holds (get-push_last s.connections c)
-        ∙ ap (λ (r : Receiver). r.reader.held) new
-        ∙ sym (ap (λ n. conn_holds (slice_get s.connections n)) last ∙ ap conn_holds (get-end s.connections))
-    at other (inr before) = ap conn_holds (get-push_other s.connections c other before)
+        ap (λ n. conn_receiver (slice_get (s.connections ++ c ∷ []) n)) last ∙ ap conn_receiver (get-push_last s.connections c) ∙ new
+        ∙ sym (ap (λ n. conn_receiver (slice_get s.connections n)) last ∙ ap conn_receiver (get-end s.connections))
+    at other (inr before) = ap conn_receiver (get-push_other s.connections c other before)
 
-    holds : (from : StreamReader) → held_of from (add_connection c s) ≡ held_of from s
-    holds (OfConn other) = at other (cases_eq other (length s.connections))
-    holds (OfChild pipe other) = refl
+    same : (from : StreamReader) → receiver_of from (add_connection c s) ≡ receiver_of from s
+    same (OfConn other) = at other (cases_eq other (length s.connections))
+    same (OfChild pipe other) = refl
+
+    shut : (other : ℕ) → (other ≡ length s.connections) ⊎ (other ≡ length s.connections → ⊥) → is_shut (OfConn other) s ≡ true
+        → is_shut (OfConn other) (add_connection c s) ≡ true
+    shut other (inl last) is =
+        absurd (false≢true
+        (sym (ap (λ n. conn_shut (slice_get s.connections n)) last ∙ ap conn_shut (get-end s.connections)) ∙ is))
+    shut other (inr before) is = ap conn_shut (get-push_other s.connections c other before) ∙ is
+
+    shuts : (from : StreamReader) → is_shut from s ≡ true → is_shut from (add_connection c s) ≡ true
+    shuts (OfConn other) is = shut other (cases_eq other (length s.connections)) is
+    shuts (OfChild pipe other) is = is
 
     hears : (from : StreamReader) → may_hear from s ≡ true → may_hear from (add_connection c s) ≡ true
     hears (OfConn other) is = is
@@ -151,16 +219,29 @@ new_pipe closed_future stream.Out = refl
 new_pipe closed_future stream.Errs = refl
 
 pub still_launched : (s : Streams) (closed_future : ℕ) → Still s (add_child (new_child closed_future) s)
-still_launched s closed_future = record { holds = holds; hears = hears }
+still_launched s closed_future =
+    record {
+      holds = λ from. ap (λ (r : Receiver). r.reader.held) (same from);
+      fails = λ from. ap has_failed (same from);
+      shuts = shuts;
+      hears = hears;
+    }
   where
-    held : (pipe : Stream) (other : ℕ) → (other ≡ length s.children) ⊎ (other ≡ length s.children → ⊥)
-        → held_of (OfChild pipe other) (add_child (new_child closed_future) s) ≡ held_of (OfChild pipe other) s
-    held pipe other (inl last) =
-        ap (λ n. pipe_holds pipe (slice_get (s.children ++ new_child closed_future ∷ []) n)) last
-        ∙ ap (pipe_holds pipe) (get-push_last s.children (new_child closed_future))
-        ∙ ap (λ (r : Receiver). r.reader.held) (new_pipe closed_future pipe)
-        ∙ sym (ap (λ n. pipe_holds pipe (slice_get s.children n)) last ∙ ap (pipe_holds pipe) (get-end s.children))
-    held pipe other (inr before) = ap (pipe_holds pipe) (get-push_other s.children (new_child closed_future) other before)
+    at : (pipe : Stream) (other : ℕ) → (other ≡ length s.children) ⊎ (other ≡ length s.children → ⊥)
+        → receiver_of (OfChild pipe other) (add_child (new_child closed_future) s) ≡ receiver_of (OfChild pipe other) s
+    at pipe other (inl last) =
+        ap (λ n. pipe_receiver pipe (slice_get (s.children ++ new_child closed_future ∷ []) n)) last
+        ∙ ap (pipe_receiver pipe) (get-push_last s.children (new_child closed_future)) ∙ new_pipe closed_future pipe
+        ∙ sym (ap (λ n. pipe_receiver pipe (slice_get s.children n)) last ∙ ap (pipe_receiver pipe) (get-end s.children))
+    at pipe other (inr before) = ap (pipe_receiver pipe) (get-push_other s.children (new_child closed_future) other before)
+
+    same : (from : StreamReader) → receiver_of from (add_child (new_child closed_future) s) ≡ receiver_of from s
+    same (OfConn other) = refl
+    same (OfChild pipe other) = at pipe other (cases_eq other (length s.children))
+
+    shuts : (from : StreamReader) → is_shut from s ≡ true → is_shut from (add_child (new_child closed_future) s) ≡ true
+    shuts (OfConn other) is = is
+    shuts (OfChild pipe other) is = is
 
     hear : (pipe : Stream) (other : ℕ) → (other ≡ length s.children) ⊎ (other ≡ length s.children → ⊥)
         → may_hear (OfChild pipe other) s ≡ true → may_hear (OfChild pipe other) (add_child (new_child closed_future) s) ≡ true
@@ -168,10 +249,6 @@ still_launched s closed_future = record { holds = holds; hears = hears }
         absurd (false≢true
         (sym (ap (λ n. pipe_hears pipe (slice_get s.children n)) last ∙ ap (pipe_hears pipe) (get-end s.children)) ∙ is))
     hear pipe other (inr before) is = ap (pipe_hears pipe) (get-push_other s.children (new_child closed_future) other before) ∙ is
-
-    holds : (from : StreamReader) → held_of from (add_child (new_child closed_future) s) ≡ held_of from s
-    holds (OfConn other) = refl
-    holds (OfChild pipe other) = held pipe other (cases_eq other (length s.children))
 
     hears : (from : StreamReader) → may_hear from s ≡ true → may_hear from (add_child (new_child closed_future) s) ≡ true
     hears (OfConn other) is = is
@@ -196,6 +273,12 @@ other_conn s id after (OfConn other) apart =
     ap conn_receiver (get-set_other s.connections id other after (λ same. apart (ap OfConn (sym same))))
 other_conn s id after (OfChild pipe other) apart = refl
 
+other_shut : (s : Streams) (id : ℕ) (after : Connection) (other : StreamReader) → (other ≡ OfConn id → ⊥)
+    → is_shut other (now_conn s id after) ≡ is_shut other s
+other_shut s id after (OfConn other) apart =
+    ap conn_shut (get-set_other s.connections id other after (λ same. apart (ap OfConn (sym same))))
+other_shut s id after (OfChild pipe other) apart = refl
+
 pub other_child : (s : Streams) (id : ℕ) (after : Child) (other : StreamReader) → ((pipe : Stream) → other ≡ OfChild pipe id → ⊥)
     → receiver_of other (now_child s id after) ≡ receiver_of other s
 other_child s id after (OfConn other) apart = refl
@@ -208,17 +291,34 @@ module _ (s : Streams) (id : ℕ) (c after : Connection) (moves : List Move) (e 
   hear_same (OfConn other) = refl
   hear_same (OfChild pipe other) = refl
 
-  pub conn_by : (took : List ℕ) → OwnFed (OfConn id) c.receiver [] took moves after.receiver → (from : StreamReader)
+  -- another, where nothing comes to it
+  conn_apart : (it : StreamReader) → (it ≡ OfConn id → ⊥) → received it (told_by moves) ≡ [] → IsFed it None [] [] s moves (now_conn s id after)
+  conn_apart it apart none =
+      record {
+        fed = one_came (receiver_of it s) (is_shut it s) (received it (told_by moves)) [] [] [] (receiver_of it (now_conn s id after))
+            (is_shut it (now_conn s id after)) none
+            (one_still (receiver_of it s) (is_shut it s) (receiver_of it (now_conn s id after)) (is_shut it (now_conn s id after))
+            (ap (λ (r : Receiver). r.reader.held) (other_conn s id after it apart)) (ap has_failed (other_conn s id after it apart))
+            (λ is. other_shut s id after it apart ∙ is));
+        hears = λ told is. hear_same it ∙ is;
+      }
+
+  pub conn_by : (took let_go : List ℕ)
+      → OwnFed (OfConn id) c.receiver (is_closing c.sender) took let_go moves after.receiver (is_closing after.sender) → (from : StreamReader)
       → FedBy (took ≡ []) from None s moves (now_conn s id after)
-  conn_by took own from = at from (which_conn from id)
+  conn_by took let_go own from = at from (which_conn from id)
     where
       mine : FedBy (took ≡ []) (OfConn id) None s moves (now_conn s id after)
       mine =
           record {
             went = took;
+            let_go = let_go;
             is = record {
-              order = ap (λ (r : Receiver). r.reader.held ++ received (OfConn id) (told_by moves)) (ap conn_receiver e) ∙ own.order
-                  ∙ ap (λ (r : Receiver). took ++ r.reader.held) (sym (ap conn_receiver (get-set_same s.connections id c after e)));
+              fed = subst (λ o. OneFed (conn_receiver (slice_get s.connections id)) (conn_shut (slice_get s.connections id))
+                  (received (OfConn id) (told_by moves)) took let_go (conn_receiver o) (conn_shut o))
+                  (sym (get-set_same s.connections id c after e))
+                  (subst (λ o. OneFed (conn_receiver o) (conn_shut o) (received (OfConn id) (told_by moves)) took let_go after.receiver
+                  (is_closing after.sender)) (sym e) own.fed);
               hears = λ told is. is;
             };
             none = λ none. none;
@@ -226,32 +326,31 @@ module _ (s : Streams) (id : ℕ) (c after : Connection) (moves : List Move) (e 
 
       at : (it : StreamReader) → (it ≡ OfConn id) ⊎ (it ≡ OfConn id → ⊥) → FedBy (took ≡ []) it None s moves (now_conn s id after)
       at it (inl same) = subst (λ x. FedBy (took ≡ []) x None s moves (now_conn s id after)) (sym same) mine
-      at it (inr apart) =
-          record {
-            went = [];
-            is = record {
-              order = ap (λ bytes. held_of it s ++ bytes) (own.others it apart) ∙ append-nil (held_of it s)
-                  ∙ ap (λ (r : Receiver). r.reader.held) (sym (other_conn s id after it apart));
-              hears = λ told is. hear_same it ∙ is;
-            };
-            none = λ none. refl;
-          }
+      at it (inr apart) = record { went = []; let_go = []; is = conn_apart it apart (own.others it apart); none = λ none. refl }
 
-  pub conn_fed : (took : List ℕ) → OwnFed (OfConn id) c.receiver [] took moves after.receiver → AreFed None s moves (now_conn s id after)
-  conn_fed took own =
-      record { schedule = own.schedule; each = λ from. ((conn_by took own from).went, (conn_by took own from).is) }
+  pub conn_fed : (took let_go : List ℕ)
+      → OwnFed (OfConn id) c.receiver (is_closing c.sender) took let_go moves after.receiver (is_closing after.sender)
+      → AreFed None s moves (now_conn s id after)
+  conn_fed took let_go own =
+      record {
+        schedule = own.schedule;
+        each = λ from. ((conn_by took let_go own from).went, (conn_by took let_go own from).let_go, (conn_by took let_go own from).is);
+      }
 
-  pub conn_only : OwnFed (OfConn id) c.receiver [] [] moves after.receiver → AreOnlyFed None s moves (now_conn s id after)
-  conn_only own =
+  pub conn_only : (let_go : List ℕ) → OwnFed (OfConn id) c.receiver (is_closing c.sender) [] let_go moves after.receiver (is_closing after.sender)
+      → AreOnlyFed None s moves (now_conn s id after)
+  conn_only let_go own =
       record {
         schedule = own.schedule;
         each = λ from.
-            subst (λ went. IsFed from None went s moves (now_conn s id after)) ((conn_by [] own from).none refl) (conn_by [] own from).is;
+            let by = conn_by [] let_go own from in
+            (by.let_go, subst (λ went. IsFed from None went by.let_go s moves (now_conn s id after)) (by.none refl) by.is);
       }
 
 -- ---- a child's pipes are told, or read
 pub record PipeFed (pipe : Stream) (id : ℕ) (news : News) (went : List ℕ) (r after : Receiver) : Type 0 where
   pub order : r.reader.held ++ fed_if (takes_more r) (OfChild pipe id) news ≡ went ++ after.reader.held
+  pub failed : has_failed after ≡ has_failed r
   pub takes : is_told (OfChild pipe id) news ≡ false → takes_more r ≡ true → takes_more after ≡ true
 
 module _ (s : Streams) (id : ℕ) (p after : Child) (moves : List Move) (news : News) (e : slice_get s.children id ≡ Some p) (none : BringNone moves)
@@ -267,54 +366,70 @@ module _ (s : Streams) (id : ℕ) (p after : Child) (moves : List Move) (news : 
   hear_apart (OfChild pipe number) other =
       ap (pipe_hears pipe) (get-set_other s.children id number after (λ same. other pipe (ap (OfChild pipe) (sym same))))
 
-  child_apart : (from : StreamReader) → ((pipe : Stream) → from ≡ OfChild pipe id → ⊥) → IsFed from news [] s moves (now_child s id after)
+  shut_same : (it : StreamReader) → is_shut it s ≡ true → is_shut it (now_child s id after) ≡ true
+  shut_same (OfConn number) is = is
+  shut_same (OfChild pipe number) is = is
+
+  child_apart : (from : StreamReader) → ((pipe : Stream) → from ≡ OfChild pipe id → ⊥) → IsFed from news [] [] s moves (now_child s id after)
   child_apart from other =
       record {
-        order = ap (λ bytes. held_of from s ++ (bytes ++ received from (told_by moves))) (untold from other)
-            ∙ ap (λ bytes. held_of from s ++ bytes) (none.bring from) ∙ append-nil (held_of from s)
-            ∙ ap (λ (r : Receiver). r.reader.held) (sym (other_child s id after from other));
+        fed = one_came (receiver_of from s) (is_shut from s) (fed_if (may_hear from s) from news ++ received from (told_by moves)) [] [] []
+            (receiver_of from (now_child s id after)) (is_shut from (now_child s id after))
+            (ap (λ bytes. bytes ++ received from (told_by moves)) (untold from other) ∙ none.bring from)
+            (one_still (receiver_of from s) (is_shut from s) (receiver_of from (now_child s id after)) (is_shut from (now_child s id after))
+            (ap (λ (r : Receiver). r.reader.held) (other_child s id after from other)) (ap has_failed (other_child s id after from other))
+            (shut_same from));
         hears = λ told may. hear_apart from other ∙ may;
       }
 
   child_mine : (pipe : Stream) (went : List ℕ) → PipeFed pipe id news went ((its_pipe pipe).get p) ((its_pipe pipe).get after)
-      → IsFed (OfChild pipe id) news went s moves (now_child s id after)
+      → IsFed (OfChild pipe id) news went [] s moves (now_child s id after)
   child_mine pipe went it =
       let was : pipe_hears pipe (slice_get s.children id) ≡ takes_more ((its_pipe pipe).get p) = ap (pipe_hears pipe) e in
       let is : slice_get (slice_set s.children id after) id ≡ Some after = get-set_same s.children id p after e in
+      let now : receiver_of (OfChild pipe id) (now_child s id after) ≡ (its_pipe pipe).get after = ap (pipe_receiver pipe) is in
+      let old : receiver_of (OfChild pipe id) s ≡ (its_pipe pipe).get p = ap (pipe_receiver pipe) e in
       record {
-        order = ap (λ bytes. held_of (OfChild pipe id) s ++ (fed_if (may_hear (OfChild pipe id) s) (OfChild pipe id) news ++ bytes))
+        fed = one_taken (receiver_of (OfChild pipe id) s) false
+            (fed_if (may_hear (OfChild pipe id) s) (OfChild pipe id) news ++ received (OfChild pipe id) (told_by moves)) went
+            (receiver_of (OfChild pipe id) (now_child s id after)) false
+            (ap (λ bytes. held_of (OfChild pipe id) s ++ (fed_if (may_hear (OfChild pipe id) s) (OfChild pipe id) news ++ bytes))
             (none.bring (OfChild pipe id))
             ∙ ap (λ bytes. held_of (OfChild pipe id) s ++ bytes) (append-nil (fed_if (may_hear (OfChild pipe id) s) (OfChild pipe id) news))
             ∙ ap (λ b. held_of (OfChild pipe id) s ++ fed_if b (OfChild pipe id) news) was
-            ∙ ap (λ (r : Receiver). r.reader.held ++ fed_if (takes_more ((its_pipe pipe).get p)) (OfChild pipe id) news) (ap (pipe_receiver pipe) e)
+            ∙ ap (λ (r : Receiver). r.reader.held ++ fed_if (takes_more ((its_pipe pipe).get p)) (OfChild pipe id) news) old
             ∙ it.order
-            ∙ ap (λ (r : Receiver). went ++ r.reader.held) (sym (ap (pipe_receiver pipe) is));
+            ∙ ap (λ (r : Receiver). went ++ r.reader.held) (sym now))
+            (ap has_failed now ∙ it.failed ∙ sym (ap has_failed old)) refl;
         hears = λ told may. ap (pipe_hears pipe) is ∙ it.takes told (sym was ∙ may);
       }
 
   pub child_by : (wents : Stream → List ℕ) → PipesFed wents → (from : StreamReader) → FedBy (WentNone wents) from news s moves (now_child s id after)
   child_by wents own (OfConn number) =
-      record { went = []; is = child_apart (OfConn number) (λ pipe is. let bad : ⊥ = cc in bad); none = λ none_. refl }
+      record { went = []; let_go = []; is = child_apart (OfConn number) (λ pipe is. let bad : ⊥ = cc in bad); none = λ none_. refl }
   child_by wents own (OfChild pipe number) = by (cases_eq number id)
     where
       by : (number ≡ id) ⊎ (number ≡ id → ⊥) → FedBy (WentNone wents) (OfChild pipe number) news s moves (now_child s id after)
       by (inl same) =
           subst (λ n. FedBy (WentNone wents) (OfChild pipe n) news s moves (now_child s id after)) (sym same)
-          (record { went = wents pipe; is = child_mine pipe (wents pipe) (own pipe); none = λ none_. none_ pipe })
+          (record { went = wents pipe; let_go = []; is = child_mine pipe (wents pipe) (own pipe); none = λ none_. none_ pipe })
       by (inr differ) =
-          record { went = []; is = child_apart (OfChild pipe number) (λ other is. differ (ap number_of is)); none = λ none_. refl }
+          record { went = []; let_go = []; is = child_apart (OfChild pipe number) (λ other is. differ (ap number_of is)); none = λ none_. refl }
 
   pub child_fed : (wents : Stream → List ℕ) → PipesFed wents → AreFed news s moves (now_child s id after)
   child_fed wents own =
-      record { schedule = none.schedule; each = λ from. ((child_by wents own from).went, (child_by wents own from).is) }
+      record {
+        schedule = none.schedule;
+        each = λ from. ((child_by wents own from).went, (child_by wents own from).let_go, (child_by wents own from).is);
+      }
 
   pub child_only : PipesFed (λ pipe. []) → AreOnlyFed news s moves (now_child s id after)
   child_only own =
       record {
         schedule = none.schedule;
         each = λ from.
-            subst (λ went. IsFed from news went s moves (now_child s id after)) ((child_by (λ pipe. []) own from).none (λ pipe. refl))
-            (child_by (λ pipe. []) own from).is;
+            let by = child_by (λ pipe. []) own from in
+            (by.let_go, subst (λ went. IsFed from news went by.let_go s moves (now_child s id after)) (by.none (λ pipe. refl)) by.is);
       }
 
 -- ---- what a child tells its pipes
@@ -333,17 +448,19 @@ untold pipe id told r after none same =
     record {
       order = ap (λ bytes. r.reader.held ++ bytes_if (takes_more r) bytes) none ∙ ap (λ bytes. r.reader.held ++ bytes) (bytes_none (takes_more r))
           ∙ append-nil r.reader.held ∙ ap (λ (it : Receiver). it.reader.held) (sym same);
+      failed = ap has_failed same;
       takes = λ is may. ap takes_more same ∙ may;
     }
 
 -- one that is told bytes, where it takes more
 told_bytes : (pipe : Stream) (id : ℕ) (told : ChildItem (List ℕ)) (bytes : List ℕ) (b : Bool) (r after : Receiver) → takes_more r ≡ b
     → told_to (OfChild pipe id) (action.ChildItem id told) ≡ bytes → is_news_to (OfChild pipe id) (action.ChildItem id told) ≡ true
-    → after.reader.held ≡ r.reader.held ++ bytes_if b bytes → PipeFed pipe id (Some (id, told)) [] r after
-told_bytes pipe id told bytes b r after is brings news held =
+    → after.reader.held ≡ r.reader.held ++ bytes_if b bytes → has_failed after ≡ has_failed r → PipeFed pipe id (Some (id, told)) [] r after
+told_bytes pipe id told bytes b r after is brings news held failed =
     record {
       order = ap (λ more. r.reader.held ++ bytes_if (takes_more r) more) brings
           ∙ ap (λ it. r.reader.held ++ bytes_if it bytes) is ∙ sym held;
+      failed = failed;
       takes = λ none may. absurd (not_true (is_news_to (OfChild pipe id) (action.ChildItem id told)) news none);
     }
 
@@ -369,28 +486,30 @@ module _ (id : ℕ) (p : Child) where
   mine bytes = ap (λ b. bytes_if b bytes) (eq-eqb id id refl)
 
   fed_out : (bytes : List ℕ) (b : Bool) → takes_more p.out ≡ b → (out : Receiver) → out.reader.held ≡ p.out.reader.held ++ bytes_if b bytes
-      → PipesTold (Out bytes) (record p { out = out })
-  fed_out bytes b is out held stream.Out =
-      told_bytes stream.Out id (Out bytes) bytes b p.out out is (mine bytes) (eq-eqb id id refl) held
-  fed_out bytes b is out held stream.Errs = untold stream.Errs id (Out bytes) p.errs p.errs refl refl
+      → has_failed out ≡ has_failed p.out → PipesTold (Out bytes) (record p { out = out })
+  fed_out bytes b is out held failed stream.Out =
+      told_bytes stream.Out id (Out bytes) bytes b p.out out is (mine bytes) (eq-eqb id id refl) held failed
+  fed_out bytes b is out held failed stream.Errs = untold stream.Errs id (Out bytes) p.errs p.errs refl refl
 
-  ended_out : (out : Receiver) → out.reader.held ≡ p.out.reader.held → PipesTold OutEnd (record p { out = out })
-  ended_out out held stream.Out =
+  ended_out : (out : Receiver) → out.reader.held ≡ p.out.reader.held → has_failed out ≡ has_failed p.out
+      → PipesTold OutEnd (record p { out = out })
+  ended_out out held failed stream.Out =
       told_bytes stream.Out id OutEnd [] (takes_more p.out) p.out out refl refl (eq-eqb id id refl)
-      (held ∙ sym (append-nil p.out.reader.held) ∙ ap (λ bytes. p.out.reader.held ++ bytes) (sym (bytes_none (takes_more p.out))))
-  ended_out out held stream.Errs = untold stream.Errs id OutEnd p.errs p.errs refl refl
+      (held ∙ sym (append-nil p.out.reader.held) ∙ ap (λ bytes. p.out.reader.held ++ bytes) (sym (bytes_none (takes_more p.out)))) failed
+  ended_out out held failed stream.Errs = untold stream.Errs id OutEnd p.errs p.errs refl refl
 
   fed_errs : (bytes : List ℕ) (b : Bool) → takes_more p.errs ≡ b → (errs : Receiver) → errs.reader.held ≡ p.errs.reader.held ++ bytes_if b bytes
-      → PipesTold (Errs bytes) (record p { errs = errs })
-  fed_errs bytes b is errs held stream.Errs =
-      told_bytes stream.Errs id (Errs bytes) bytes b p.errs errs is (mine bytes) (eq-eqb id id refl) held
-  fed_errs bytes b is errs held stream.Out = untold stream.Out id (Errs bytes) p.out p.out refl refl
+      → has_failed errs ≡ has_failed p.errs → PipesTold (Errs bytes) (record p { errs = errs })
+  fed_errs bytes b is errs held failed stream.Errs =
+      told_bytes stream.Errs id (Errs bytes) bytes b p.errs errs is (mine bytes) (eq-eqb id id refl) held failed
+  fed_errs bytes b is errs held failed stream.Out = untold stream.Out id (Errs bytes) p.out p.out refl refl
 
-  ended_errs : (errs : Receiver) → errs.reader.held ≡ p.errs.reader.held → PipesTold ErrsEnd (record p { errs = errs })
-  ended_errs errs held stream.Errs =
+  ended_errs : (errs : Receiver) → errs.reader.held ≡ p.errs.reader.held → has_failed errs ≡ has_failed p.errs
+      → PipesTold ErrsEnd (record p { errs = errs })
+  ended_errs errs held failed stream.Errs =
       told_bytes stream.Errs id ErrsEnd [] (takes_more p.errs) p.errs errs refl refl (eq-eqb id id refl)
-      (held ∙ sym (append-nil p.errs.reader.held) ∙ ap (λ bytes. p.errs.reader.held ++ bytes) (sym (bytes_none (takes_more p.errs))))
-  ended_errs errs held stream.Out = untold stream.Out id ErrsEnd p.out p.out refl refl
+      (held ∙ sym (append-nil p.errs.reader.held) ∙ ap (λ bytes. p.errs.reader.held ++ bytes) (sym (bytes_none (takes_more p.errs)))) failed
+  ended_errs errs held failed stream.Out = untold stream.Out id ErrsEnd p.out p.out refl refl
 
   -- a pipe is woken, and stands so
   wakes_out : (Then : Child → Type 0) (reader : Reading) (waiter : Option ℕ)
@@ -409,25 +528,29 @@ module _ (id : ℕ) (p : Child) where
       → Apart (PipesTold (Out bytes)) (cond b (on (its_pipe stream.Out) (receive bytes) p) (Ends p))
   tell_out bytes true is =
       wakes_out (PipesTold (Out bytes)) (feed bytes p.out.reader) p.out.waiter
-      (λ out same. fed_out bytes true is out (ap (λ (reader : Reading). reader.held) same))
-  tell_out bytes false is = fed_out bytes false is p.out (sym (append-nil p.out.reader.held))
+      (λ out same.
+      fed_out bytes true is out (ap (λ (reader : Reading). reader.held) same) (ap (λ (reader : Reading). is_some reader.failed) same))
+  tell_out bytes false is = fed_out bytes false is p.out (sym (append-nil p.out.reader.held)) refl
 
   tell_out_end : (b : Bool) → Apart (PipesTold OutEnd) (cond b (on (its_pipe stream.Out) receive_end p) (Ends p))
   tell_out_end true =
-      wakes_out (PipesTold OutEnd) (feed_eof p.out.reader) p.out.waiter (λ out same. ended_out out (ap (λ (reader : Reading). reader.held) same))
-  tell_out_end false = ended_out p.out refl
+      wakes_out (PipesTold OutEnd) (feed_eof p.out.reader) p.out.waiter (λ out same.
+      ended_out out (ap (λ (reader : Reading). reader.held) same) (ap (λ (reader : Reading). is_some reader.failed) same))
+  tell_out_end false = ended_out p.out refl refl
 
   tell_errs : (bytes : List ℕ) (b : Bool) → takes_more p.errs ≡ b
       → Apart (PipesTold (Errs bytes)) (cond b (on (its_pipe stream.Errs) (receive bytes) p) (Ends p))
   tell_errs bytes true is =
       wakes_errs (PipesTold (Errs bytes)) (feed bytes p.errs.reader) p.errs.waiter
-      (λ errs same. fed_errs bytes true is errs (ap (λ (reader : Reading). reader.held) same))
-  tell_errs bytes false is = fed_errs bytes false is p.errs (sym (append-nil p.errs.reader.held))
+      (λ errs same.
+      fed_errs bytes true is errs (ap (λ (reader : Reading). reader.held) same) (ap (λ (reader : Reading). is_some reader.failed) same))
+  tell_errs bytes false is = fed_errs bytes false is p.errs (sym (append-nil p.errs.reader.held)) refl
 
   tell_errs_end : (b : Bool) → Apart (PipesTold ErrsEnd) (cond b (on (its_pipe stream.Errs) receive_end p) (Ends p))
   tell_errs_end true =
-      wakes_errs (PipesTold ErrsEnd) (feed_eof p.errs.reader) p.errs.waiter (λ errs same. ended_errs errs (ap (λ (reader : Reading). reader.held) same))
-  tell_errs_end false = ended_errs p.errs refl
+      wakes_errs (PipesTold ErrsEnd) (feed_eof p.errs.reader) p.errs.waiter (λ errs same.
+      ended_errs errs (ap (λ (reader : Reading). reader.held) same) (ap (λ (reader : Reading). is_some reader.failed) same))
+  tell_errs_end false = ended_errs p.errs refl refl
 
   pub tell_apart : (told : ChildItem (List ℕ)) → Apart (PipesTold told) (tell_child id told p)
   tell_apart Broken =

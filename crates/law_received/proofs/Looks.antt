@@ -1,6 +1,5 @@
 -- A look of a read takes a front of what is held, asks nothing and schedules no news; and a reader that takes more takes more then.
-use Rattle.std.proofs.Common.{◌≡◌, ℕ, Bool, true, false, cond, not, ◌&&◌, List, [], ◌∷◌, ◌++◌, Option, Some, None, refl, sym, ◌∙◌}
-use Rattle.std.proofs.lemmas.List.{append-nil}
+use Rattle.std.proofs.Common.{◌≡◌, ℕ, Bool, true, false, cond, not, ◌&&◌, List, [], ◌∷◌, Option, Some, None, refl}
 use Rattle.model_value.specs.Value.{Exc}
 use Rattle.model_stream.specs.declared.answers.StreamGot.TheVariants as got_as
 use Rattle.model_stream.specs.declared.read_op.Taken.TheVariants as taken
@@ -9,10 +8,9 @@ use Rattle.model_stream.specs.Reading.{ReadOp, Taken, take_read}
 use Rattle.model_stream.specs.Receivers.{AllGot, Receiver, StreamGot, all_taken, read, read_all, read_as, second_waiter, takes_more, wait_for_data}
 use Rattle.law_stream.specs.Ways.{Move, Did, Heard, Always}
 use Rattle.law_stream.proofs.Along.{always_map}
-use Rattle.law_stream.proofs.ReceiverOrder.{step_in_order}
+use Rattle.law_stream.proofs.ReceiverOrder.{Look, all_order, read_order}
 use Rattle.law_stream.specs.ReceiverOrder as order
-use Rattle.law_stream.specs.ReceiverOrder.{InOrder, went}
-use Rattle.law_stream.specs.SoundReceivers.{Reads, ReadsAll}
+use Rattle.law_stream.specs.ReceiverOrder.{went}
 use Rattle.law_received.specs.Calm.{Apart}
 use Rattle.law_received.proofs.Apart.{BringNone, apart_always, apart_then}
 
@@ -23,7 +21,7 @@ TakesOn r after = takes_more r ≡ true → takes_more after ≡ true
 -- what a look does, which takes this
 pub record Looks (took : List ℕ) (r : Receiver) (moves : List Move) (after : Receiver) : Type 0 where
   pub none : BringNone moves
-  pub order : r.reader.held ≡ took ++ after.reader.held
+  pub look : Look r (after, took)
   pub takes : TakesOn r after
 
 -- ---- it takes more
@@ -85,31 +83,24 @@ always_and P Q (Changes change rest) p q = always_and (λ moves. P (Did change �
 always_and P Q (Asks call rest) p q =
     λ answer fit. always_and (λ moves. P (Heard call answer ∷ moves)) (λ moves. Q (Heard call answer ∷ moves)) (rest answer) (p answer fit) (q answer fit)
 
--- the other way than into what an answer is left out of
-always_back : {A B : Type 0} (Holds : List Move → B → Type 0) (into : A → B) (doing : Doing A)
-    → Always Holds (and_then doing (λ result. Ends (into result))) → Always (λ moves result. Holds moves (into result)) doing
-always_back Holds into (Ends result) here = here
-always_back Holds into (Changes change rest) here = always_back (λ moves. Holds (Did change ∷ moves)) into rest here
-always_back Holds into (Asks call rest) here = λ answer fit. always_back (λ moves. Holds (Heard call answer ∷ moves)) into (rest answer) (here answer fit)
-
 pub read_looks : (next : ℕ) (op : ReadOp) (r : Receiver)
     → Always (λ moves (done : Receiver × StreamGot). Looks (went done.1 r.reader.held done.0.reader.held) r moves done.0) (read next op r)
 read_looks next op r =
     always_map
-    (λ moves (done : Receiver × StreamGot). InOrder [] r moves (order.looked r done) × (BringNone moves × TakesOn r done.0))
+    (λ moves (done : Receiver × StreamGot). Look r (order.looked r done) × (BringNone moves × TakesOn r done.0))
     (λ moves (done : Receiver × StreamGot). Looks (went done.1 r.reader.held done.0.reader.held) r moves done.0) (read next op r)
-    (λ moves done it. record { none = it.1.0; order = sym (append-nil r.reader.held) ∙ it.0; takes = it.1.1 })
-    (always_and {A = Receiver × StreamGot} (λ moves done. InOrder [] r moves (order.looked r done)) (λ moves done. BringNone moves × TakesOn r done.0)
-    (read next op r) (always_back (InOrder [] r) (order.looked r) (read next op r) (step_in_order (Reads next op) r))
+    (λ moves done it. record { none = it.1.0; look = it.0; takes = it.1.1 })
+    (always_and {A = Receiver × StreamGot} (λ moves done. Look r (order.looked r done)) (λ moves done. BringNone moves × TakesOn r done.0)
+    (read next op r) (read_order next op r)
     (apart_always (λ (done : Receiver × StreamGot). TakesOn r done.0) (read next op r) (read_takes next op r)))
 
 pub all_looks : (next : ℕ) (r : Receiver)
     → Always (λ moves (done : Receiver × AllGot). Looks done.1.taken r moves done.0) (read_all next r)
 all_looks next r =
     always_map
-    (λ moves (done : Receiver × AllGot). InOrder [] r moves (done.0, done.1.taken) × (BringNone moves × TakesOn r done.0))
+    (λ moves (done : Receiver × AllGot). Look r (done.0, done.1.taken) × (BringNone moves × TakesOn r done.0))
     (λ moves (done : Receiver × AllGot). Looks done.1.taken r moves done.0) (read_all next r)
-    (λ moves done it. record { none = it.1.0; order = sym (append-nil r.reader.held) ∙ it.0; takes = it.1.1 })
-    (always_and {A = Receiver × AllGot} (λ moves done. InOrder [] r moves (done.0, done.1.taken)) (λ moves done. BringNone moves × TakesOn r done.0)
-    (read_all next r) (always_back (InOrder [] r) (λ (done : Receiver × AllGot). (done.0, done.1.taken)) (read_all next r) (step_in_order (ReadsAll next) r))
+    (λ moves done it. record { none = it.1.0; look = it.0; takes = it.1.1 })
+    (always_and {A = Receiver × AllGot} (λ moves done. Look r (done.0, done.1.taken)) (λ moves done. BringNone moves × TakesOn r done.0)
+    (read_all next r) (all_order next r)
     (apart_always (λ (done : Receiver × AllGot). TakesOn r done.0) (read_all next r) (all_takes next r)))

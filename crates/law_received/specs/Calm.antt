@@ -6,6 +6,8 @@ use Rattle.model_wire.specs.Call.{Call, Answer}
 use Rattle.model_stream.specs.Children.{Child}
 use Rattle.model_stream.specs.Connections.{Connection}
 use Rattle.model_stream.specs.Doing.{Doing, Ends, Changes, Asks, MakeFuture, Settle, CallSoon}
+use Rattle.model_stream.specs.Senders.{is_closing}
+use Rattle.law_stream.specs.ReceiverOrder.{has_failed}
 use Rattle.law_stream.specs.Ways.{Move, Did, Heard}
 use Rattle.law_received.specs.Readers.{is_news}
 
@@ -29,9 +31,22 @@ ScheduleNone (Did (CallSoon it) ∷ moves) = (is_news it ≡ false) × ScheduleN
 ScheduleNone (Heard it came ∷ moves) = ScheduleNone moves
 
 -- ---- what a connection and a child hold
--- its reader holds what it held
-abbrev pub SameConn : Connection → Connection → Type 0
-SameConn c after = after.receiver.reader.held ≡ c.receiver.reader.held
+-- its reader holds what it held, and fails by nothing; and the connection closes still, where it did
+pub record SameConn (c after : Connection) : Type 0 where
+  pub held : after.receiver.reader.held ≡ c.receiver.reader.held
+  pub failed : has_failed after.receiver ≡ has_failed c.receiver
+  pub closes : is_closing c.sender ≡ true → is_closing after.sender ≡ true
+
+-- its reader failed and holds nothing, and the connection closes
+pub record FailedConn (after : Connection) : Type 0 where
+  pub held : after.receiver.reader.held ≡ []
+  pub failed : has_failed after.receiver ≡ true
+  pub closes : is_closing after.sender ≡ true
+
+-- by a loss: with an exception, or without one
+abbrev pub LostConn : (broken : Bool) → Connection → Connection → Type 0
+LostConn true c after = FailedConn after
+LostConn false c after = SameConn c after
 
 -- its pipes are what they were
 abbrev pub SameChild : Child → Child → Type 0

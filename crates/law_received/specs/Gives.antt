@@ -5,12 +5,14 @@ use Rattle.model_stream.specs.Requests.{StreamReader}
 use Rattle.model_machine.specs.Replies.{RequestReply, Answers, Raises, Suspends, Halts, waits}
 use Rattle.model_machine.specs.State.{ReadingAll, State, stands}
 use Rattle.law_reach.specs.Reaches.{IsUnmet}
-use Rattle.law_received.specs.Received.{read_of}
+use Rattle.law_received.specs.Received.{IsRead}
 
--- from a state to one after it, these bytes are read of one, behind what was read before, and nothing of another
+-- From a state to one after it, these bytes are read of one, behind what was read before, and nothing of another. Nothing is let
+-- go.
 pub record IsNext {S : Type 0} (from : StreamReader) (bytes : List ℕ) (s now : State S) : Type 0 where
-  pub read : read_of from now.streams now.events ≡ read_of from s.streams s.events ++ bytes
-  pub others : (other : StreamReader) → (other ≡ from → ⊥) → read_of other now.streams now.events ≡ read_of other s.streams s.events
+  pub read : (before let_go : List ℕ) → IsRead from before let_go s.streams s.events → IsRead from (before ++ bytes) let_go now.streams now.events
+  pub others : (other : StreamReader) → (other ≡ from → ⊥) → (before let_go : List ℕ) → IsRead other before let_go s.streams s.events
+      → IsRead other before let_go now.streams now.events
 
 -- ---- a read
 -- its bytes are given

@@ -15,7 +15,9 @@ use Rattle.model_stream.specs.Children.{Child, its_pipe}
 use Rattle.model_stream.specs.Connections.{Connection}
 use Rattle.model_stream.specs.Receivers.{Receiver, new_receiver, takes_more}
 use Rattle.model_stream.specs.Requests.{StreamReader, OfConn, OfChild}
+use Rattle.model_stream.specs.Senders.{is_closing}
 use Rattle.model_stream.specs.Streams.{Streams}
+use Rattle.law_stream.specs.ReceiverOrder.{has_failed}
 
 -- ---- the reader, as it stands
 abbrev pub conn_receiver : Option Connection → Receiver
@@ -32,6 +34,19 @@ receiver_of (OfChild pipe id) s = pipe_receiver pipe (slice_get s.children id)
 
 abbrev pub held_of : StreamReader → Streams → List ℕ
 held_of from s = (receiver_of from s).reader.held
+
+-- whether it failed
+abbrev pub is_failed : StreamReader → Streams → Bool
+is_failed from s = has_failed (receiver_of from s)
+
+-- whether it will receive no more: its connection closes. A pipe of a child never fails.
+abbrev pub conn_shut : Option Connection → Bool
+conn_shut None = false
+conn_shut (Some c) = is_closing c.sender
+
+abbrev pub is_shut : StreamReader → Streams → Bool
+is_shut (OfConn id) s = conn_shut (slice_get s.connections id)
+is_shut (OfChild pipe id) s = false
 
 -- ---- what it received
 abbrev pub bytes_if : Bool → List ℕ → List ℕ

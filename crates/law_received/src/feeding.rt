@@ -18,7 +18,7 @@ ghost use Rattle.law_received.specs.Readers.{held_of};
 ghost use Rattle.law_received.specs.Feeding.{AreOnlyFed, IsLook, news_in};
 
 /// Only reads take: whatever else is done, each reader holds then what it held and what it received
-/// meanwhile, by an answer or by what a child told.
+/// meanwhile, by an answer or by what a child told; but as it fails, that is let go.
 pub fn only_reads_take()
     ensures acts { (next : ℕ) (returned : Bool) (it : Action) (s : Streams)
         → Always (AreOnlyFed (news_in it) s) (plain.act next returned it s) }
@@ -57,8 +57,8 @@ pub fn only_reads_take()
 {}
 
 /// A look of a read takes a front of what its reader holds: the bytes that it gives, and with an
-/// exception those that it removes. Others hold what they held. A look of a read with a negative
-/// count takes what stays with the read.
+/// exception those that it removes. Others hold what they held. None fails by it, and of one that
+/// failed nothing is taken. A look of a read with a negative count takes what stays with the read.
 pub fn reads_take_fronts()
     ensures reads { (next : ℕ) (op : ReadOp) (from : StreamReader) (s : Streams)
         → Always {A = Streams × StreamGot}

@@ -7,14 +7,14 @@ ghost use Rattle.model_stream.specs.Children.{Child};
 ghost use Rattle.model_stream.specs.Connections as connection;
 ghost use Rattle.model_stream.specs.Connections.{Connection};
 ghost use Rattle.model_stream.specs.Senders.{Drain};
-ghost use Rattle.law_received.specs.Calm.{Apart, SameChild, SameConn};
+ghost use Rattle.law_received.specs.Calm.{Apart, LostConn, SameChild, SameConn};
 
 /// Whatever a connection does, but `readable` and reads: it asks to receive nothing, and its reader
-/// holds what it held. A loss and a failure take nothing away.
+/// holds what it held. By a loss with an exception its reader fails, and holds nothing then.
 pub fn connections_let_readers_be()
     ensures sends { (id : ℕ) (c : Connection) → Apart (SameConn c) (connection.writable id c) }
     ensures loses { (id : ℕ) (broken : Bool) (c : Connection)
-        → Apart (SameConn c) (connection.lose id broken c) }
+        → Apart (LostConn broken c) (connection.lose id broken c) }
     ensures stands { (id : ℕ) (c : Connection) → Apart (SameConn c) (connection.up id c) }
     ensures falls { (id : ℕ) (c : Connection) → Apart (SameConn c) (connection.down id c) }
     ensures closes { (id : ℕ) (c : Connection) → Apart (SameConn c) (connection.close id c) }

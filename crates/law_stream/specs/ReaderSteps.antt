@@ -16,6 +16,12 @@ pub record TakesFront (t : Take) (held : List ℕ) : Type 0 where
   pub rest : t.rest ≡ drop count held
   pub given : Gives t.answer (take count held)
 
+-- it raises, and leaves the reader as it is
+pub record RaisesAlone (t : Take) (r : Reading) : Type 0 where
+  pub fault : Exc
+  pub answer : t.answer ≡ Raises fault
+  pub after : after_take t r ≡ r
+
 pub data ReaderStep : Type 0 where
   Feeds : (piece : List ℕ) → ReaderStep
   FeedsEnd : ReaderStep
@@ -38,9 +44,15 @@ fed_in _ = []
 abbrev pub taken_away : (held rest : List ℕ) → List ℕ
 taken_away held rest = take (length held - length rest) held
 
+-- what an operation took
 abbrev pub gone_in : ReaderStep → Reading → List ℕ
 gone_in (Takes op) r = taken_away r.held (take_read op r).rest
 gone_in _ r = []
+
+-- what was held as it failed: no operation gives it
+abbrev pub let_go_in : ReaderStep → Reading → List ℕ
+let_go_in (Fails fault) r = r.held
+let_go_in _ r = []
 
 -- ---- in all steps
 abbrev pub all_after : List ReaderStep → Reading → Reading
@@ -54,6 +66,10 @@ fed (step ∷ steps) = fed_in step ++ fed steps
 abbrev pub gone : List ReaderStep → Reading → List ℕ
 gone [] r = []
 gone (step ∷ steps) r = gone_in step r ++ gone steps (after step r)
+
+abbrev pub let_go : List ReaderStep → Reading → List ℕ
+let_go [] r = []
+let_go (step ∷ steps) r = let_go_in step r ++ let_go steps (after step r)
 
 -- ---- pieces one after another
 abbrev pub joined : List (List ℕ) → List ℕ

@@ -1,5 +1,5 @@
 -- What a receiver gave of what it received, step by step.
-use Rattle.std.specs.Prelude.{◌≡◌, ℕ, List, [], ◌++◌}
+use Rattle.std.specs.Prelude.{◌≡◌, ℕ, Bool, true, false, List, [], ◌++◌, Some, None, is_some}
 use Rattle.model_stream.specs.declared.answers.StreamGot.TheVariants as got_as
 use Rattle.model_stream.specs.Doing.{Doing, Ends, and_then}
 use Rattle.model_stream.specs.Receivers.{Receiver, StreamGot, read, read_all}
@@ -15,6 +15,16 @@ received_in (IsLost fault) = []
 received_in (Reads next op) = []
 received_in (ReadsAll next) = []
 received_in (GivesUp on) = []
+
+-- what was held as it failed
+abbrev pub let_go_in : ReceiverStep → Receiver → List ℕ
+let_go_in (IsLost (Some fault)) r = r.reader.held
+let_go_in (IsLost None) r = []
+let_go_in (Receives piece) r = []
+let_go_in ReceivesEnd r = []
+let_go_in (Reads next op) r = []
+let_go_in (ReadsAll next) r = []
+let_go_in (GivesUp on) r = []
 
 -- What went with a read's answer: its bytes, and with an exception what that removed.
 abbrev pub went : StreamGot → (held rest : List ℕ) → List ℕ
@@ -37,13 +47,21 @@ gives_in ReceivesEnd r = with_none (done ReceivesEnd r)
 gives_in (IsLost fault) r = with_none (done (IsLost fault) r)
 gives_in (GivesUp on) r = with_none (done (GivesUp on) r)
 
--- what was held, and received then, is what went and what is held after
-abbrev pub InOrder : (received : List ℕ) → Receiver → List Move → Receiver × List ℕ → Type 0
-InOrder received r moves done = r.reader.held ++ received ≡ done.1 ++ done.0.reader.held
+abbrev pub has_failed : Receiver → Bool
+has_failed r = is_some r.reader.failed
 
--- In steps, in which this was received, this went.
-pub data ReceiverGives : (from : Receiver) (received gave : List ℕ) (to : Receiver) → Type 0 where
-  Still : (r : Receiver) → ReceiverGives r [] [] r
-  Gives : (step : ReceiverStep) (r mid after : Receiver) (moves : List Move) (piece received gave : List ℕ)
-      → Leads {A = Receiver × List ℕ} (gives_in step r) moves (mid, piece) → ReceiverGives mid received gave after
-      → ReceiverGives r (received_in step ++ received) (piece ++ gave) after
+-- what was held, and received then, is what went, what was let go, and what is held after
+pub record InOrder (received let_go : List ℕ) (r : Receiver) (moves : List Move) (done : Receiver × List ℕ) : Type 0 where
+  pub order : r.reader.held ++ received ≡ done.1 ++ (let_go ++ done.0.reader.held)
+  -- one that failed gives nothing, and stays so
+  pub none : has_failed r ≡ true → done.1 ≡ []
+  pub stays : has_failed r ≡ true → has_failed done.0 ≡ true
+  -- one that didn't lets nothing go
+  pub kept : has_failed done.0 ≡ false → let_go ≡ []
+
+-- In steps, in which this was received, this went and this was let go.
+pub data ReceiverGives : (from : Receiver) (received gave let_go : List ℕ) (to : Receiver) → Type 0 where
+  Still : (r : Receiver) → ReceiverGives r [] [] [] r
+  Gives : (step : ReceiverStep) (r mid after : Receiver) (moves : List Move) (piece received gave let_go : List ℕ)
+      → Leads {A = Receiver × List ℕ} (gives_in step r) moves (mid, piece) → ReceiverGives mid received gave let_go after
+      → ReceiverGives r (received_in step ++ received) (piece ++ gave) (let_go_in step r ++ let_go) after

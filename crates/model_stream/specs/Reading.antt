@@ -42,8 +42,9 @@ feed piece r =
 abbrev pub feed_eof : Reading → Reading
 feed_eof r = record r { eof = true }
 
+-- no read gives what is held then, so it is let go
 abbrev pub fail : Exc → Reading → Reading
-fail exception r = record r { failed = Some exception }
+fail exception r = record r { failed = Some exception; held = [] }
 
 -- a wait for data resumes reading
 abbrev pub resume : Reading → Reading

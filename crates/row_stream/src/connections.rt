@@ -109,7 +109,7 @@ pub fn fails()
         ∷ Changed (Settle 8 (Failed (exception_of ConnectionResetError (codes "Connection lost"))))
         ∷ Asked (call.Close 0) ∷ [])
         (dead true true
-        (reader.failed (codes "a") (exception_of ConnectionResetError (codes "Connection lost")))) }
+        (reader.failed [] (exception_of ConnectionResetError (codes "Connection lost")))) }
     ensures reads_raise { play
         (asked_on its_receiver (read 9 Line)
         (dead true true

@@ -1,11 +1,11 @@
 //! Readers.
-ghost use Rattle.std.specs.Prelude.{◌≡◌, ◌++◌, [], true, pos, negsuc, codes};
+ghost use Rattle.std.specs.Prelude.{◌≡◌, ◌++◌, [], Some, true, pos, negsuc, codes};
 ghost use Rattle.std.specs.Fmt.{decimal};
 ghost use Rattle.model_value.specs.declared.kind.Kind.TheVariants.{ValueError, LimitOverrunError, IncompleteReadError, ConnectionResetError};
 ghost use Rattle.model_value.specs.Value.{exc, exception_of, no_excs};
 ghost use Rattle.model_stream.specs.declared.read_op.ReadOp.TheVariants.{UpTo, Exactly, Until, Line};
 ghost use Rattle.model_stream.specs.declared.read_op.Taken.TheVariants.{Bytes, Raises};
-ghost use Rattle.model_stream.specs.Reading.{feed, take_read, after_take, raises, needs, resume};
+ghost use Rattle.model_stream.specs.Reading.{fail, feed, take_read, after_take, raises, needs, resume};
 ghost use Rattle.row_stream.specs.Readers.{reader, ended, paused, failed};
 
 /// Lines about a limit of 4.
@@ -73,6 +73,26 @@ pub fn up_to()
     ensures failed { take_read (UpTo 0)
         (failed (codes "ab") (exception_of ConnectionResetError (codes "Connection lost")))
         ≡ raises (exception_of ConnectionResetError (codes "Connection lost")) (codes "ab") }
+{}
+
+/// A reader that fails lets go of what it holds, paused or not, whether the end came or not.
+pub fn failing()
+    ensures holds { fail (exception_of ConnectionResetError (codes "Connection lost"))
+        (reader (codes "ab"))
+        ≡ failed [] (exception_of ConnectionResetError (codes "Connection lost")) }
+    ensures pauses { fail (exception_of ConnectionResetError (codes "Connection lost"))
+        (paused (codes "123456789"))
+        ≡ record (paused []) {
+          failed = Some (exception_of ConnectionResetError (codes "Connection lost"));
+        } }
+    ensures ended { fail (exception_of ConnectionResetError (codes "Connection lost"))
+        (ended (codes "ab"))
+        ≡ record (ended []) {
+          failed = Some (exception_of ConnectionResetError (codes "Connection lost"));
+        } }
+    ensures again { fail (exception_of ConnectionResetError (codes "Connection lost"))
+        (failed (codes "ab") (exception_of ConnectionResetError []))
+        ≡ failed [] (exception_of ConnectionResetError (codes "Connection lost")) }
 {}
 
 /// A separator of two bytes, with a limit of 4.

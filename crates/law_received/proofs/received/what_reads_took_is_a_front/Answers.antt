@@ -1,6 +1,6 @@
 use Rattle.law_walk.proofs.Turning.{run_ordered, turn_ordered}
 use Rattle.law_received.proofs.Going.{begins, order_tells, walks}
-use Rattle.law_received.proofs.Replies.{held_rest, read_front}
+use Rattle.law_received.proofs.Replies.{held_behind, held_rest, read_front, read_one}
 use Rattle.law_received.proofs.received.what_reads_took_is_a_front.Goals as goal
 
 pub returns : goal.returns
@@ -11,5 +11,7 @@ returns c laws = record {
   turn = λ limit added s between. turn_ordered (walks order_tells) limit added s between;
   begins = begins;
   front = read_front;
+  behind = held_behind;
+  one = read_one;
   rest = held_rest;
 }
