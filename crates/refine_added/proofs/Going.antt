@@ -7,7 +7,7 @@ use Rattle.model_value.specs.declared.action.Action.TheVariants as action
 use Rattle.model_loop.specs.Ledger.{ByExtra}
 use Rattle.model_loop.specs.Loop.{Loop}
 use Rattle.model_loop.specs.Tasks.{uncancel}
-use Rattle.model_loop.specs.Parts.{Future, Many, Parts, Plain, Profile, profile_named}
+use Rattle.model_loop.specs.Parts.{Future, Many, Parts, Plain, profile_named}
 use Rattle.model_machine.specs.Extra.{ExtraStep, MakesPlain, MakesMany, Settles, Releases, Registers, CallsSoon, CallsLater, Revokes, Cancels, Uncancels}
 use Rattle.model_machine.specs.Extra.{made_by, made_by_all}
 use Rattle.refine_parts.proofs.Appending.{extends_on, extends_same, extends_still, kept_soon}
