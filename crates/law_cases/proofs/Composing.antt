@@ -11,7 +11,7 @@ use Rattle.model_stream.specs.Receivers.{Receiver}
 use Rattle.model_stream.specs.Senders.{Sender}
 use Rattle.model_stream.specs.Streams.{Streams}
 use Rattle.model_stream.specs.Kept.{AllAre, OneIs, SenderKeeps, ReceiverKeeps, ConnectionKeeps, ChildKeeps, StreamsKeep}
-use Rattle.law_cases.specs.Trees.{IsKnown, IsMade, IsOwn, Keeping, is_select, names_nobody}
+use Rattle.law_cases.specs.Trees.{IsKnown, IsMade, IsOwn, Keeping, is_aside, names_nobody}
 
 -- ---- where more is so
 module _ (P Q : ℕ → Type 0) (more : (future : ℕ) → P future → Q future) where
@@ -127,6 +127,6 @@ module _ (own : ℕ → Bool) where
   keeping_settles Left next (future ∷ futures) outcome rest all none h =
       ((all.0, none), keeping_settles Left next futures outcome rest all.1 none h)
 
-  pub keeping_asks : {A : Type 0} (Left : ℕ → A → Type 0) (next : ℕ) (asked : Call) (rest : Doing A) → is_select asked ≡ false
+  pub keeping_asks : {A : Type 0} (Left : ℕ → A → Type 0) (next : ℕ) (asked : Call) (rest : Doing A) → is_aside asked ≡ false
       → Keeping Left own next rest → Keeping Left own next (asks asked rest)
   keeping_asks Left next asked rest other h = (other, λ answer. h)

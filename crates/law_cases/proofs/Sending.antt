@@ -19,14 +19,14 @@ use Rattle.model_stream.specs.Senders.{close_sender, lose_sender, waiting_for_lo
 use Rattle.model_stream.specs.Senders.{drain_sender, limits_sender, lost_text}
 use Rattle.model_stream.specs.Sending.{took, put, put_answer, limits, limits_answer}
 use Rattle.model_stream.specs.Kept.{AllAre}
-use Rattle.law_cases.specs.Trees.{DrainWaits, IsKnown, IsMade, IsOwn, Keeping, is_of_streams, is_select, names_nobody}
+use Rattle.law_cases.specs.Trees.{DrainWaits, IsKnown, IsMade, IsOwn, Keeping, is_of_streams, is_aside, names_nobody}
 use Rattle.law_cases.proofs.Composing.{all_then, keeping_if, keeping_settles, keeping_then, made_first}
 use Rattle.law_cases.proofs.Fits.{SenderFits, grown, made_next, sender_still, times_push}
 
 -- what an outlet's calls and its callback are
 pub record IsOutlet (o : Outlet) : Type 0 where
-  pub sends : (bytes : List ℕ) → is_select (o.sends bytes) ≡ false
-  pub closes : is_select o.closes ≡ false
+  pub sends : (bytes : List ℕ) → is_aside (o.sends bytes) ≡ false
+  pub closes : is_aside o.closes ≡ false
   pub loses : (broken : Bool) → is_of_streams (o.loses broken) ≡ true
 
 pub outlet_is : (id : ℕ) → IsOutlet (outlet id)

@@ -1,6 +1,6 @@
--- What a tree of streams does to the loop: the handles that it appends are of streams, it asks no select, the futures that it
--- settles are its own, with no value of a script's, and those that are kept then were its own or made in it, each as often as
--- before, or once.
+-- What a tree of streams does to the loop: the handles that it appends are of streams, it asks nothing that a turn or what is
+-- added asks, the futures that it settles are its own, with no value of a script's, and those that are kept then were its own or
+-- made in it, each as often as before, or once.
 use Rattle.std.specs.Prelude.{◌≡◌, ◌⊎◌, ℕ, ◌+◌, ◌≤◌, ◌<◌, Bool, true, false, ◌&&◌, Option, Some, None, length, nat_le, nat_lt, if◌then◌else◌}
 use Rattle.model_value.specs.declared.action.Action.TheVariants as action
 use Rattle.model_value.specs.declared.outcome.Outcome.TheVariants.{Value as Returned, Failed}
@@ -38,6 +38,12 @@ abbrev pub is_select : Call → Bool
 is_select (call.Select wait watch) = true
 is_select _ = false
 
+-- a call of a turn, or of what is added: no tree asks it
+abbrev pub is_aside : Call → Bool
+is_aside (call.Select wait watched) = true
+is_aside (call.Extra code bytes) = true
+is_aside _ = false
+
 -- an outcome that is no value of a script's
 abbrev pub names_nobody : Outcome → Bool
 names_nobody (Returned Nothing) = true
@@ -64,7 +70,7 @@ Keeping Left own next (Changes MakeFuture rest) = Keeping Left own (next + 1) re
 Keeping Left own next (Changes (CallSoon it) rest) = (is_of_streams it ≡ true) × Keeping Left own next rest
 Keeping Left own next (Changes (Settle future outcome) rest) =
     (IsOwn own future × (names_nobody outcome ≡ true)) × Keeping Left own next rest
-Keeping Left own next (Asks asked rest) = (is_select asked ≡ false) × ((answer : Answer) → Keeping Left own next (rest answer))
+Keeping Left own next (Asks asked rest) = (is_aside asked ≡ false) × ((answer : Answer) → Keeping Left own next (rest answer))
 
 -- ---- what a tree ends with: streams
 -- once, if it was made in it

@@ -6,9 +6,9 @@ ghost use Rattle.model_stream.specs.Streams.{Streams, act};
 ghost use Rattle.model_stream.specs.Kept.{StreamsKeep};
 ghost use Rattle.law_cases.specs.Trees.{IsOwn, Keeping, KeepsStreams};
 
-/// A callback of a listener, a connection or a child appends handles of those alone, asks no
-/// select, and settles only futures that were kept. What is kept then was kept before, or was made
-/// in it.
+/// A callback of a listener, a connection or a child appends handles of those alone, asks nothing
+/// that a turn or what is added asks, and settles only futures that were kept. What is kept then was
+/// kept before, or was made in it.
 pub fn callbacks_settle_what_was_kept()
     ensures { (own : ℕ → Bool) (next : ℕ) (returned : Bool) (it : Action) (s : Streams)
         → StreamsKeep (IsOwn own) s

@@ -99,7 +99,7 @@ module _ {S : Type 0} (added : Extra S) (task : ℕ) where
   as_comes (extra.Waits id key) wake s wakes asks = until_comes (ended s id) wake id key s wakes
   as_comes (extra.Asks code bytes key) wake s wakes asks =
       ask_comes added (Some task) (call.Extra code bytes) (λ said. wake key (input_by said)) s (λ closed nothing. asks refl nothing) refl
-      (λ said t same. wakes key (input_by said) t)
+      (λ is nothing. asks refl nothing) (λ said t same. wakes key (input_by said) t)
 
   serves_comes : (said : ExtraSaid S) (wake : Wake S) (s : State S) → Row s (called said.call s) → WakeComes wake → AsksBy said.answer
       → Comes s (serves said wake task s)

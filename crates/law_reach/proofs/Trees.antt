@@ -3,6 +3,7 @@ use Rattle.std.proofs.Common.{◌≡◌, inr, ℕ, ◌+◌, Bool, true, false, L
 use Rattle.std.proofs.lemmas.Bool.{false≢true}
 use Rattle.model_value.specs.Action.{Action}
 use Rattle.model_value.specs.declared.action.Action.TheVariants as action
+use Rattle.model_wire.specs.declared.call.Call.TheVariants as call
 use Rattle.model_wire.specs.declared.event.Event.TheVariants as event
 use Rattle.model_wire.specs.Call.{Answer, Call}
 use Rattle.model_wire.specs.Fits.{fits}
@@ -19,13 +20,18 @@ use Rattle.model_machine.specs.Went.{Went, Stops, answered_so, ask_so, fitted_so
 use Rattle.law_changes.specs.Changes.{OfParts}
 use Rattle.law_changes.specs.Reaches.{stays}
 use Rattle.law_changes.proofs.Folds.{on, one}
-use Rattle.law_cases.specs.Trees.{Keeping, is_of_streams, is_select}
-use Rattle.law_reach.specs.Changes.{Hears, Calls, IsHeard, IsOpen, IsUnheard, MayAsk, OfLoop, made}
+use Rattle.law_cases.specs.Trees.{Keeping, is_aside, is_of_streams, is_select}
+use Rattle.law_reach.specs.Changes.{Hears, Calls, IsAskedAside, IsHeard, IsOpen, IsUnheard, MayAsk, OfLoop, made}
 use Rattle.law_reach.specs.Asked.{IsAnswered}
 use Rattle.law_reach.specs.Reaches.{ComesTo, GoesTo, InAnswer, InCallback, IsUnmet}
 use Rattle.law_reach.specs.Streams.{of_doing}
 use Rattle.law_reach.proofs.Rows.{asks_open, halts_before, heard_answered, in_answer, in_callback, in_turn, reply_asks_then, stops_before, unheard_answered}
 use Rattle.law_reach.proofs.Rows.{went_asks_then}
+
+-- what isn't asked aside is no select
+no_select : (it : Call) → is_aside it ≡ false → is_select it ≡ false
+no_select (call.Select wait watched) is = absurd (false≢true (sym is))
+no_select _ is = refl
 
 -- ---- whatever the rest comes to
 abbrev IsOwnChange : doing.Change → Type 0
@@ -39,20 +45,20 @@ module _ {S R : Type 0} (added : Extra S) (halts : End → State S → R) (Comes
     → Comes (made (Hears call answer left) s) it → Comes s it)
     (misses : (call : Call) (how : End) (s : State S) → IsUnheard added call s → IsUnmet how → Comes s (halts how (made (Calls call) s)))
     (misfits : (how : End) (s : State S) → MayAsk added s → IsUnmet how → Comes s (halts how s)) where
-  asked_comes : (call : Call) (next : Answer → State S → R) (s : State S) → MayAsk added s → is_select call ≡ false
+  asked_comes : (call : Call) (next : Answer → State S → R) (s : State S) → MayAsk added s → is_select call ≡ false → IsAskedAside added call
       → ((answer : Answer) (t : State S) → t.streams ≡ s.streams → Comes t (next answer t)) → Comes s (ask_so halts call next s)
-  asked_comes call next s may other each = by s.answers refl
+  asked_comes call next s may other aside each = by s.answers refl
     where
       fit : (b : Bool) (answer : Answer) (left : List Entry) → s.answers ≡ Answered answer ∷ left
           → Comes s (fitted_so halts b call answer next (made (Hears call answer left) s))
       fit true answer left e =
-          hears call answer left s _ (record { may_ask = may; other = other; answered = e }) (each answer (made (Hears call answer left) s) refl)
+          hears call answer left s _ (record { may_ask = may; other = other; aside = aside; answered = e }) (each answer (made (Hears call answer left) s) refl)
       fit false answer left e =
-          hears call answer left s _ (record { may_ask = may; other = other; answered = e }) (misfits _ (made (Hears call answer left) s) may tt)
+          hears call answer left s _ (record { may_ask = may; other = other; aside = aside; answered = e }) (misfits _ (made (Hears call answer left) s) may tt)
 
       by : (entries : List Entry) → s.answers ≡ entries → Comes s (answered_so halts entries call next (noted (event.Called call) s))
-      by [] e = misses call _ s (record { may_ask = may; other = other }) tt
-      by (Refused line cause ∷ entries) e = misses call _ s (record { may_ask = may; other = other }) tt
+      by [] e = misses call _ s (record { may_ask = may; other = other; aside = aside }) tt
+      by (Refused line cause ∷ entries) e = misses call _ s (record { may_ask = may; other = other; aside = aside }) tt
       by (Answered answer ∷ entries) e = fit (fits call answer) answer entries e
 
   -- the streams stay as they were until the tree ends
@@ -67,7 +73,8 @@ module _ {S R : Type 0} (added : Extra S) (halts : End → State S → R) (Comes
       changes (doing.Settle future outcome) s _ tt
       (done_comes Left own number rest next (unbooked_in (changed (doing.Settle future outcome)) s) keeps.1 opened each)
   done_comes Left own number (Asks call rest) next s keeps opened each =
-      asked_comes call (λ answer. does halts (rest answer) next) s (asks_open added s opened) keeps.0
+      asked_comes call (λ answer. does halts (rest answer) next) s (asks_open added s opened) (no_select call keeps.0)
+      (λ is nothing. false≢true (sym keeps.0 ∙ is))
       (λ answer t same. done_comes Left own number (rest answer) next t (keeps.1 answer) (λ closed. opened (sym same ∙ closed)) each)
 
 -- ---- in a request, and in a callback
@@ -113,7 +120,8 @@ module _ {S : Type 0} (added : Extra S) (r : Option ℕ) where
   misfit_comes how s may unmet = record { reaches = stays; ends = inr (may, unmet); asks = omega arith }
 
   pub ask_comes : (call : Call) (next : Answer → State S → RequestReply S) (s : State S) → MayAsk added s → is_select call ≡ false
-      → ((answer : Answer) (t : State S) → t.streams ≡ s.streams → ComesTo added r t (next answer t)) → ComesTo added r s (ask_so Halts call next s)
+      → IsAskedAside added call → ((answer : Answer) (t : State S) → t.streams ≡ s.streams → ComesTo added r t (next answer t))
+      → ComesTo added r s (ask_so Halts call next s)
   ask_comes =
       asked_comes added Halts (ComesTo added r) (λ change s it is comes. comes_after (change_row added r change s is) refl comes) heard_comes
       missed_comes misfit_comes

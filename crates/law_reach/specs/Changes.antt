@@ -12,7 +12,7 @@ use Rattle.model_machine.specs.Extra.{AsksNothing, Extra, ExtraCall}
 use Rattle.model_machine.specs.Sound.{IsClosed}
 use Rattle.model_machine.specs.State.{ResumePoint, State, in_loop, noted, resumed, stands, with_coroutine, with_streams}
 use Rattle.law_changes.specs.Changes.{LoopChange, MayInLoop, made_of_loop}
-use Rattle.law_cases.specs.Trees.{is_select}
+use Rattle.law_cases.specs.Trees.{is_aside, is_select}
 
 pub data StateChange (S : Type 0) : Type 0 where
   OfLoop : (change : LoopChange) → StateChange S
@@ -55,15 +55,21 @@ IsOpen s = IsClosed s → ⊥
 abbrev pub MayAsk : {S : Type 0} → Extra S → State S → Type 0
 MayAsk added s = IsClosed s → AsksNothing added → ⊥
 
+-- A call that no connection and no child makes is one of what is added.
+abbrev pub IsAskedAside : {S : Type 0} → Extra S → Call → Type 0
+IsAskedAside added call = is_aside call ≡ true → AsksNothing added → ⊥
+
 -- A call in the middle of a step, which is no select, and the answer that was next.
 pub record IsHeard {S : Type 0} (added : Extra S) (call : Call) (answer : Answer) (left : List Entry) (s : State S) : Type 0 where
   pub may_ask : MayAsk added s
   pub other : is_select call ≡ false
+  pub aside : IsAskedAside added call
   pub answered : s.answers ≡ Answered answer ∷ left
 
 pub record IsUnheard {S : Type 0} (added : Extra S) (call : Call) (s : State S) : Type 0 where
   pub may_ask : MayAsk added s
   pub other : is_select call ≡ false
+  pub aside : IsAskedAside added call
 
 -- ---- calls of what is added
 pub data ExtraCause : Type 0 where

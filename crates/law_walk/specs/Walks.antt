@@ -28,6 +28,7 @@ use Rattle.model_machine.specs.Replies.{RequestReply, Answers, Raises, Suspends,
 use Rattle.model_machine.specs.State.{State}
 use Rattle.model_machine.specs.Turn.{turn, woken_by}
 use Rattle.model_machine.specs.Went.{Went, Goes, Stops}
+pub use Rattle.law_cases.specs.Trees.{is_aside}
 use Rattle.law_changes.specs.Changes.{PartsChange, CallsSoon, CallsLater, Registers, LeavesPending, LoopChange, OfParts, made_of_parts}
 use Rattle.law_reach.specs.Reaches.{IsUnmet}
 use Rattle.law_stream.specs.Ways.{Move, Did, Heard, Always, told_by}
@@ -100,11 +101,6 @@ pub record GoesOn (After : Parts → Parts → Type 0) : Type 0 where
   pub change : (change : PartsChange) (p : Parts) → MayOfParts change p → After p (made_of_parts change p)
 
 -- ---- what happens beside: what a task says, and a call of a turn or of what is added, with its answer
-abbrev pub is_aside : Call → Bool
-is_aside (call.Select wait watched) = true
-is_aside (call.Extra code bytes) = true
-is_aside _ = false
-
 pub data IsAside : List Event → Type 0 where
   says : (task : ℕ) (text : List ℕ) → IsAside (event.Said task text ∷ [])
   hears : (it : Call) (came : Answer) → is_aside it ≡ true → IsAside (event.Called it ∷ event.Got came ∷ [])
