@@ -1,0 +1,5 @@
+mod Events
+mod Rows
+pub mod Serving
+pub mod Turning
+mod History
