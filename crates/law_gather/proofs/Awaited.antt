@@ -47,11 +47,11 @@ module _ {S : Type 0} (added : Extra S) (running : Option ℕ) (s : State S) (ma
   AreThere None = Unit {0}
   AreThere (Some ids) = Each IsThere ids
 
-  abbrev IfThere : Option ℕ → Type 0
+  abbrev pub IfThere : Option ℕ → Type 0
   IfThere None = Unit {0}
   IfThere (Some id) = IsThere id
 
-  one_there : (x : Value) → names_made (next_task p) x ≡ true → IfThere (as_awaited s x)
+  pub one_there : (x : Value) → names_made (next_task p) x ≡ true → IfThere (as_awaited s x)
   one_there (Fut id) h = at (slice_get s.futures id) refl
     where
       at : (o : Option ℕ) → slice_get s.futures id ≡ o → IfThere o

@@ -5,8 +5,8 @@ use Rattle.std.proofs.lemmas.Bool.{and_from, and_parts, eq-eqb, eqb-true, le-ltb
 use Rattle.model_reach.specs.Part.{key_at, place_of, was_drawn}
 use Rattle.model_reach.specs.Reach.{OfGather, OfSync, OfExec, OfDgram}
 use Rattle.model_gather.specs.Gathered.{gather_part}
+use Rattle.model_gather.specs.Serving.{gather_means}
 use Rattle.law_parted.specs.Keys.{HasKeysOf}
-use Rattle.law_gather.specs.Gathers.{gathers_means}
 
 pub place_at : (part place : ℕ) → place_of part (key_at part place) ≡ place
 place_at part place = omega arith
@@ -28,7 +28,7 @@ drawn_still part drawn more key le h =
     and_from _ _ (lt-ltb (place_of part key) more (omega (arith, w, le))) b.1
 
 -- each is of the part's number
-pub of_gather : HasKeysOf OfGather gathers_means
+pub of_gather : HasKeysOf OfGather gather_means
 of_gather kept key h =
     let b = and_parts (nat_lt (place_of gather_part key) (length kept.drawn)) (key_at gather_part (place_of gather_part key) == key) h in
     let e : key_at gather_part (place_of gather_part key) ≡ key = eqb-true (key_at gather_part (place_of gather_part key)) key b.1 in

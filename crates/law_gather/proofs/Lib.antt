@@ -3,4 +3,8 @@ pub mod Keys
 pub mod Made
 pub mod Awaited
 pub mod Falling
+pub mod Fresh
+pub mod Changing
+pub mod Asking
+pub mod Acting
 pub mod Allowed

@@ -1,7 +1,8 @@
 -- Lists of what several things keep.
-use Rattle.std.proofs.Common.{◌≡◌, ℕ, zero, suc, Bool, true, false, cond, List, [], ◌∷◌, ◌++◌, Some, slice_get, slice_set, refl, ap, subst, ◌∙◌}
+use Rattle.std.proofs.Common.{◌≡◌, ℕ, zero, suc, Bool, true, false, cond, List, [], ◌∷◌, ◌++◌, Some, map, slice_get, slice_set, refl, ap, subst, ◌∙◌}
 use Rattle.std.specs.Prelude.{filter}
-use Rattle.std.specs.List.{AllByRecursion as Each, flat_map}
+use Rattle.std.specs.List.{AllByRecursion as Each, flat_map, list_all}
+use Rattle.std.proofs.lemmas.Bool.{and_from, and_parts}
 use Rattle.law_runs.specs.Allowed.{IsAmong}
 
 pub each_append : {A : Type 0} (P : A → Type 0) (xs ys : List A) → Each P xs → Each P ys → Each P (xs ++ ys)
@@ -55,14 +56,41 @@ flat_set {A} f (x ∷ xs) zero old new e same = ap (λ ys. ys ++ flat_map f xs) 
     is x old e = cc
 flat_set f (x ∷ xs) (suc place) old new e same = ap (λ ys. f x ++ ys) (flat_set f xs place old new e same)
 
+-- what each of them keeps
+pub flat_each : {A B : Type 0} (f : A → List B) (P : B → Type 0) (xs : List A) → Each (λ x. Each P (f x)) xs → Each P (flat_map f xs)
+flat_each f P [] a = tt
+flat_each f P (x ∷ xs) a = each_append P (f x) (flat_map f xs) a.0 (flat_each f P xs a.1)
+
+-- one is replaced
+pub flat_replaced : {A B : Type 0} (f : A → List B) (P : B → Type 0) (xs : List A) (place : ℕ) (new : A) → Each P (flat_map f xs) → Each P (f new)
+    → Each P (flat_map f (slice_set xs place new))
+flat_replaced f P [] place new a b = tt
+flat_replaced f P (x ∷ xs) zero new a b = each_append P (f new) (flat_map f xs) b (each_right P (f x) (flat_map f xs) a)
+flat_replaced f P (x ∷ xs) (suc place) new a b =
+    each_append P (f x) (flat_map f (slice_set xs place new)) (each_left P (f x) (flat_map f xs) a)
+    (flat_replaced f P xs place new (each_right P (f x) (flat_map f xs) a) b)
+
+-- tests of values, as a proposition of each
+pub each_true : {A : Type 0} (test : A → Bool) (xs : List A) → list_all test xs ≡ true → Each (λ x. test x ≡ true) xs
+each_true test [] h = tt
+each_true test (x ∷ xs) h = let b = and_parts (test x) (list_all test xs) h in (b.0, each_true test xs b.1)
+
+pub all_true : {A : Type 0} (test : A → Bool) (xs : List A) → Each (λ x. test x ≡ true) xs → list_all test xs ≡ true
+all_true test [] a = refl
+all_true test (x ∷ xs) a = and_from (test x) (list_all test xs) a.0 (all_true test xs a.1)
+
+pub each_map : {A B : Type 0} (P : B → Type 0) (f : A → B) (xs : List A) → Each (λ x. P (f x)) xs → Each P (map f xs)
+each_map P f [] a = tt
+each_map P f (x ∷ xs) a = (a.0, each_map P f xs a.1)
+
 -- what one keeps is among what all do
-among_left : (xs ys : List ℕ) (id : ℕ) → IsAmong xs id → IsAmong (xs ++ ys) id
+pub among_left : (xs ys : List ℕ) (id : ℕ) → IsAmong xs id → IsAmong (xs ++ ys) id
 among_left [] ys id (zero, e) = absurd (cc)
 among_left [] ys id (suc place, e) = absurd (cc)
 among_left (x ∷ xs) ys id (zero, e) = (0, e)
 among_left (x ∷ xs) ys id (suc place, e) = let r = among_left xs ys id (place, e) in (suc r.0, r.1)
 
-among_right : (xs ys : List ℕ) (id : ℕ) → IsAmong ys id → IsAmong (xs ++ ys) id
+pub among_right : (xs ys : List ℕ) (id : ℕ) → IsAmong ys id → IsAmong (xs ++ ys) id
 among_right [] ys id h = h
 among_right (x ∷ xs) ys id h = let r = among_right xs ys id h in (suc r.0, r.1)
 

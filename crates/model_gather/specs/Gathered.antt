@@ -1,6 +1,6 @@
 -- What `gather`, `wait`, `shield` and `wait_for` keep: for each key that was drawn, in order, the request or the handle that it
 -- was drawn for. Source: the library reference, "Coroutines and Tasks"; `tasks.py`.
-use Rattle.std.specs.Prelude.{ℕ, suc, ◌==◌, Bool, not, List, [], ◌∷◌, ◌++◌, Option, Some, None, filter, length, slice_set}
+use Rattle.std.specs.Prelude.{ℕ, suc, ◌==◌, Bool, not, List, [], ◌∷◌, ◌++◌, Option, Some, None, filter, length, map, slice_set}
 use Rattle.std.specs.List.{flat_map}
 use Rattle.std.specs.Option.{option_map_or}
 use Rattle.model_value.specs.Value.{Value, Nothing, Outcome}
@@ -25,11 +25,16 @@ pub data WaitMode : Type 0 where
   FirstCompleted : WaitMode
   FirstException : WaitMode
 
+-- an argument, and the future that it names
+pub record Argument : Type 0 where
+  pub value : Value
+  pub future : ℕ
+
 -- A wait: the future that it waits on, its distinct arguments in order, when it is over, how many of them aren't counted yet, and
 -- the tag of its timer, if it has one.
 pub record Waiting : Type 0 where
   pub on : ℕ
-  pub arguments : List Value
+  pub arguments : List Argument
   pub mode : WaitMode
   pub left : ℕ
   pub timer : Option ℕ
@@ -103,10 +108,25 @@ as_all_awaited s (x ∷ xs) =
       | Some id ↦ elim (as_all_awaited s xs) [ None ↦ None | Some ids ↦ Some (id ∷ ids) ]
     ]
 
+-- each with the future that it names
+abbrev pub paired : List Value → List ℕ → List Argument
+paired (x ∷ xs) (id ∷ ids) = record { value = x; future = id } ∷ paired xs ids
+paired _ _ = []
+
 -- each once, where it comes first
 abbrev pub distinct : List ℕ → List ℕ
 distinct [] = []
 distinct (id ∷ ids) = id ∷ filter (λ other. not (other == id)) (distinct ids)
+
+abbrev pub distinct_arguments : List Argument → List Argument
+distinct_arguments [] = []
+distinct_arguments (it ∷ others) = it ∷ filter (λ other. not (other.future == it.future)) (distinct_arguments others)
+
+abbrev pub futures_of : List Argument → List ℕ
+futures_of those = map (λ it. it.future) those
+
+abbrev pub values_of : List Argument → List Value
+values_of those = map (λ it. it.value) those
 
 -- ---- handles
 -- a handle on each of these futures, with keys from this place on
@@ -130,6 +150,7 @@ task_in _ = []
 
 abbrev pub futures_in : Drawn → List ℕ
 futures_in (Gathers it) = it.awaited
+futures_in (Waits it) = futures_of it.arguments
 futures_in (Tells place future) = future ∷ []
 futures_in _ = []
 
@@ -145,7 +166,7 @@ tag_in (WaitsFor it) = option_map_or (λ tag. tag ∷ []) it.timer []
 tag_in _ = []
 
 abbrev pub values_in : Drawn → List Value
-values_in (Waits it) = it.arguments
+values_in (Waits it) = values_of it.arguments
 values_in _ = []
 
 abbrev pub gather_keeps : Gathered → Keeping

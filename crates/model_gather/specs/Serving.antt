@@ -1,5 +1,6 @@
 -- The table of these requests: 100 and 101 gather, 102 wait, 103 shield, 104 wait_for.
 use Rattle.std.specs.Prelude.{ℕ, ◌==◌, ℤ, pos, negsuc, Bool, true, false, List, [], ◌∷◌, Option, Some, None, slice_get, if◌then◌else◌}
+use Rattle.std.specs.Option.{option_and_then, option_map}
 use Rattle.model_value.specs.Input.{Input}
 use Rattle.model_value.specs.Value.{Value}
 use Rattle.model_says.specs.Requests.{bad_argument}
@@ -8,7 +9,7 @@ use Rattle.model_machine.specs.Extra.{Extra, ExtraCall, ExtraSaid, unknown_code}
 use Rattle.model_loop.specs.Parts.{Parts}
 use Rattle.model_machine.specs.State.{State}
 use Rattle.model_reach.specs.Part.{only_says, passes, place_of, refuses, stays}
-use Rattle.model_gather.specs.Gathered.{Drawn, Gathered, Gathers, Waits, Shields, WaitsFor, Tells, Rings, as_all_awaited, gather_keeps, gather_part}
+use Rattle.model_gather.specs.Gathered.{Argument, Drawn, Gathered, Gathers, Waits, Shields, WaitsFor, Tells, Rings, as_all_awaited, gather_keeps, gather_part, paired}
 use Rattle.model_gather.specs.Gather.{gather, gather_told}
 use Rattle.model_gather.specs.Wait.{wait, wait_told, wait_rings, wait_woken}
 use Rattle.model_gather.specs.Shield.{shield, shield_told}
@@ -30,28 +31,49 @@ wanted_of (pos code) =
 wanted_of (negsuc before) = None
 
 -- ---- the shapes of lists
-abbrev pub given : {A : Type 0} → Option A → (A → ExtraSaid Gathered) → Gathered → ExtraSaid Gathered
-given None next kept = refuses bad_argument kept
-given (Some argument) next kept = next argument
+-- a request with its arguments
+pub data Request : Type 0 where
+  OfGather : (as_items : Bool) (awaited : List ℕ) → Request
+  OfWait : (mode : ℤ) (delay : Option ℤ) (arguments : List Argument) → Request
+  OfShield : (inner : ℕ) → Request
+  OfWaitFor : (on : ℕ) (delay : Option ℤ) → Request
 
--- which request it is, of this task and with these arguments
-abbrev pub served : Wanted → (task : ℕ) → List Value → State Gathered → ExtraSaid Gathered
-served (Gather as_items) task xs s = given (as_all_awaited s xs) (λ awaited. gather as_items awaited s.loop.parts s.extra) s.extra
-served Wait task (mode ∷ delay ∷ xs ∷ []) s =
-    given (as_int mode) (λ number. given (as_delay delay) (λ time. given (as_list xs) (λ items.
-    given (as_all_awaited s items) (λ awaited. wait number time items awaited s.loop.parts s.extra) s.extra) s.extra) s.extra) s.extra
-served Shield task (x ∷ []) s = given (as_awaited s x) (λ on. shield on s.loop.parts s.extra) s.extra
-served WaitFor task (x ∷ delay ∷ []) s =
-    given (as_awaited s x) (λ on. given (as_delay delay) (λ time. wait_for task on time s.loop.parts s.extra) s.extra) s.extra
-served Wait task _ s = refuses bad_argument s.extra
-served Shield task _ s = refuses bad_argument s.extra
-served WaitFor task _ s = refuses bad_argument s.extra
+abbrev pub both : {A B C : Type 0} → (A → B → C) → Option A → Option B → Option C
+both make (Some a) (Some b) = Some (make a b)
+both make _ _ = None
+
+-- what is asked by this list, where it has the request's shape
+abbrev pub requested : {S : Type 0} → State S → Wanted → List Value → Option Request
+requested s (Gather as_items) xs = option_map (OfGather as_items) (as_all_awaited s xs)
+requested s Wait (mode ∷ delay ∷ xs ∷ []) =
+    option_and_then (λ items. option_and_then (λ awaited. both (λ number time. OfWait number time (paired items awaited)) (as_int mode) (as_delay delay))
+    (as_all_awaited s items)) (as_list xs)
+requested s Shield (x ∷ []) = option_map OfShield (as_awaited s x)
+requested s WaitFor (x ∷ delay ∷ []) = both OfWaitFor (as_awaited s x) (as_delay delay)
+requested s Wait _ = None
+requested s Shield _ = None
+requested s WaitFor _ = None
+
+-- of this task
+abbrev pub serve : Request → (task : ℕ) → Parts → Gathered → ExtraSaid Gathered
+serve (OfGather as_items awaited) task p kept = gather as_items awaited p kept
+serve (OfWait mode delay arguments) task p kept = wait mode delay arguments p kept
+serve (OfShield inner) task p kept = shield inner p kept
+serve (OfWaitFor on delay) task p kept = wait_for task on delay p kept
+
+abbrev pub served : Option Request → (task : ℕ) → Parts → Gathered → ExtraSaid Gathered
+served None task p kept = refuses bad_argument kept
+served (Some it) task p kept = serve it task p kept
+
+abbrev pub asked : Option Wanted → (task : ℕ) (code : ℤ) → List Value → State Gathered → ExtraSaid Gathered
+asked None task code arguments s = refuses (unknown_code code) s.extra
+asked (Some wanted) task code arguments s = served (requested s wanted arguments) task s.loop.parts s.extra
 
 -- ---- what is woken, and handles that run
-abbrev pub woken : Drawn → (place : ℕ) → Input → State Gathered → ExtraSaid Gathered
-woken (Waits it) place input s = wait_woken input it s
-woken (WaitsFor it) place input s = wait_for_woken place input it s.loop.parts s.extra
-woken _ place input s = only_says (passes input) s.extra
+abbrev pub woken : Option Drawn → (place : ℕ) → Input → Parts → Gathered → ExtraSaid Gathered
+woken (Some (Waits it)) place input p kept = wait_woken input it p kept
+woken (Some (WaitsFor it)) place input p kept = wait_for_woken place input it p kept
+woken _ place input p kept = only_says (passes input) kept
 
 -- this future is done, for the request at this place
 abbrev pub told : Option Drawn → (place future : ℕ) → Parts → Gathered → ExtraCall Gathered
@@ -74,13 +96,9 @@ acted _ p kept = stays kept
 abbrev pub gather_means : Extra Gathered
 gather_means =
     record {
-      ask = λ task code arguments s. elim (wanted_of code) [
-        | None ↦ refuses (unknown_code code) s.extra
-        | Some wanted ↦ served wanted task arguments s
-      ];
+      ask = λ task code arguments s. asked (wanted_of code) task code arguments s;
       wake = λ key input s.
-          let place = place_of gather_part key in
-          elim (slice_get s.extra.drawn place) [ None ↦ only_says (passes input) s.extra | Some it ↦ woken it place input s ];
+          let place = place_of gather_part key in woken (slice_get s.extra.drawn place) place input s.loop.parts s.extra;
       wakes_left = λ key kept. 0;
       act = λ key s. acted (slice_get s.extra.drawn (place_of gather_part key)) s.loop.parts s.extra;
       item = λ code bytes s. stays s.extra;
