@@ -1,0 +1,6 @@
+pub mod Lists
+pub mod Holding
+pub mod Comes
+pub mod Keys
+pub mod Allowed
+pub mod Falling
