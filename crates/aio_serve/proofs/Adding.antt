@@ -155,11 +155,12 @@ pub alone_free : (generators : List Generator) (key : ℕ) → IsFree generators
 alone_free generators key free other same =
     subst (IsFree generators) (ap (λ o. option_map_or (λ (x : ℕ). x) o key) same) free
 
-module _ {X : Type 0} {a : Added X} where
-  -- in a step
-  step_may : (task : ℕ) (running : Option ℕ) (s : State a.Kept) → running ≡ Some task → MayCall a.meaning (Some task) s → MayCall a.meaning running s
-  step_may task running s same may = subst (λ r. MayCall a.meaning r s) (sym same) may
+-- in a step
+step_may : {S : Type 0} (added : Extra S) (task : ℕ) (running : Option ℕ) (s : State S) → running ≡ Some task → MayCall added (Some task) s
+    → MayCall added running s
+step_may added task running s same may = subst (λ r. MayCall added r s) (sym same) may
 
+module _ {X : Type 0} {a : Added X} where
   -- what it is asked, in whichever state
   asked_of : (task : ℕ) (c : Context a) (body : RunState X) (s : State a.Kept) (code arguments : Value) (items : List Value)
       → as_list arguments ≡ Some items → (h : IsAskingFor task (request.Extra code arguments) c body s)
@@ -192,7 +193,7 @@ module _ {X : Type 0} {a : Added X} where
         (
           w.1.0,
           served_of (Some task) body.parts.running w.0 body w.1.0 h.stands h.called refl
-              (step_may task body.parts.running w.1.0 h.running (may_call a.meaning (Some task) (Some task) w.1.0 w.1.1.asked.others)),
+              (step_may a.meaning task body.parts.running w.1.0 h.running (may_call a.meaning (Some task) (Some task) w.1.0 w.1.1.asked.others)),
         ),
       ))
 
@@ -205,7 +206,7 @@ module _ {X : Type 0} {a : Added X} where
         (
           w.1.0,
           served_of (Some task) body.parts.running w.0 body w.1.0 h.stands h.called refl
-              (step_may task body.parts.running w.1.0 h.running w.1.1.1.may),
+              (step_may a.meaning task body.parts.running w.1.0 h.running w.1.1.1.may),
         ),
       ))
 
@@ -332,7 +333,7 @@ module _ {X : Type 0} {a : Added X} (task on key : ℕ) (c : Context a) (body : 
         (a.allowed.wake task key input s h.may (h.keyed key refl).1 made)
         (wakes h.in_step.stands.name_map s
         (served_of (Some task) body.parts.running c body s h.in_step.stands h.in_step.called refl
-        (step_may task body.parts.running s h.in_step.running h.may)) (h.keyed key refl).1 made);
+        (step_may a.meaning task body.parts.running s h.in_step.running h.may)) (h.keyed key refl).1 made);
     same =
         sym (woken_on a.meaning a.falls task key input s)
         ∙ ap (λ i. woken a.meaning task key i s) heard
@@ -360,11 +361,15 @@ AreAnswered a o task first old was asked body is =
     (λ c at. AnswersAgain task asked c body (answered a.meaning task at.1 at.0))
 
 -- ---- from a request, and from the wait of one
--- it was asked, with this code
-abbrev pub Asks : {X : Type 0} → (a : Added X) → (task : ℕ) (body : RunState X) (arguments : Value) (v : View) (x : X) (asked : Asked) (number : ℤ) → Type 0
-Asks a task body arguments v x asked number =
-    (t : NameMap) (s : State a.Kept) (items : List Value) → IsAskedOf a task t s body.futures.items arguments items body.extra body.parts
+-- it was asked, with this code, where scripts have these futures
+abbrev pub AsksOver : {X : Type 0} → (a : Added X) → (task : ℕ) (body : RunState X) (arguments : Value) (v : View) (x : X) (asked : Asked)
+    (futures : List ℕ) (number : ℤ) → Type 0
+AsksOver a task body arguments v x asked futures number =
+    (t : NameMap) (s : State a.Kept) (items : List Value) → IsAskedOf a task t s futures arguments items body.extra body.parts
     → SaysAs a t s body.parts v x asked (a.meaning.ask task number items s)
+
+abbrev pub Asks : {X : Type 0} → (a : Added X) → (task : ℕ) (body : RunState X) (arguments : Value) (v : View) (x : X) (asked : Asked) (number : ℤ) → Type 0
+Asks a task body arguments v x asked number = AsksOver a task body arguments v x asked body.futures.items number
 
 module _ {X : Type 0} (a : Added X) (task : ℕ) (body : RunState X) (code arguments : Value) (number : ℤ) (items : List Value)
     (is_code : as_int code ≡ Some number) (are_items : as_list arguments ≡ Some items) (v : View) (x : X) (asked : Asked)
@@ -417,7 +422,7 @@ module _ {X : Type 0} {a : Added X} (task key : ℕ) (body : RunState X) (input 
       (a.allowed.wake task key input s may h.asked.alone.1 good)
       (wakes h.in_step.stands.name_map s
       (served_of (Some task) body.parts.running c body s h.in_step.stands h.in_step.called refl
-      (step_may task body.parts.running s h.in_step.running may)) h.asked.alone.1 good)
+      (step_may a.meaning task body.parts.running s h.in_step.running may)) h.asked.alone.1 good)
 
   pub wakes_answer : Possible a (IsDeciding task (resume_point.Serving key)) body → Possible a (HasAnswer task asked) (record body { parts = v; extra = x })
   wakes_answer m =

@@ -53,10 +53,7 @@ pub fn extra<W: Wire, X: Extra>(
     if !is_list(arguments) {
         return or_stop(bad_argument(alloc));
     }
-    match body
-        .extra
-        .ask(alloc, task, code, arguments, &body.futures, &mut body.parts)
-    {
+    match body.extra.ask(alloc, task, code, arguments, &body.futures, &mut body.parts) {
         Ok(asked) => answer(body, alloc, wire, task, asked),
         Err(Memory) => Err(Stop::Memory),
     }

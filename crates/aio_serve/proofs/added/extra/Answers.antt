@@ -7,7 +7,8 @@ use Rattle.model_value.specs.declared.request.Request.TheVariants as request
 use Rattle.aio_wire.specs.Port.{ported}
 use Rattle.aio_body.specs.Asking.{Comes, serving}
 use Rattle.aio_body.proofs.Alone.{serves_alone, serves_without}
-use Rattle.aio_serve.proofs.Adding.{Asks, asks_answer, asks_go, asks_served}
+use Rattle.aio_extra.specs.Called.{MayAsk}
+use Rattle.aio_serve.proofs.Adding.{AsksOver, asks_answer, asks_go, asks_served}
 use Rattle.aio_serve.proofs.Meaning.{arguments_refused, code_refused}
 use Rattle.aio_serve.proofs.Saying.{raises_so}
 use Rattle.aio_serve.proofs.added.extra.Goals as goal
@@ -47,7 +48,9 @@ returns-then-not-is_list g c =
 
 pub ask-requires : goal.ask-requires
 ask-requires g c =
-    asks_served c.args.task c.args.body.now c.args.code.now c.args.arguments.now (sym c.is_list.ensures ∙ c.if-not-is_list.false) c.requires
+    subst (λ futures. MayAsk g.X.Extra.added c.args.task futures c.args.arguments.now c.args.body.now.extra c.args.body.now.parts)
+    (sym c.deref.ensures.value)
+    (asks_served c.args.task c.args.body.now c.args.code.now c.args.arguments.now (sym c.is_list.ensures ∙ c.if-not-is_list.false) c.requires)
 
 pub answer-requires : goal.answer-requires
 answer-requires g c =
@@ -55,8 +58,10 @@ answer-requires g c =
     let items = some_of (as_list c.args.arguments.now) (sym c.is_list.ensures ∙ c.if-not-is_list.false) in
     asks_answer g.X.Extra.added c.args.task c.args.body.now c.args.code.now c.args.arguments.now c.in-Some.code items.0
     (sym c.as_int.ensures ∙ c.in-Some.is) items.1 c.ask.new.parts c.ask.new.self c.in-Ok.asked
-    (subst (Asks g.X.Extra.added c.args.task c.args.body.now c.args.arguments.now c.ask.new.parts c.ask.new.self c.in-Ok.asked)
-    (to_z-of_z w64 c.in-Some.code fits) c.in-Ok.ensures) c.requires
+    (subst (λ futures. AsksOver g.X.Extra.added c.args.task c.args.body.now c.args.arguments.now c.ask.new.parts c.ask.new.self c.in-Ok.asked futures
+    c.in-Some.code) c.deref.ensures.value
+    (subst (AsksOver g.X.Extra.added c.args.task c.args.body.now c.args.arguments.now c.ask.new.parts c.ask.new.self c.in-Ok.asked c.deref.result.now)
+    (to_z-of_z w64 c.in-Some.code fits) c.in-Ok.ensures)) c.requires
 
 pub returns-in-Ok : goal.returns-in-Ok
 returns-in-Ok g c =
@@ -64,8 +69,10 @@ returns-in-Ok g c =
     let items = some_of (as_list c.args.arguments.now) (sym c.is_list.ensures ∙ c.if-not-is_list.false) in
     asks_go g.X.Extra.added c.args.task c.args.body.now c.args.code.now c.args.arguments.now c.in-Some.code items.0
     (sym c.as_int.ensures ∙ c.in-Some.is) items.1 c.ask.new.parts c.ask.new.self c.in-Ok.asked
-    (subst (Asks g.X.Extra.added c.args.task c.args.body.now c.args.arguments.now c.ask.new.parts c.ask.new.self c.in-Ok.asked)
-    (to_z-of_z w64 c.in-Some.code fits) c.in-Ok.ensures) g.W.Wire.outside c.answer.new.body c.args.wire.now c.answer.new.wire c.answer.result
+    (subst (λ futures. AsksOver g.X.Extra.added c.args.task c.args.body.now c.args.arguments.now c.ask.new.parts c.ask.new.self c.in-Ok.asked futures
+    c.in-Some.code) c.deref.ensures.value
+    (subst (AsksOver g.X.Extra.added c.args.task c.args.body.now c.args.arguments.now c.ask.new.parts c.ask.new.self c.in-Ok.asked c.deref.result.now)
+    (to_z-of_z w64 c.in-Some.code fits) c.in-Ok.ensures)) g.W.Wire.outside c.answer.new.body c.args.wire.now c.answer.new.wire c.answer.result
     c.answer.ensures
 
 pub returns-in-Err : goal.returns-in-Err
