@@ -3,11 +3,12 @@ use Rattle.std.proofs.Common.{◌≡◌, ℕ, ◌<◌, true, Some, None, length,
 use Rattle.model_value.specs.Input.{Input}
 use Rattle.model_value.specs.Value.{Nothing}
 use Rattle.model_value.specs.declared.input.Input.TheVariants.{Send}
+use Rattle.model_wire.specs.declared.event.Event.TheVariants as event
 use Rattle.model_loop.specs.Tasks.{lives, next_task}
 use Rattle.model_machine.specs.Replies.{decides}
 use Rattle.model_machine.specs.Sound.{IsAsking, IsLeft, IsOpenedAt, sends_made}
 use Rattle.model_machine.specs.State as plain
-use Rattle.model_machine.specs.State.{State, generator_of}
+use Rattle.model_machine.specs.State.{State, generator_of, noted, unbooked_in}
 use Rattle.law_cancel.proofs.Lookups.{get_within}
 use Rattle.law_replies.specs.InStep.{IsAsked, RepliesInStep}
 use Rattle.law_runs.proofs.Beginning.{begins_in, begun_asked, stepped_lives, heard_made, same_count as count_kept}
@@ -74,7 +75,7 @@ module _ {X : Type 0} {a : Added X} (task : ℕ) (c : Context a) (body : RunStat
       → sends_made (next_task (begun_in task input s).loop.parts) (begun_by task input s).input ≡ true
   called_heard input made =
       subst (λ (x : State a.Kept). sends_made (next_task (begun_in task input x).loop.parts) (begun_by task input x).input ≡ true) (sym h.after)
-      (made_as _ _ _
+      (made_as _ _ (begun_by task input (noted (event.Ran h.handle.action) (unbooked_in (λ p. record p { pending = h.rest }) h.before))).input
       (count_kept a.meaning h.before task input h.handle h.rest h.pending h.live h.steps h.sound (extra_sound a) given_)
       (heard_made a.meaning h.before task input h.handle h.rest h.pending h.live h.steps h.sound (extra_sound a) given_
       (generator_of task h.before).resume_point))

@@ -25,7 +25,7 @@ use Rattle.aio_body.specs.GivingUp.{IsNoTasks}
 use Rattle.aio_body.specs.Stands.{Context, StandsAt, WaitsAs, holding, Possible}
 use Rattle.aio_body.proofs.May.{same_prop}
 use Rattle.aio_step.specs.declared.steps.Started.{Started}
-use Rattle.aio_step.specs.Stepping.{DecidesAs, HasBegun, HearsMade, IsCalled, begun_in, IsDecidingAs}
+use Rattle.aio_step.specs.Stepping.{DecidesAs, HasBegun, HearsMade, IsCalled, begun_by, begun_in, IsDecidingAs}
 use Rattle.aio_step.proofs.Called.{called_heard, called_own, called_slot, made_as, own_slot}
 
 -- ---- a step begins
@@ -123,7 +123,7 @@ module _ {X : Type 0} {a : Added X} where
       ∥∥₁_elim may (hlevel props) (λ w.
       let b = begun w.0 w.1.0 w.1.1 in
       ap (sends_made (length new.slots.items)) b.heard
-      ∙ made_as _ _ _ b.deciding.in_step.stands.made (called_heard task w.0 old w.1.0 w.1.1 input made))
+      ∙ made_as _ _ (begun_by task input w.1.0).input b.deciding.in_step.stands.made (called_heard task w.0 old w.1.0 w.1.1 input made))
 
   -- where the machine's task stood at this alone
   pub stood_of : (task : ℕ) (code : ResumePoint) (stood : plain.ResumePoint) → ((other : plain.ResumePoint) → DecidesAs code other → stood ≡ other)
