@@ -147,6 +147,24 @@ def cancelled_chain(n):
     return CHAIN + main_of(["t = yield from spawn(last)", *made, "yield", "yield from cancel(t)", *waits])
 
 
+def cancels_of_chain(n):
+    """A chain of so many awaits, whose first task is cancelled as often, in one step."""
+    made = many(n, ["t = yield from spawn(link, t)"], 16_000)
+    cancels = many(n, ["yield from cancel(t)"], 16_000)
+    waits = ["try", "yield from t", "except CancelledError", 'print "cancelled", i', "end"]
+    return CHAIN + main_of(["t = yield from spawn(last)", *made, "yield", *cancels, *waits])
+
+
+def searched_chain(n):
+    """A chain of so many awaits, and as many tasks that are awaited themselves and await its first task."""
+    late = "def late(x)\nyield\nyield from x\nend\n"
+    made = many(n, ["t = yield from spawn(link, t)"], 16_000)
+    others = many(n, ["w = yield from spawn(late, t)", "yield from spawn(link, w)"], 8_000)
+    waits = ["try", "yield from t", "except CancelledError", 'print "cancelled", i', "end"]
+    over = ["yield", "yield", "yield"]
+    return CHAIN + late + main_of(["t = yield from spawn(last)", *made, "yield", *others, *over, "yield from cancel(t)", *waits, *over])
+
+
 IDLE = "def idle()\nyield from sleep(1000)\nend\n"
 
 
