@@ -155,6 +155,11 @@ def cancels_of_chain(n):
     return CHAIN + main_of(["t = yield from spawn(last)", *made, "yield", *cancels, *waits])
 
 
+def left_chain(n):
+    """A chain of so many awaits at main's end, which cancels each of its tasks."""
+    return CHAIN + main_of(["t = yield from spawn(last)", *many(n, ["t = yield from spawn(link, t)"], 16_000), "yield", 'print "left", i'])
+
+
 def searched_chain(n):
     """A chain of so many awaits, and as many tasks that are awaited themselves and await its first task."""
     late = "def late(x)\nyield\nyield from x\nend\n"

@@ -27,6 +27,7 @@ from largest import (
     group_text,
     heavy_exception,
     left_at_the_end,
+    left_chain,
     list_says,
     long_script_says,
     longest_script,
@@ -194,7 +195,7 @@ CASES = [
         lambda n: still(n + 20),
         lambda n: returned(f"cancelled {n}"),
     ),
-    # Two products of numbers that a script picks, told by the links that are gone along. asyncio goes down the chain at each
+    # Three products of numbers that a script picks, told by the links that are gone along. asyncio goes down the chain at each
     # cancel too; it looks for no cycle.
     Case(
         "cancels_of_a_chain",
@@ -205,6 +206,16 @@ CASES = [
         lambda n: still(n + 20),
         lambda n: returned(f"cancelled {n}"),
         units=lambda n: n * n,
+    ),
+    Case(
+        "left_chain",
+        "a chain that waits at main's end, each task of which is cancelled",
+        (1_000, 2_000, 4_000),
+        "links",
+        left_chain,
+        lambda n: still(n + 20),
+        lambda n: returned(f"left {n}"),
+        units=lambda n: n * (n + 1) // 2,
     ),
     Case(
         "searched_chain",

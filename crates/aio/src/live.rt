@@ -3,11 +3,11 @@ ghost use Rattle.std.specs.Prelude.{◌≡◌};
 ghost use Rattle.aio_inbox.specs.Naming.{table_of};
 
 use crate::OUT_OF_MEMORY;
-use aio_asked::{Finished, Hub};
+use aio_asked::{Finished, Hub, HubState};
 use aio_base::Memory;
 use aio_edge::{Files, Output, hold_standard};
 use aio_inbox::{InboxName, UnnamedInbox};
-use aio_launcher::RealLauncher;
+use aio_launcher::{RealLauncher, Run};
 use aio_memwire::DeadWire;
 use aio_outside::{Outside, PathFinder};
 use aio_poller::{PollerBell, RealPoller};
@@ -97,7 +97,10 @@ where
     }
 }
 
-/// Makes the launcher and the hub, runs over it, and ends the children.
+fn forget_state<N: InboxName>(_state: HubState<N, Run<N>>) {}
+
+/// Makes the hub, runs over it, and ends the children. The launcher is made last, once memory was given for the rest: it has
+/// a thread, which ends as it is closed.
 fn run_named<N, R>(
     rt: R,
     alloc: Global,
@@ -120,15 +123,18 @@ where
         + 'static,
     requires { table_of unnamed ≡ N.table }
 {
-    let Ok(launcher) = RealLauncher::<R, N>::make(rt, alloc, bell) else {
+    let Ok(state) = HubState::<N, Run<N>>::make(alloc, unnamed) else {
         forget_poller(poller);
+        forget_bell(bell);
         return OUT_OF_MEMORY;
     };
-    match Hub::<N, R, RealPoller<R>, RealLauncher<R, N>>::make(
-        rt, alloc, poller, launcher, unnamed,
-    ) {
-        Ok(hub) => run_hub(rt, alloc, words, hub),
-        Err(Memory) => OUT_OF_MEMORY,
+    match RealLauncher::<R, N>::make(rt, alloc, bell) {
+        Ok(launcher) => run_hub(rt, alloc, words, Hub::over(rt, poller, launcher, state)),
+        Err(Memory) => {
+            forget_poller(poller);
+            forget_state(state);
+            OUT_OF_MEMORY
+        }
     }
 }
 

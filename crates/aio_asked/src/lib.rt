@@ -8,5 +8,6 @@ mod hub;
 mod selecting;
 mod wire;
 
+pub use aio_live::State as HubState;
 pub use closing::Finished;
 pub use hub::Hub;
