@@ -41,10 +41,9 @@ use Rattle.law_received.proofs.Apart.{BringNone, apart_always, apart_if, apart_m
 use Rattle.law_received.proofs.Own as own
 use Rattle.law_received.proofs.Own.{OwnFed}
 use Rattle.law_received.specs.Feeding.{AreFed, AreFedBy, AreOnlyFed, News, fed_if, news_in}
-use Rattle.law_received.proofs.Fed.{PipesTold, Still, apart_fed, bytes_none, child_only, conn_only}
-use Rattle.law_received.proofs.Fed.{now_child, now_conn, number_of, only_fed}
-use Rattle.law_received.proofs.Fed.{still_alike, still_both, still_child, still_conn, still_fed, still_launched, still_opened}
-use Rattle.law_received.proofs.Fed.{still_same, tell_apart}
+use Rattle.law_received.proofs.Fed.{PipesTold, bytes_none, child_only, conn_only, number_of, only_fed, tell_apart}
+use Rattle.law_received.proofs.Still.{Still, apart_fed, now_child, now_conn, still_alike, still_both, still_child, still_conn}
+use Rattle.law_received.proofs.Still.{still_fed, still_launched, still_opened, still_same}
 use Rattle.law_received.proofs.AllLooks.{LooksAt, gives_up, reads, reads_all}
 
 -- ---- where nothing is received

@@ -25,11 +25,9 @@ use Rattle.law_stream.specs.ReceiverOrder.{has_failed, went}
 use Rattle.law_received.specs.Readers.{conn_receiver, held_of, is_failed, is_shut, may_hear, pipe_hears, pipe_receiver, received, receiver_of}
 use Rattle.law_received.proofs.Apart.{BringNone, bring_nothing}
 use Rattle.law_received.specs.Feeding.{AreFed, IsLook}
-use Rattle.law_received.proofs.Fed.{PipeFed, Still, child_fed, conn_fed}
-use Rattle.law_received.proofs.Fed.{now_child, now_conn, number_of, only_fed}
-use Rattle.law_received.proofs.Fed.{other_child, other_conn, still_conn, still_fed, which_conn}
+use Rattle.law_received.proofs.Fed.{PipeFed, child_fed, conn_fed, number_of, only_fed, other_child, other_conn, which_conn}
+use Rattle.law_received.proofs.Still.{Still, now_child, now_conn, still_conn, still_fed, still_same}
 use Rattle.law_received.proofs.Own.{one_came, one_look}
-use Rattle.law_received.proofs.Fed.{still_same}
 use Rattle.law_received.proofs.Looks.{Looks, all_looks, read_looks}
 
 -- ---- what is read

@@ -2,6 +2,7 @@ mod Apart
 mod Own
 mod AllFed
 mod AllLooks
+mod Still
 mod Fed
 mod Looks
 mod Due
