@@ -51,7 +51,12 @@ impl<N: InboxName, R: Drop, P: Drop, L: Launcher<Inbox<N>, Poster<N>> + Drop> Hu
         ensures state { IfOk result (λ hub. IsNew hub.state) }
     {
         match HubState::make(alloc, unnamed) {
-            Ok(state) => Ok(Hub::over(rt, poller, launcher, state)),
+            Ok(state) => Ok(Hub {
+                rt,
+                state,
+                poller,
+                launcher,
+            }),
             Err(Memory) => {
                 forget(rt, poller, launcher);
                 Err(Memory)
