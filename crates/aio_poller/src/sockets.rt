@@ -1,5 +1,6 @@
 //! The open sockets. A call may fail; that is counted above.
-use crate::answers::{received, sent, shut};
+use crate::address::here;
+use crate::answers::{read_from, shut, write_to};
 use crate::bell::PollerBell;
 use crate::conn::Conn;
 use crate::errors::{is_failing, is_short, refused, unready};
@@ -12,8 +13,8 @@ use mio::net::{TcpListener, TcpStream};
 use mio::{Events, Interest, Poll, Token, Waker};
 use std::alloc::Global;
 use std::io;
-use std::io::{ErrorKind, Read, Write};
-use std::net::{Ipv4Addr, Net, Shutdown, SocketAddr};
+use std::io::ErrorKind;
+use std::net::{Net, Shutdown};
 use std::sync::Arc;
 use std::time::Duration;
 
@@ -296,15 +297,14 @@ impl Sockets {
         let Some(conn) = self.conns.get(&conn) else {
             return Ok(Answer::Broken);
         };
-        let read = (&conn.stream).read(self.buffer.as_mut_slice());
-        received(alloc, read, self.buffer.as_slice())
+        read_from(alloc, &mut &conn.stream, self.buffer.as_mut_slice())
     }
 
     fn send(&mut self, conn: u32, bytes: &[u8]) -> io::Result<Answer> {
         let Some(conn) = self.conns.get(&conn) else {
             return Ok(Answer::Broken);
         };
-        sent((&conn.stream).write(bytes))
+        write_to(&mut &conn.stream, bytes)
     }
 
     fn shut(&mut self, conn: u32) -> io::Result<Answer> {
@@ -328,8 +328,4 @@ fn note(servers: &mut IndexMap<u32, Server>, conns: &mut IndexMap<u32, Conn>, ev
     } else if let Some(conn) = conns.get_mut(&number) {
         conn.registration.note(event);
     }
-}
-
-fn here(port: u16) -> SocketAddr {
-    SocketAddr::from((Ipv4Addr::LOCALHOST, port))
 }
