@@ -1,12 +1,14 @@
 //! The file that is appended to.
-ghost use Rattle.std.specs.Prelude.{◌≡◌, ◌<◌, length, true, None, string_bytes, IfOk, IfSome, IsErr};
+ghost use Rattle.std.specs.Prelude.{◌≡◌, ◌≢◌, ◌<◌, length, true, false, None, string_bytes, IfOk, IfSome, IsSomeAnd, IsErr};
 ghost use Rattle.std.specs.Io.{WritesAtMost};
+ghost use Rattle.std.specs.Io.KnownBytes.{WriteAppends};
 
-use crate::room::expect_place;
+use crate::room::expect_room_in;
+use crate::writing::write_front;
 use aio_base::Memory;
 use std::alloc::Global;
-use std::fs::OpenOptions;
-use std::io::{ErrorKind, Seek, SeekFrom, Write};
+use std::fs::{OpenFile, OpenOptions};
+use std::io::{ErrorKind, Write};
 use std::{io, rt};
 
 /// A file that was opened to be appended to, by its name. It stays open, so only its first piece needs a descriptor.
@@ -25,6 +27,8 @@ pub(crate) fn open_as<R: rt::Files>(
     name: &str,
 ) -> Result<(), Memory>
     ensures named { IfOk result (λ _. IfSome appended.new (λ one. string_bytes one.name ≡ name.now)) }
+    ensures kept { IfSome appended.old (λ one. string_bytes one.name ≡ name.now
+        → appended.new ≡ appended.old) }
 {
     if is_open(appended, name) {
         return Ok(());
@@ -35,7 +39,8 @@ pub(crate) fn open_as<R: rt::Files>(
 
 /// Whether a file is open, and it is the one of this name.
 fn is_open<F>(appended: &Option<Appended<F>>, name: &str) -> bool
-    ensures { result ≡ true → IfSome appended.now (λ one. string_bytes one.name ≡ name.now) }
+    ensures open { result ≡ true → IfSome appended.now (λ one. string_bytes one.name ≡ name.now) }
+    ensures other { result ≡ false → IfSome appended.now (λ one. string_bytes one.name ≢ name.now) }
 {
     match appended {
         Some(one) => one.name.as_str() == name,
@@ -60,7 +65,7 @@ fn opened<R: rt::Files>(
 
 /// Writes a front of the piece behind the end of the file of this name, which is the open one if any is, and says how many
 /// bytes went. Where none is open it is an error. The name is there for the clause.
-pub(crate) fn append_to<F: Write + Seek>(
+pub(crate) fn append_to<F: Write + OpenFile>(
     appended: &mut Option<Appended<F>>,
     _name: &str,
     piece: &[u8],
@@ -69,6 +74,8 @@ pub(crate) fn append_to<F: Write + Seek>(
     ensures bound { WritesAtMost result piece.now }
     ensures some { IfOk result (λ count. 0 < length piece.now → 0 < count) }
     ensures closed { appended.old ≡ None → IsErr result }
+    ensures bytes { IfSome appended.old (λ one. IsSomeAnd appended.new (λ now.
+        WriteAppends (F.contents one.file) (F.contents now.file) result piece.now)) }
 {
     match appended {
         Some(one) => write_some(&mut one.file, piece),
@@ -76,23 +83,15 @@ pub(crate) fn append_to<F: Write + Seek>(
     }
 }
 
-/// Writes once, and again where the write was interrupted. A file that may not grow is not written.
-fn write_some<F: Write + Seek>(file: &mut F, piece: &[u8]) -> io::Result<usize>
+// Writes a front of the piece. A file that may not grow is not written.
+fn write_some<F: Write + OpenFile>(file: &mut F, piece: &[u8]) -> io::Result<usize>
     ensures bound { WritesAtMost result piece.now }
     ensures some { IfOk result (λ count. 0 < length piece.now → 0 < count) }
+    ensures bytes { WriteAppends (F.contents file.old) (F.contents file.new) result piece.now }
 {
     if piece.is_empty() {
         return Ok(0);
     }
-    if let Ok(end) = file.seek(SeekFrom::End(0)) {
-        expect_place(end)?;
-    }
-    for _ in 0..u64::MAX {
-        match file.write(piece) {
-            Ok(0) => return Err(io::Error::from(ErrorKind::WriteZero)),
-            Err(error) if error.kind() == ErrorKind::Interrupted => {}
-            written => return written,
-        }
-    }
-    Err(io::Error::from(ErrorKind::Interrupted))
+    expect_room_in(&*file)?;
+    write_front(file, piece)
 }

@@ -1,16 +1,19 @@
 //! The files of the file system.
-ghost use Rattle.std.specs.Prelude.{◌≡◌, ◌+◌, ℕ, List, true, None, string_bytes, vec_len, IfErr, IfOk, IfSome, IsErr};
+ghost use Rattle.std.specs.Prelude.{◌≡◌, ℕ, ◌<◌, ◌≤◌, List, length, string_bytes, vec_len, IfErr, IfOk, IfSome, IsSomeAnd, OnErr, Option, Some};
 ghost use Rattle.std.specs.Io.{ReadsAtMost};
-ghost use Rattle.aio_wire.specs.Got.{FitsRead, ReadLeavesShelf};
+ghost use Rattle.aio_wire.specs.Got.{FitsRead, ReadsAt, ReadLeavesShelf};
+ghost use Rattle.aio_wire.specs.Took.{FitsWrite};
+ghost use Rattle.aio_wire.specs.Files.{Appends};
+ghost use Rattle.aio_edge.specs.Bytes.{Fills, Gives, ReadsFront};
 ghost use Rattle.aio_edge.specs.Counts.{counting, Took};
 ghost use Rattle.aio_edge.specs.Standing.{StandsAt};
 
 use crate::appended::{Appended, append_to, open_as};
+use crate::reading::{Reading, open_at, read_on};
 use aio_base::{Blob, Memory};
 use aio_wire::{Shelf, SinkTook, SourceGot};
 use std::alloc::Global;
-use std::io::{ErrorKind, Read, Seek, SeekFrom};
-use std::{fs, io, rt};
+use std::{io, rt};
 
 /// The most bytes that one read asks for.
 const LONGEST_READ: usize = 65_536;
@@ -24,15 +27,6 @@ pub struct Files<R: rt::Files> {
     appended: Option<Appended<R::File>>,
     reading: Option<Reading<R::File>>,
     faults: u64,
-}
-
-/// A file that was opened to be read: its name, and the place at which it stands. It stays open, so that one which can't
-/// be moved, as a pipe, is read on.
-#[derive(Drop)]
-struct Reading<F> {
-    name: String,
-    file: F,
-    at: u64,
 }
 
 impl<R: rt::Files> Files<R> {
@@ -60,15 +54,36 @@ impl<R: rt::Files> Shelf for Files<R> {
         name: &str,
         from: u64,
         max: usize,
-    ) -> Result<SourceGot, Memory> {
+    ) -> Result<SourceGot, Memory>
+        requires { 1 ≤ max }
+        ensures size { IfOk result (FitsRead max) }
+        ensures bytes { IfOk result (λ got. (held : Option (List ℕ))
+            → (counting self.old.faults).file name.now ≡ Some held → ReadsAt held from got) }
+        ensures counted { IfOk result (ReadLeavesShelf name.now (counting self.old.faults)
+            (counting self.new.faults)) }
+        ensures files { (counting self.new.faults).file ≡ (counting self.old.faults).file }
+        ensures err { OnErr result (counting self.new.faults ≡ counting self.old.faults) }
+        ensures given { IfOk result (λ got. IfSome self.old.reading (λ one.
+            StandsAt name.now from (string_bytes one.name) one.at
+            → Gives (R.File.Read.remaining one.file) got)) }
+    {
         let mut piece = vec![in alloc; 0u8; max.min(LONGEST_READ)]?;
         open_at::<R>(&self.rt, &mut self.reading, alloc, name, from)?;
-        let read = read_on(&mut self.reading, name, from, &mut piece);
+        let read = read_on(&mut self.reading, name, from, piece.as_mut_slice());
         Ok(self.got(read, piece))
     }
 
     /// It takes memory for the name of a file that isn't open yet.
-    fn append(&mut self, alloc: Global, name: &str, piece: &[u8]) -> Result<SinkTook, Memory> {
+    fn append(&mut self, alloc: Global, name: &str, piece: &[u8]) -> Result<SinkTook, Memory>
+        ensures size { IfOk result (FitsWrite piece.now) }
+        ensures written { IfOk result (Appends name.now piece.now (counting self.old.faults)
+            (counting self.new.faults)) }
+        ensures err { OnErr result (counting self.new.faults ≡ counting self.old.faults) }
+        ensures filled { IfOk result (λ took. IfSome self.old.appended (λ one.
+            string_bytes one.name ≡ name.now → IsSomeAnd self.new.appended (λ now.
+            Fills (R.File.Write.contents one.file) (R.File.Write.contents now.file)
+            piece.now took))) }
+    {
         open_as::<R>(&self.rt, &mut self.appended, alloc, name)?;
         let wrote = append_to(&mut self.appended, name, piece);
         Ok(self.took(wrote))
@@ -79,6 +94,9 @@ impl<R: rt::Files> Files<R> {
     /// What is answered where the system read so: an error is a failure, and no bytes are the end.
     fn got(&mut self, read: io::Result<usize>, mut piece: Vec<u8>) -> SourceGot
         requires { ReadsAtMost read piece.items }
+        ensures reading { self.new.reading ≡ self.old.reading }
+        ensures given { (left : Option (List ℕ)) → 0 < vec_len piece
+            → ReadsFront left read piece.items → Gives left result }
         ensures failed { IfErr read (λ _. result ≡ SourceGot.Failed) }
         ensures size { FitsRead (vec_len piece) result }
         ensures left { (name : List ℕ)
@@ -99,7 +117,8 @@ impl<R: rt::Files> Files<R> {
 
     /// What is answered where the system wrote so: an error is a failure.
     fn took(&mut self, wrote: io::Result<usize>) -> SinkTook
-        ensures { Took wrote self.old.faults self.new.faults result }
+        ensures answered { Took wrote self.old.faults self.new.faults result }
+        ensures appended { self.new.appended ≡ self.old.appended }
     {
         match wrote {
             Ok(count) => SinkTook::Took(count),
@@ -109,104 +128,4 @@ impl<R: rt::Files> Files<R> {
             }
         }
     }
-}
-
-/// Opens the file of this name at this place, unless it stands there. Then no other is open, and where it can't be opened,
-/// or moved there, none is.
-fn open_at<R: rt::Files>(
-    rt: &R,
-    reading: &mut Option<Reading<R::File>>,
-    alloc: Global,
-    name: &str,
-    from: u64,
-) -> Result<(), Memory>
-    ensures stands { IfOk result (λ _. IfSome reading.new (λ one.
-        StandsAt name.now from (string_bytes one.name) one.at)) }
-{
-    if is_at(reading, name, from) {
-        return Ok(());
-    }
-    *reading = None;
-    *reading = opened(rt, alloc, name, from)?;
-    Ok(())
-}
-
-/// Whether a file is open, it is the one of this name, and it stands at this place.
-fn is_at<F>(reading: &Option<Reading<F>>, name: &str, from: u64) -> bool
-    ensures { result ≡ true → IfSome reading.now (λ one.
-        StandsAt name.now from (string_bytes one.name) one.at) }
-{
-    match reading {
-        Some(one) => one.at == from && one.name.as_str() == name,
-        None => false,
-    }
-}
-
-/// The file of this name at this place, or none where it can't be opened or moved there. A file that was just opened
-/// stands at its beginning.
-fn opened<R: rt::Files>(
-    rt: &R,
-    alloc: Global,
-    name: &str,
-    from: u64,
-) -> Result<Option<Reading<R::File>>, Memory>
-    ensures stands { IfOk result (λ opened. IfSome opened (λ one.
-        StandsAt name.now from (string_bytes one.name) one.at)) }
-{
-    let own = String::from_str(alloc, name)?;
-    let Ok(mut file) = fs::open(rt, name) else {
-        return Ok(None);
-    };
-    if from > 0 && file.seek(SeekFrom::Start(from)).is_err() {
-        return Ok(None);
-    }
-    Ok(Some(Reading {
-        name: own,
-        file,
-        at: from,
-    }))
-}
-
-/// Reads into the piece from this place of the file of this name on, at which the open one stands if any is, and says how
-/// many bytes came. None is the end. Where none is open it is an error. One that ended or failed is open no more. Name and
-/// place are there for the clauses.
-fn read_on<F: Read + Drop>(
-    reading: &mut Option<Reading<F>>,
-    _name: &str,
-    _from: u64,
-    piece: &mut [u8],
-) -> io::Result<usize>
-    requires stands { IfSome reading.old (λ one.
-        StandsAt _name.now _from (string_bytes one.name) one.at) }
-    ensures bound { ReadsAtMost result piece.new }
-    ensures closed { reading.old ≡ None → IsErr result }
-    ensures on { IfOk result (λ count. IfSome reading.new (λ one.
-        StandsAt _name.now (_from + count) (string_bytes one.name) one.at)) }
-    ensures failed { IfErr result (λ _. reading.new ≡ None) }
-{
-    let Some(Reading { name, mut file, at }) = reading.take() else {
-        return Err(io::Error::from(ErrorKind::NotFound));
-    };
-    let read = read_some(&mut file, piece);
-    if let Ok(count) = &read {
-        if *count > 0 {
-            if let Some(at) = at.checked_add(*count as u64) {
-                *reading = Some(Reading { name, file, at });
-            }
-        }
-    }
-    read
-}
-
-/// Reads once, and again where the read was interrupted.
-fn read_some<F: Read>(file: &mut F, piece: &mut [u8]) -> io::Result<usize>
-    ensures bound { ReadsAtMost result piece.new }
-{
-    for _ in 0..u64::MAX {
-        match file.read(piece) {
-            Err(error) if error.kind() == ErrorKind::Interrupted => {}
-            read => return read,
-        }
-    }
-    Err(io::Error::from(ErrorKind::Interrupted))
 }

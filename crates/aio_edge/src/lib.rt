@@ -4,11 +4,13 @@
 mod appended;
 mod files;
 mod output;
+mod reading;
 mod room;
 mod standard;
 #[cfg(test)]
 mod tests;
+mod writing;
 
 pub use files::Files;
-pub use output::Output;
+pub use output::{Output, Printing};
 pub use standard::hold_standard;

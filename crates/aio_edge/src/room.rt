@@ -3,6 +3,7 @@ ghost use Rattle.std.specs.Prelude.{◌<◌, IfOk};
 
 use libc::net::{POLLOUT, poll};
 use libc::types::{pollfd, rlimit};
+use std::fs::OpenFile;
 use std::io;
 use std::io::ErrorKind;
 
@@ -46,6 +47,17 @@ fn takes_bytes(fd: i32) -> io::Result<bool> {
 /// An error where a file that ends here may not grow: the system would end the program by SIGXFSZ.
 pub(crate) fn expect_place(end: u64) -> io::Result<()> {
     within(end, most_bytes())
+}
+
+/// An error where this file may not grow. Where the system doesn't tell how long it is, that is left to the write.
+pub(crate) fn expect_room_in<F: OpenFile>(file: &F) -> io::Result<()> {
+    if most_bytes() == u64::MAX {
+        return Ok(());
+    }
+    match file.metadata() {
+        Ok(found) if found.is_file() => expect_place(found.len()),
+        _ => Ok(()),
+    }
 }
 
 // An error where a file that ends here has as many bytes as it may have.

@@ -17,4 +17,4 @@ appends (Err error) name piece before now answer told =
 
 pub returns-clause-written : goal.returns-clause-written
 returns-clause-written g c =
-    appends c.append_to-wrote.result c.args.name.now c.args.piece.now c.args.self.now.faults c.took.new.self.faults c.took.result c.took.ensures
+    appends c.append_to-wrote.result c.args.name.now c.args.piece.now c.args.self.now.faults c.took.new.self.faults c.took.result c.took.ensures.answered
