@@ -11,19 +11,17 @@ use Rattle.model_wire.specs.Event.{Event}
 use Rattle.model_wire.specs.Journal.{Entry, Answered}
 use Rattle.model_wire.specs.Told.{Agrees, Rose, SinkSeen, WireSeen, took}
 use Rattle.model_wire.specs.Trace.{End, lines_of_events}
-use Rattle.model_machine.specs.Extra.{no_extra}
 use Rattle.model_machine.specs.Replies.{most_ids}
 use Rattle.model_machine.specs.Outcomes.{end_of}
 use Rattle.model_machine.specs.Run.{Run, run_after, run_on, turns_over}
-use Rattle.model_program.specs.Runs.{run}
+use Rattle.model_program.specs.Runs.{run_over}
 use Rattle.model_machine.specs.State.{State, start}
 use Rattle.model_machine.specs.Turn.{is_stalled, turn}
 use Rattle.model_machine.specs.Went.{Went, Goes, Stops, answers_in, state_of}
 use Rattle.law_runs.proofs.Turns.{run-grows}
 use Rattle.aio_wire.specs.Told.{refused_of}
 use Rattle.aio_wire.specs.declared.stop.Stop.TheVariants as stop
-use Rattle.aio_extra.specs.Nothing.{nothing_added}
-use Rattle.aio_extra.specs.declared.nothing.NoExtra.{NoExtra}
+use Rattle.aio_extra.specs.Added.{Added}
 use Rattle.law_runs.specs.Growth as growth
 use Rattle.aio_core.specs.Turned.{Begins, Ends, EndsAs, KernelGoesOn, KernelStandsFor, TurnsTo, held_tasks, stood_for, untaken}
 use Rattle.aio_core.specs.Asked.{Asks}
@@ -32,6 +30,7 @@ use Rattle.aio_core.proofs.Asked.{asks_none, asks_then}
 use Rattle.aio_core.specs.declared.kernel.Kernel.{Kernel}
 use Rattle.aio_core.specs.declared.went.Went as code
 use Rattle.aio_core.specs.declared.went.Went.TheVariants as went
+use Rattle.aio_drive.specs.Drive.{Runs}
 use Rattle.aio_drive.specs.Ending.{EndedSo}
 use Rattle.aio_drive.specs.declared.driver.Manner.{Manner}
 use Rattle.aio_drive.proofs.Fronts.{append-nil, took-nil, took_on}
@@ -39,20 +38,22 @@ use Rattle.aio_drive.proofs.Turns.{lines-append, run_on-last, run_on-turn}
 
 -- The state of a run after some turns, over entries that are left: the kernel stands for it, and the run from the start is
 -- the run from it.
-pub record At {g : _} (program : Program) (how : Manner) (made left : ℕ) (kernel : Kernel NoExtra g) (past : List Entry) (taken : List Event)
+pub record At {X : Type 0} {g : _} (a : Added X) (kept : a.Kept) (program : Program) (how : Manner) (made left : ℕ) (kernel : Kernel X g)
+    (past : List Entry) (taken : List Event)
     (rest : List Entry) : Type 0 where
-  pub s : State (Unit {0})
-  pub stands : KernelStandsFor nothing_added taken rest kernel s
+  pub s : State a.Kept
+  pub stands : KernelStandsFor a taken rest kernel s
   pub on : (allowed more : ℕ)
-      → run_on step_limit no_extra allowed (made + more) (start most_ids tt program (past ++ rest))
-      ≡ run_on step_limit no_extra allowed more s
-  pub begun : made ≡ 0 → s ≡ start most_ids tt program rest
+      → run_on step_limit a.meaning allowed (made + more) (start most_ids kept program (past ++ rest))
+      ≡ run_on step_limit a.meaning allowed more s
+  pub begun : made ≡ 0 → s ≡ start most_ids kept program rest
 
 -- A run of a program, driven in this manner, in which some turns were made and others are left: the answers so far, the
 -- events that were taken out, what was seen of the wire first and is now, and what the sink took.
-pub record IsDriven {g : _} (program : Program) (how : Manner) (made left : ℕ) (kernel : Kernel NoExtra g) (past : List Entry) (taken : List Event)
+pub record IsDriven {X : Type 0} {g : _} (a : Added X) (kept : a.Kept) (program : Program) (how : Manner) (made left : ℕ) (kernel : Kernel X g)
+    (past : List Entry) (taken : List Event)
     (first_seen now_seen : WireSeen) (first now : SinkSeen) : Type 0 where
-  pub at : (rest : List Entry) → At program how made left kernel past taken rest
+  pub at : (rest : List Entry) → At a kept program how made left kernel past taken rest
   pub none : untaken kernel ≡ []
   pub turns : made + left ≡ how.turns
   pub told : (rest : List Entry) → Agrees now_seen.left rest → Agrees first_seen.left (past ++ rest)
@@ -60,24 +61,25 @@ pub record IsDriven {g : _} (program : Program) (how : Manner) (made left : ℕ)
   pub sink : now ≡ took first (lines_of_events how.trace taken)
   pub begun : made ≡ 0 → taken ≡ []
 
-none-taken : {g : _} (kernel : Kernel NoExtra g) (s : State (Unit {0})) → s.events ≡ [] → s.events ≡ [] ++ untaken kernel → untaken kernel ≡ []
+none-taken : {X S : Type 0} {g : _} (kernel : Kernel X g) (s : State S) → s.events ≡ [] → s.events ≡ [] ++ untaken kernel → untaken kernel ≡ []
 none-taken kernel s none is = sym is ∙ none
 
 -- a run that begins
-pub running_first : {g : _} (program : Program) (how : Manner) (kernel : Kernel NoExtra g) (seen : WireSeen) (sink : SinkSeen)
-    → Begins nothing_added tt program kernel
-    → IsDriven program how 0 how.turns kernel [] [] seen seen sink sink
-running_first program how kernel seen sink begins =
+pub running_first : {X : Type 0} {g : _} (a : Added X) (kept : a.Kept) (program : Program) (how : Manner) (kernel : Kernel X g) (seen : WireSeen)
+    (sink : SinkSeen)
+    → Begins a kept program kernel
+    → IsDriven a kept program how 0 how.turns kernel [] [] seen seen sink sink
+running_first a kept program how kernel seen sink begins =
     record {
       at = λ rest. record {
-        s = start most_ids tt program rest;
+        s = start most_ids kept program rest;
         stands = begins rest;
         on = λ allowed more.
             let none : 0 + more ≡ more = omega arith in
-            ap (λ n. run_on step_limit no_extra allowed n (start most_ids tt program rest)) none;
+            ap (λ n. run_on step_limit a.meaning allowed n (start most_ids kept program rest)) none;
         begun = λ none. refl;
       };
-      none = none-taken kernel (start most_ids tt program []) refl (begins []).events;
+      none = none-taken kernel (start most_ids kept program []) refl (begins []).events;
       turns = omega arith;
       told = λ rest agrees. agrees;
       asked = asks_none seen;
@@ -94,58 +96,59 @@ pub rose_earlier : (first before now : ℕ) → first ≤ before → Rose before
 rose_earlier first before now earlier rose = omega arith
 
 -- The run ends here: over entries that agree with what was told, it has these events and this end. `taken` are those of the turns before.
-pub record EndsHere (program : Program) (how : Manner) (made : ℕ) (taken : List Event) (first_told : Option (List Entry)) (events : List Event)
+pub record EndsHere (runs : Runs) (how : Manner) (made : ℕ) (taken : List Event) (first_told : Option (List Entry)) (events : List Event)
     (end : End) : Type 0 where
   pub entries : List Entry
-  pub before : (run program entries made).events ≡ taken
+  pub before : (runs entries made).events ≡ taken
   pub agrees : Agrees first_told entries
-  pub is : run program entries how.turns ≡ record { events = events; end = end }
+  pub is : runs entries how.turns ≡ record { events = events; end = end }
 
 -- It was over at a call that failed.
-pub record FailsHere (program : Program) (how : Manner) (made : ℕ) (taken : List Event) (first_told : Option (List Entry)) (events : List Event) : Type 0 where
+pub record FailsHere (runs : Runs) (how : Manner) (made : ℕ) (taken : List Event) (first_told : Option (List Entry)) (events : List Event) : Type 0 where
   pub had : List Entry
-  pub before : (run program had made).events ≡ taken
+  pub before : (runs had made).events ≡ taken
   pub told : (rest : List Entry) × Agrees first_told (had ++ rest)
   pub call : Call
-  pub is : run program had how.turns ≡ record { events = events; end = ends.Over call }
+  pub is : runs had how.turns ≡ record { events = events; end = ends.Over call }
 
 -- the events go on from these, over entries that agree with what was told
-pub record GoesOnHere (program : Program) (how : Manner) (made : ℕ) (taken : List Event) (first_told : Option (List Entry)) (events : List Event)
+pub record GoesOnHere (runs : Runs) (how : Manner) (made : ℕ) (taken : List Event) (first_told : Option (List Entry)) (events : List Event)
     : Type 0 where
   pub entries : List Entry
-  pub before : (run program entries made).events ≡ taken
+  pub before : (runs entries made).events ≡ taken
   pub agrees : Agrees first_told entries
   pub more : List Event
-  pub is : (run program entries how.turns).events ≡ events ++ more
+  pub is : (runs entries how.turns).events ≡ events ++ more
 
-module _ {g : _} {program : Program} {how : Manner} {made left : ℕ} {kernel : Kernel NoExtra g} {past : List Entry} {taken : List Event}
+module _ {X : Type 0} {g : _} {a : Added X} {kept : a.Kept} {program : Program} {how : Manner} {made left : ℕ} {kernel : Kernel X g} {past : List Entry}
+    {taken : List Event}
     {first_seen now_seen : WireSeen} {first now : SinkSeen}
-    (running : IsDriven program how made left kernel past taken first_seen now_seen first now) where
+    (running : IsDriven a kept program how made left kernel past taken first_seen now_seen first now) where
   -- no event is in the kernel
   pub told_all : (rest : List Entry) → (running.at rest).s.events ≡ taken
   told_all rest =
       (running.at rest).stands.events ∙ ap (λ (es : List Event). taken ++ es) running.none ∙ append-nil taken
 
   -- the run from the start is the run from here
-  pub ran : (rest : List Entry) → run program (past ++ rest) how.turns ≡ run_on step_limit no_extra how.turns left (running.at rest).s
+  pub ran : (rest : List Entry) → run_over a.meaning kept program (past ++ rest) how.turns ≡ run_on step_limit a.meaning how.turns left (running.at rest).s
   ran rest =
-      ap (λ n. run_on step_limit no_extra how.turns n (start most_ids tt program (past ++ rest))) (sym running.turns)
+      ap (λ n. run_on step_limit a.meaning how.turns n (start most_ids kept program (past ++ rest))) (sym running.turns)
       ∙ (running.at rest).on how.turns left
 
   -- the turns so far are all that it makes where no more are allowed
-  pub ran_so_far : (rest : List Entry) → (run program (past ++ rest) made).events ≡ taken
+  pub ran_so_far : (rest : List Entry) → (run_over a.meaning kept program (past ++ rest) made).events ≡ taken
   ran_so_far rest =
       let here = running.at rest in
       let all : made ≡ made + 0 = omega arith in
-      ap (λ n. (run_on step_limit no_extra made n (start most_ids tt program (past ++ rest))).events) all
-      ∙ ap (λ (it : Run). it.events) (here.on made 0 ∙ run_on-last made here.s) ∙ told_all rest
+      ap (λ n. (run_on step_limit a.meaning made n (start most_ids kept program (past ++ rest))).events) all
+      ∙ ap (λ (it : Run). it.events) (here.on made 0 ∙ run_on-last a.meaning made here.s) ∙ told_all rest
 
   -- what was written is a front of the run
-  pub goes_on_here : GoesOnHere program how made taken first_seen.left taken
+  pub goes_on_here : GoesOnHere (run_over a.meaning kept program) how made taken first_seen.left taken
   goes_on_here =
       let (rest, agrees) = agreed now_seen.left in
       let here = running.at rest in
-      let grew = run-grows step_limit no_extra how.turns left here.s in
+      let grew = run-grows step_limit a.meaning how.turns left here.s in
       record {
         entries = past ++ rest;
         before = ran_so_far rest;
@@ -156,9 +159,9 @@ module _ {g : _} {program : Program} {how : Manner} {made left : ℕ} {kernel : 
 
   -- where no turn is left
   pub ends_last : left ≡ 0 → (end : End)
-      → ((past : List Event) (answers : List Entry) (s : State (Unit {0})) → KernelStandsFor nothing_added past answers kernel s
-      → end ≡ turns_over (is_stalled no_extra s) how.turns)
-      → EndsHere program how made taken first_seen.left taken end
+      → ((past : List Event) (answers : List Entry) (s : State a.Kept) → KernelStandsFor a past answers kernel s
+      → end ≡ turns_over (is_stalled a.meaning s) how.turns)
+      → EndsHere (run_over a.meaning kept program) how made taken first_seen.left taken end
   ends_last none end is =
       let (rest, agrees) = agreed now_seen.left in
       let here = running.at rest in
@@ -167,7 +170,7 @@ module _ {g : _} {program : Program} {how : Manner} {made left : ℕ} {kernel : 
         before = ran_so_far rest;
         agrees = running.told rest agrees;
         is =
-            ran rest ∙ ap (λ n. run_on step_limit no_extra how.turns n here.s) none ∙ run_on-last how.turns here.s
+            ran rest ∙ ap (λ n. run_on step_limit a.meaning how.turns n here.s) none ∙ run_on-last a.meaning how.turns here.s
             ∙ ap (λ (e : End). record { events = here.s.events; end = e }) (sym (is taken rest here.s here.stands))
             ∙ ap (λ (es : List Event). record { events = es; end = end }) (told_all rest);
       }
@@ -179,26 +182,27 @@ IsTold (went.Stopped stop.Memory) = ⊥
 IsTold _ = Unit {0}
 
 -- a turn, by what was said of it
-module _ {g : _} {program : Program} {how : Manner} {made left : ℕ} {kernel : Kernel NoExtra g} {past : List Entry} {taken : List Event}
-    {first_seen now_seen : WireSeen} {first sink : SinkSeen} (new : Kernel NoExtra g) (new_seen : WireSeen)
-    (running : IsDriven program how made (suc left) kernel past taken first_seen now_seen first sink) where
+module _ {X : Type 0} {g : _} {a : Added X} {kept : a.Kept} {program : Program} {how : Manner} {made left : ℕ} {kernel : Kernel X g} {past : List Entry}
+    {taken : List Event}
+    {first_seen now_seen : WireSeen} {first sink : SinkSeen} (new : Kernel X g) (new_seen : WireSeen)
+    (running : IsDriven a kept program how made (suc left) kernel past taken first_seen now_seen first sink) where
   -- what happened so far
   abbrev so_far : List Event
   so_far = taken ++ untaken new
 
-  on_turn : (entries : List Entry) (went : Went (Unit {0})) → turn step_limit no_extra (running.at entries).s ≡ went
-      → run program (past ++ entries) how.turns ≡ run_after (run_on step_limit no_extra how.turns left) went
-  on_turn entries went e = ran running entries ∙ run_on-turn how.turns left (running.at entries).s went e
+  on_turn : (entries : List Entry) (went : Went a.Kept) → turn step_limit a.meaning (running.at entries).s ≡ went
+      → run_over a.meaning kept program (past ++ entries) how.turns ≡ run_after (run_on step_limit a.meaning how.turns left) went
+  on_turn entries went e = ran running entries ∙ run_on-turn a.meaning how.turns left (running.at entries).s went e
 
-  ends_with : (entries : List Entry) (ways : End → State (Unit {0}) → Type 0) → (it : Ends nothing_added ways taken new (running.at entries).s)
-      → run program (past ++ entries) how.turns ≡ record { events = so_far; end = it.end }
+  ends_with : (entries : List Entry) (ways : End → State a.Kept → Type 0) → (it : Ends a ways taken new (running.at entries).s)
+      → run_over a.meaning kept program (past ++ entries) how.turns ≡ record { events = so_far; end = it.end }
   ends_with entries ways it =
       on_turn entries (Stops it.end it.last) it.stops ∙ ap (λ (es : List Event). record { events = es; end = it.end }) it.told
 
   -- over entries that agree with what is told
-  ends_over : (entries : List Entry) (ways : End → State (Unit {0}) → Type 0) → Agrees now_seen.left entries
-      → (it : Ends nothing_added ways taken new (running.at entries).s) → (end : End) → end ≡ it.end
-      → EndsHere program how made taken first_seen.left so_far end
+  ends_over : (entries : List Entry) (ways : End → State a.Kept → Type 0) → Agrees now_seen.left entries
+      → (it : Ends a ways taken new (running.at entries).s) → (end : End) → end ≡ it.end
+      → EndsHere (run_over a.meaning kept program) how made taken first_seen.left so_far end
   ends_over entries ways agrees it end is =
       record {
         entries = past ++ entries;
@@ -207,22 +211,22 @@ module _ {g : _} {program : Program} {how : Manner} {made left : ℕ} {kernel : 
         is = ends_with entries ways it ∙ ap (λ (e : End). record { events = so_far; end = e }) (sym is);
       }
 
-  ends_after : (had : List Answer) (ways : End → State (Unit {0}) → Type 0) → Takes now_seen.left new_seen.left had
-      → EndsAs nothing_added had AnyLeft ways kernel new
-      → (rest : List Entry) → Agrees new_seen.left rest → Ends nothing_added ways taken new (running.at (map Answered had ++ rest)).s
+  ends_after : (had : List Answer) (ways : End → State a.Kept → Type 0) → Takes now_seen.left new_seen.left had
+      → EndsAs a had AnyLeft ways kernel new
+      → (rest : List Entry) → Agrees new_seen.left rest → Ends a ways taken new (running.at (map Answered had ++ rest)).s
   ends_after had ways takes turns rest agrees =
       let here = running.at (map Answered had ++ rest) in turns taken rest here.s tt here.stands
 
-  ends_so : (had : List Answer) (wanted : End) → Takes now_seen.left new_seen.left had → EndsAs nothing_added had AnyLeft (Is wanted) kernel new
-      → (end : End) → end ≡ wanted → EndsHere program how made taken first_seen.left so_far end
+  ends_so : (had : List Answer) (wanted : End) → Takes now_seen.left new_seen.left had → EndsAs a had AnyLeft (Is wanted) kernel new
+      → (end : End) → end ≡ wanted → EndsHere (run_over a.meaning kept program) how made taken first_seen.left so_far end
   ends_so had wanted takes turns end is =
       let (rest, agrees) = agreed new_seen.left in
       let it = ends_after had (Is wanted) takes turns rest agrees in
       ends_over (map Answered had ++ rest) (Is wanted) (takes rest agrees) it end (is ∙ sym it.way)
 
   ends_finished : (had : List Answer) (outcome : Outcome) → Takes now_seen.left new_seen.left had
-      → EndsAs nothing_added had AnyLeft (IsFinished outcome (held_tasks new)) kernel new
-      → (end : End) → end ≡ end_of outcome → EndsHere program how made taken first_seen.left so_far end
+      → EndsAs a had AnyLeft (IsFinished outcome (held_tasks new)) kernel new
+      → (end : End) → end ≡ end_of outcome → EndsHere (run_over a.meaning kept program) how made taken first_seen.left so_far end
   ends_finished had outcome takes turns end is =
       let (rest, agrees) = agreed new_seen.left in
       let it = ends_after had (IsFinished outcome (held_tasks new)) takes turns rest agrees in
@@ -240,16 +244,16 @@ module _ {g : _} {program : Program} {how : Manner} {made left : ℕ} {kernel : 
       at (inr more) = let most : count ≡ 2 ^ 64 - 1 = omega (arith, is, more) in absurd (never most)
 
   ends_misfit : (had : List Answer) (count : ℕ) (call : Call) → (count == 2 ^ 64 - 1) ≡ false → Takes now_seen.left new_seen.left had
-      → EndsAs nothing_added had AnyLeft (IsMismatch count call) kernel new
-      → (end : End) → end ≡ ends.Mismatch count call → EndsHere program how made taken first_seen.left so_far end
+      → EndsAs a had AnyLeft (IsMismatch count call) kernel new
+      → (end : End) → end ≡ ends.Mismatch count call → EndsHere (run_over a.meaning kept program) how made taken first_seen.left so_far end
   ends_misfit had count call held takes turns end is =
       let (rest, agrees) = agreed new_seen.left in
       let it = ends_after had (IsMismatch count call) takes turns rest agrees in
       ends_over (map Answered had ++ rest) (IsMismatch count call) (takes rest agrees) it end
       (is ∙ ap (λ n. ends.Mismatch n call) (is_held count (answers_in it.last.events) it.way.1 held) ∙ sym it.way.0)
 
-  pub ended : (said : code.Went) → TurnsTo nothing_added now_seen new_seen kernel new said
-      → (end : End) → EndedSo end said → EndsHere program how made taken first_seen.left so_far end
+  pub ended : (said : code.Went) → TurnsTo a now_seen new_seen kernel new said
+      → (end : End) → EndedSo end said → EndsHere (run_over a.meaning kept program) how made taken first_seen.left so_far end
   ended went.Went comes end is = absurd is
   ended (went.Finished outcome) (had, (takes, turns)) end is = ends_finished had outcome takes turns end is
   ended went.Stalled (same, turns) end is =
@@ -273,8 +277,8 @@ module _ {g : _} {program : Program} {how : Manner} {made left : ℕ} {kernel : 
   had_so_far : (had : List Answer) (rest : List Entry) → past ++ (map Answered had ++ rest) ≡ (past ++ (map Answered had ++ [])) ++ rest
   had_so_far had rest = simp (append_assoc, append-nil)
 
-  pub fails_so : (call : Call) → TurnsTo nothing_added now_seen new_seen kernel new (went.Stopped (stop.Failed call))
-      → FailsHere program how made taken first_seen.left so_far
+  pub fails_so : (call : Call) → TurnsTo a now_seen new_seen kernel new (went.Stopped (stop.Failed call))
+      → FailsHere (run_over a.meaning kept program) how made taken first_seen.left so_far
   fails_so call (had, (takes, turns, rose)) =
       let entries = map Answered had ++ [] in
       let it = turns taken [] (running.at entries).s refl (running.at entries).stands in
@@ -290,24 +294,25 @@ module _ {g : _} {program : Program} {how : Manner} {made left : ℕ} {kernel : 
         is = ends_with entries (Is (ends.Over call)) it ∙ ap (λ (e : End). record { events = so_far; end = e }) it.way;
       }
 
-  pub fails : (said : code.Went) → TurnsTo nothing_added now_seen new_seen kernel new said → (call : Call)
-      → said ≡ went.Stopped (stop.Failed call) → FailsHere program how made taken first_seen.left so_far × Rose now_seen.faults new_seen.faults
+  pub fails : (said : code.Went) → TurnsTo a now_seen new_seen kernel new said → (call : Call)
+      → said ≡ went.Stopped (stop.Failed call) → FailsHere
+      (run_over a.meaning kept program) how made taken first_seen.left so_far × Rose now_seen.faults new_seen.faults
   fails said comes call is =
-      let so = subst (λ (w : code.Went). TurnsTo nothing_added now_seen new_seen kernel new w) is comes in
+      let so = subst (λ (w : code.Went). TurnsTo a now_seen new_seen kernel new w) is comes in
       (fails_so call so, so.1.2)
 
-  module _ (had : List Answer) (takes : Takes now_seen.left new_seen.left had) (goes : KernelGoesOn nothing_added had kernel new) where
+  module _ (had : List Answer) (takes : Takes now_seen.left new_seen.left had) (goes : KernelGoesOn a had kernel new) where
     goes_over : (rest : List Entry)
-        → (now : State (Unit {0})) × ((turn step_limit no_extra (running.at (map Answered had ++ rest)).s ≡ Goes now)
-        × KernelStandsFor nothing_added taken rest new now)
+        → (now : State a.Kept) × ((turn step_limit a.meaning (running.at (map Answered had ++ rest)).s ≡ Goes now)
+        × KernelStandsFor a taken rest new now)
     goes_over rest = let here = running.at (map Answered had ++ rest) in goes taken rest here.s here.stands
 
     -- the run goes on after it
-    pub goes_further : GoesOnHere program how made taken first_seen.left so_far
+    pub goes_further : GoesOnHere (run_over a.meaning kept program) how made taken first_seen.left so_far
     goes_further =
         let (rest, agrees) = agreed new_seen.left in
         let (now, (went, stands)) = goes_over rest in
-        let grew = run-grows step_limit no_extra how.turns left now in
+        let grew = run-grows step_limit a.meaning how.turns left now in
         record {
           entries = past ++ (map Answered had ++ rest);
           before = ran_so_far running (map Answered had ++ rest);
@@ -321,12 +326,12 @@ module _ {g : _} {program : Program} {how : Manner} {made left : ℕ} {kernel : 
     regrouped : (rest : List Entry) → past ++ (map Answered had ++ rest) ≡ (past ++ map Answered had) ++ rest
     regrouped rest = sym (append_assoc past (map Answered had) rest)
 
-    pub turned_on : (after : Kernel NoExtra g) (sink_after : SinkSeen)
-        → ((past : List Event) (answers : List Entry) (s : State (Unit {0})) → KernelStandsFor nothing_added past answers new s
-        → KernelStandsFor nothing_added (past ++ untaken new) answers after s)
+    pub turned_on : (after : Kernel X g) (sink_after : SinkSeen)
+        → ((past : List Event) (answers : List Entry) (s : State a.Kept) → KernelStandsFor a past answers new s
+        → KernelStandsFor a (past ++ untaken new) answers after s)
         → untaken after ≡ [] → sink_after ≡ took sink (lines_of_events how.trace (untaken new))
         → Asks so_far first_seen new_seen
-        → IsDriven program how (made + 1) left after (past ++ map Answered had) so_far first_seen new_seen first sink_after
+        → IsDriven a kept program how (made + 1) left after (past ++ map Answered had) so_far first_seen new_seen first sink_after
     turned_on after sink_after takes_out none wrote asked =
         record {
           at = λ rest.
@@ -336,11 +341,11 @@ module _ {g : _} {program : Program} {how : Manner} {made left : ℕ} {kernel : 
                 stands = takes_out taken rest now stands;
                 on = λ allowed more.
                     let one : (made + 1) + more ≡ made + suc more = omega arith in
-                    ap (λ n. run_on step_limit no_extra allowed n (start most_ids tt program ((past ++ map Answered had) ++ rest))) one
-                    ∙ ap (λ (es : List Entry). run_on step_limit no_extra allowed (made + suc more) (start most_ids tt program es))
+                    ap (λ n. run_on step_limit a.meaning allowed n (start most_ids kept program ((past ++ map Answered had) ++ rest))) one
+                    ∙ ap (λ (es : List Entry). run_on step_limit a.meaning allowed (made + suc more) (start most_ids kept program es))
                     (sym (regrouped rest))
                     ∙ (running.at (map Answered had ++ rest)).on allowed (suc more)
-                    ∙ run_on-turn allowed more (running.at (map Answered had ++ rest)).s (Goes now) went;
+                    ∙ run_on-turn a.meaning allowed more (running.at (map Answered had ++ rest)).s (Goes now) went;
                 begun = λ none. absurd (omega arith);
               };
           none = none;
@@ -355,7 +360,8 @@ module _ {g : _} {program : Program} {how : Manner} {made left : ℕ} {kernel : 
         }
 
   -- ---- the first of the run, whatever came of the turn
-  here_of : (end : End) → EndsHere program how made taken first_seen.left so_far end → GoesOnHere program how made taken first_seen.left so_far
+  here_of : (end : End) → EndsHere (run_over a.meaning kept program) how made taken first_seen.left so_far end → GoesOnHere
+      (run_over a.meaning kept program) how made taken first_seen.left so_far
   here_of end here = record {
     entries = here.entries;
     before = here.before;
@@ -365,8 +371,8 @@ module _ {g : _} {program : Program} {how : Manner} {made left : ℕ} {kernel : 
   }
 
   -- all that was told is the first of it
-  pub told_here : (said : code.Went) → IsTold said → TurnsTo nothing_added now_seen new_seen kernel new said
-      → GoesOnHere program how made taken first_seen.left so_far
+  pub told_here : (said : code.Went) → IsTold said → TurnsTo a now_seen new_seen kernel new said
+      → GoesOnHere (run_over a.meaning kept program) how made taken first_seen.left so_far
   told_here went.Went told (had, (takes, goes)) = goes_further had takes goes
   told_here (went.Finished outcome) told comes = here_of (end_of outcome) (ended (went.Finished outcome) comes (end_of outcome) refl)
   told_here went.Stalled told comes = here_of ends.Stalled (ended went.Stalled comes ends.Stalled refl)
@@ -383,24 +389,25 @@ module _ {g : _} {program : Program} {how : Manner} {made left : ℕ} {kernel : 
   told_here (went.Stopped stop.Memory) told comes = absurd told
 
   -- where memory was refused in it, what was asked by then is
-  after_grows : (went : Went (Unit {0})) → growth.EventsGrow (state_of went).events (run_after (run_on step_limit no_extra how.turns left) went).events
-  after_grows (Goes now) = run-grows step_limit no_extra how.turns left now
+  after_grows : (went : Went a.Kept) → growth.EventsGrow (state_of went).events (run_after (run_on step_limit a.meaning how.turns left) went).events
+  after_grows (Goes now) = run-grows step_limit a.meaning how.turns left now
   after_grows (Stops end last) = ([], sym (append-nil last.events))
 
   pub starved_here : (wire : WireTurn) → wire.before ≡ now_seen
-      → (it : IsStarved no_extra wire (stood_for nothing_added kernel) (untaken kernel)) → GoesOnHere program how made taken first_seen.left (taken ++ it.first)
+      → (it : IsStarved a.meaning wire (stood_for a kernel) (untaken kernel)) → GoesOnHere (run_over a.meaning kept program) how made taken first_seen.left
+      (taken ++ it.first)
   starved_here wire same it =
       let entries = map Answered it.had ++ it.left.0 in
       let here = running.at entries in
       let begun = it.begins taken it.left.0 here.s here.stands in
-      let grown = after_grows (turn step_limit no_extra here.s) in
+      let grown = after_grows (turn step_limit a.meaning here.s) in
       record {
         entries = past ++ entries;
         before = ran_so_far running entries;
         agrees = running.told entries (subst (λ (w : WireSeen). Agrees w.left entries) same it.left.1);
         more = begun.0 ++ grown.0;
         is =
-            ap (λ (r : Run). r.events) (on_turn entries (turn step_limit no_extra here.s) refl) ∙ grown.1
+            ap (λ (r : Run). r.events) (on_turn entries (turn step_limit a.meaning here.s) refl) ∙ grown.1
             ∙ ap (λ (es : List Event). es ++ grown.0) begun.1 ∙ append_assoc (taken ++ (untaken kernel ++ it.first)) begun.0 grown.0
             ∙ ap (λ (es : List Event). (taken ++ (es ++ it.first)) ++ (begun.0 ++ grown.0)) running.none;
       }

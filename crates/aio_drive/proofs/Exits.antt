@@ -8,14 +8,14 @@ use Rattle.model_wire.specs.Event.{Event, calls_in}
 use Rattle.model_wire.specs.Journal.{Entry}
 use Rattle.model_wire.specs.Told.{Rose, SinkSeen, WireSeen}
 use Rattle.model_wire.specs.Trace.{End, lines_of_events}
-use Rattle.model_machine.specs.Extra.{no_extra}
+use Rattle.model_machine.specs.Extra.{Extra}
 use Rattle.model_machine.specs.Replies.{most_ids}
 use Rattle.model_machine.specs.State.{State, start}
 use Rattle.model_machine.specs.Turn.{turn}
 use Rattle.model_machine.specs.Went.{Stops}
+use Rattle.model_program.specs.Runs.{run_over}
 use Rattle.aio_wire.specs.declared.stop.Stop.TheVariants as stop
-use Rattle.aio_extra.specs.Nothing.{nothing_added}
-use Rattle.aio_extra.specs.declared.nothing.NoExtra.{NoExtra}
+use Rattle.aio_extra.specs.Added.{Added}
 use Rattle.aio_core.specs.Asked.{Asks}
 use Rattle.aio_core.specs.Turned.{TurnsTo, stood_for, untaken}
 use Rattle.aio_core.specs.Turning.{AsksBy, IsStarved, OfFailing, StarvesAs, UnlessFailed, WireTurn}
@@ -37,10 +37,10 @@ use Rattle.aio_drive.proofs.Telling.{records_none}
 use Rattle.aio_drive.proofs.Written.{fails_silent, goes_early, nothing_at_all}
 
 -- a run that begins asks
-pub start-asks : (program : Program) (last : State (Unit {0}))
-    → turn step_limit no_extra (start most_ids tt program []) ≡ Stops ends.Stalled last → ⊥
+pub start-asks : {S : Type 0} (added : Extra S) (first : S) (program : Program) (last : State S)
+    → turn step_limit added (start most_ids first program []) ≡ Stops ends.Stalled last → ⊥
 unfolding turn
-start-asks program last e = cc e
+start-asks added first program last e = cc e
 
 -- what was answered is what was said, unless memory was refused
 pub said_as : (result said : code.Went) → (result ≡ said) ⊎ (result ≡ went.Stopped stop.Memory) → (result ≡ went.Stopped stop.Memory → ⊥)
@@ -68,18 +68,19 @@ ended-quiet said end fact is quiet = at (failed_or said fact quiet)
     at (inl (call, failed)) = absurd (subst (λ (w : code.Went). EndedSo end w) failed is)
     at (inr holds) = holds
 
-module _ {g : _} {program : Program} {how : Manner} {made left : ℕ} {kernel : Kernel NoExtra g} {past : List Entry} {taken : List Event}
-    {first_seen now_seen : WireSeen} {first sink : SinkSeen} (new : Kernel NoExtra g) (new_seen : WireSeen)
-    (running : IsDriven program how made (suc left) kernel past taken first_seen now_seen first sink) where
+module _ {X : Type 0} {g : _} {a : Added X} {kept : a.Kept} {program : Program} {how : Manner} {made left : ℕ} {kernel : Kernel X g} {past : List Entry}
+    {taken : List Event}
+    {first_seen now_seen : WireSeen} {first sink : SinkSeen} (new : Kernel X g) (new_seen : WireSeen)
+    (running : IsDriven a kept program how made (suc left) kernel past taken first_seen now_seen first sink) where
   -- nothing of a run is told in its first turn over a wire that fails at each call
-  pub alive : (said : code.Went) → TurnsTo nothing_added now_seen new_seen kernel new said → IsTold said → OfFailing said → made ≡ 0 → ⊥
+  pub alive : (said : code.Went) → TurnsTo a now_seen new_seen kernel new said → IsTold said → OfFailing said → made ≡ 0 → ⊥
   alive went.Went comes told failing none = failing
   alive (went.Finished outcome) comes told failing none = failing
   alive went.Stalled (same, turns) told failing none =
       let here = running.at [] in
       let it = turns taken [] here.s tt here.stands in
-      start-asks program it.last
-      (subst (λ (s : State (Unit {0})). turn step_limit no_extra s ≡ Stops ends.Stalled it.last) (here.begun none)
+      start-asks a.meaning kept program it.last
+      (subst (λ (s : State a.Kept). turn step_limit a.meaning s ≡ Stops ends.Stalled it.last) (here.begun none)
       (it.stops ∙ ap (λ (e : End). Stops e it.last) it.way))
   alive (went.Runaway task) comes told failing none = failing
   alive (went.Stopped (stop.Over call)) comes told failing none = failing
@@ -101,9 +102,10 @@ ended-told (went.Stopped (stop.Failed call)) end so = so
 ended-told (went.Stopped stop.Memory) end so = so
 
 -- Memory was refused in the turn, or after it: nothing more was recorded or written.
-module _ {g : _} {program : Program} {how : Manner} {made left : ℕ} {kernel : Kernel NoExtra g} {past : List Entry} {taken : List Event}
-    {now : WireSeen} {first sink : SinkSeen} (new : Kernel NoExtra g) (seen last : WireSeen) (fault : End) (fails fails_now quiet : Type 0)
-    (shelf : Recording) (same : Type 0) (running : IsDriven program how made (suc left) kernel past taken seen now first sink)
+module _ {X : Type 0} {g : _} {a : Added X} {kept : a.Kept} {program : Program} {how : Manner} {made left : ℕ} {kernel : Kernel X g} {past : List Entry}
+    {taken : List Event}
+    {now : WireSeen} {first sink : SinkSeen} (new : Kernel X g) (seen last : WireSeen) (fault : End) (fails fails_now quiet : Type 0)
+    (shelf : Recording) (same : Type 0) (running : IsDriven a kept program how made (suc left) kernel past taken seen now first sink)
     (rose : Rose now.faults last.faults → Rose seen.faults last.faults) (fails_then : fails → (made ≡ 0) × fails_now)
     (noted : Records shelf.name (recorded taken) shelf.old shelf.new) (unmade : made ≡ 0 → same) where
   abbrev it : Driven
@@ -113,13 +115,13 @@ module _ {g : _} {program : Program} {how : Manner} {made left : ℕ} {kernel : 
   over quiet_now = record { before = now; after = last; fails = fails_now; quiet = quiet_now }
 
   abbrev EndsUnsaid : SinkSeen → SinkSeen → Type 0
-  EndsUnsaid old late = EndsEarly (MayDrive program how fault (wire_until Memory it)) (IsUntold it) old late Memory
+  EndsUnsaid old late = EndsEarly (MayDrive (run_over a.meaning kept program) how fault (wire_until Memory it)) (IsUntold it) old late Memory
 
   -- these events were told besides, and one call more was asked at most
-  cut_there : (more besides : List Event) → GoesOnHere program how made taken seen.left (taken ++ more) → (fails → ⊥) → quiet
+  cut_there : (more besides : List Event) → GoesOnHere (run_over a.meaning kept program) how made taken seen.left (taken ++ more) → (fails → ⊥) → quiet
       → length (calls_in besides) ≤ 1 → Asks ((taken ++ more) ++ besides) seen last → EndsUnsaid first sink
   cut_there more besides here alive_ holds one asked =
-      goes_early program how fault it made first sink sink shelf.new taken more running.sink noted here (alive_, holds) Memory (
+      goes_early (run_over a.meaning kept program) how fault it made first sink sink shelf.new taken more running.sink noted here (alive_, holds) Memory (
         taken ++ more,
         here.more,
         here.is,
@@ -128,7 +130,7 @@ module _ {g : _} {program : Program} {how : Manner} {made left : ℕ} {kernel : 
       ) ([], (lines_of_events how.trace more, refl), sym (took-nil sink))
 
   -- a turn that was made
-  told_there : (said : code.Went) → IsTold said → TurnsTo nothing_added now last kernel new said → (fails_now → OfFailing said) → quiet
+  told_there : (said : code.Went) → IsTold said → TurnsTo a now last kernel new said → (fails_now → OfFailing said) → quiet
       → Asks (taken ++ untaken new) seen last → EndsUnsaid first sink
   told_there said told comes failing holds asked =
       cut_there (untaken new) [] (told_here new last running said told comes)
@@ -137,7 +139,7 @@ module _ {g : _} {program : Program} {how : Manner} {made left : ℕ} {kernel : 
 
   -- one in which memory was refused
   module _ (quiet_now : Type 0)
-      (starved : IsStarved no_extra (over quiet_now) (stood_for nothing_added kernel) (untaken kernel))
+      (starved : IsStarved a.meaning (over quiet_now) (stood_for a kernel) (untaken kernel))
       (holds : quiet) where
     all_asked : Asks ((taken ++ starved.first) ++ starved.more) seen last
     all_asked =
@@ -151,7 +153,7 @@ module _ {g : _} {program : Program} {how : Manner} {made left : ℕ} {kernel : 
     -- nothing was asked but one call at most
     unbegun : made ≡ 0 → starved.first ≡ [] → EndsUnsaid first sink
     unbegun none empty =
-        nothing_at_all (MayDrive program how fault (wire_until Memory it)) (IsUntold it) first sink
+        nothing_at_all (MayDrive (run_over a.meaning kept program) how fault (wire_until Memory it)) (IsUntold it) first sink
         (lines_of_events how.trace taken) running.sink (ap (lines_of_events how.trace) (running.begun none)) (
           (
             holds,
@@ -175,15 +177,15 @@ module _ {g : _} {program : Program} {how : Manner} {made left : ℕ} {kernel : 
         by_turns zero none = some starved.first refl none
         by_turns (suc n) is = hungry (λ all. absurd (let none = sym is ∙ (fails_then all).0 in cc none))
 
-  pub refused : (quiet_now : Type 0) (said : code.Went) → TurnsTo nothing_added now last kernel new said → UnlessFailed quiet said
+  pub refused : (quiet_now : Type 0) (said : code.Went) → TurnsTo a now last kernel new said → UnlessFailed quiet said
       → AsksBy (untaken kernel) (untaken new) now last said
-      → StarvesAs no_extra (over quiet_now) (stood_for nothing_added kernel) (untaken kernel) said
+      → StarvesAs a.meaning (over quiet_now) (stood_for a kernel) (untaken kernel) said
       → (fails_now → OfFailing said) → EndsUnsaid first sink
   refused quiet_now said comes still asks starved failing = at said comes still (λ other. asked_all new last running said asks other) starved failing
     where
-      at : (said : code.Went) → TurnsTo nothing_added now last kernel new said → UnlessFailed quiet said
+      at : (said : code.Went) → TurnsTo a now last kernel new said → UnlessFailed quiet said
           → ((said ≡ went.Stopped stop.Memory → ⊥) → Asks (taken ++ untaken new) seen last)
-          → StarvesAs no_extra (over quiet_now) (stood_for nothing_added kernel) (untaken kernel) said
+          → StarvesAs a.meaning (over quiet_now) (stood_for a kernel) (untaken kernel) said
           → (fails_now → OfFailing said) → EndsUnsaid first sink
       at went.Went comes still asked starved failing = told_there went.Went tt comes failing still (asked (λ e. cc e))
       at (went.Finished outcome) comes still asked starved failing = told_there (went.Finished outcome) tt comes failing still (asked (λ e. cc e))
@@ -196,6 +198,6 @@ module _ {g : _} {program : Program} {how : Manner} {made left : ℕ} {kernel : 
       at (went.Stopped (stop.Mismatch count call)) comes still asked starved failing =
           told_there (went.Stopped (stop.Mismatch count call)) tt comes failing still (asked (λ e. cc e))
       at (went.Stopped (stop.Failed call)) comes still asked starved failing =
-          fails_silent program how fault it made first sink sink shelf.new taken (untaken new) running.sink noted
+          fails_silent (run_over a.meaning kept program) how fault it made first sink sink shelf.new taken (untaken new) running.sink noted
           (fails_so new last running call comes) (rose comes.1.2) (asked (λ e. cc e)) (records_none shelf.name shelf.new) refl
       at (went.Stopped stop.Memory) comes still asked starved failing = starves quiet_now starved still

@@ -8,18 +8,17 @@ use Rattle.model_wire.specs.Event.{Event}
 use Rattle.model_wire.specs.Journal.{Entry, Answered}
 use Rattle.model_wire.specs.Told.{Rose, ShelfSeen, SinkSeen, WireSeen, took}
 use Rattle.model_wire.specs.Trace.{End, end_text, line, lines_of_events}
-use Rattle.model_machine.specs.Extra.{no_extra}
 use Rattle.model_machine.specs.Outcomes.{end_of}
 use Rattle.model_machine.specs.State.{State}
 use Rattle.model_machine.specs.Turn.{is_stalled}
+use Rattle.model_program.specs.Runs.{run_over}
 use Rattle.model_program.specs.Written.{WritesWhole}
 use Rattle.model_program.specs.Transcript.{status_of}
 use Rattle.model_commands.specs.Causes.{IsCaused}
 use Rattle.model_commands.specs.Recorded.{Records, recorded}
 use Rattle.aio_wire.specs.Replied.{Stays}
 use Rattle.aio_wire.specs.declared.stop.Stop.TheVariants as stop
-use Rattle.aio_extra.specs.Nothing.{nothing_added}
-use Rattle.aio_extra.specs.declared.nothing.NoExtra.{NoExtra}
+use Rattle.aio_extra.specs.Added.{Added}
 use Rattle.aio_core.specs.Asked.{Asks}
 use Rattle.aio_core.specs.Turned.{Begins, KernelGoesOn, KernelStandsFor, TurnedBy, TurnsTo, ended as kernel_ended, untaken}
 use Rattle.aio_core.specs.Turning.{AsksBy, OfFailing, Takes, UnlessFailed}
@@ -46,26 +45,28 @@ use Rattle.aio_drive.proofs.Written.{ends_early, ends_whole, fails_early, fails_
 -- A run of a program is under way, in which so many turns were made: what was seen of the wire first and is now, what the sink had first
 -- and has now, the file in which answers are recorded with what was seen of its shelf first and is now, that each call of the wire fails,
 -- first and now, what stays of the wire while none does, and that the shelf is as it was.
-pub record IsUnderWay {g : _} (program : Program) (how : Manner) (made : ℕ) (kernel : Kernel NoExtra g) (first_seen now_seen : WireSeen)
+pub record IsUnderWay {X : Type 0} {g : _} (a : Added X) (kept : a.Kept) (program : Program) (how : Manner) (made : ℕ) (kernel : Kernel X g)
+    (first_seen now_seen : WireSeen)
     (first now : SinkSeen) (shelf : Recording) (fails_first fails_now quiet same : Type 0) : Type 0 where
   pub left : ℕ
   pub past : List Entry
   pub taken : List Event
-  pub running : IsDriven program how made left kernel past taken first_seen now_seen first now
+  pub running : IsDriven a kept program how made left kernel past taken first_seen now_seen first now
   pub noted : Records shelf.name (recorded taken) shelf.old shelf.new
   pub fails : fails_first → (made ≡ 0) × fails_now
   pub unchanged : quiet
   pub unmade : made ≡ 0 → same
 
 -- one that begins
-pub under_way_first : {g : _} (program : Program) (how : Manner) (kernel : Kernel NoExtra g) (seen : WireSeen) (sink : SinkSeen)
-    (name : Option (List ℕ)) (files : ShelfSeen) (fails quiet same : Type 0) → Begins nothing_added tt program kernel → quiet → same
-    → IsUnderWay program how 0 kernel seen seen sink sink (record { name = name; old = files; new = files }) fails fails quiet same
-under_way_first program how kernel seen sink name files fails quiet same begins still unmade = record {
+pub under_way_first : {X : Type 0} {g : _} (a : Added X) (kept : a.Kept) (program : Program) (how : Manner) (kernel : Kernel X g) (seen : WireSeen)
+    (sink : SinkSeen)
+    (name : Option (List ℕ)) (files : ShelfSeen) (fails quiet same : Type 0) → Begins a kept program kernel → quiet → same
+    → IsUnderWay a kept program how 0 kernel seen seen sink sink (record { name = name; old = files; new = files }) fails fails quiet same
+under_way_first a kept program how kernel seen sink name files fails quiet same begins still unmade = record {
   left = how.turns;
   past = [];
   taken = [];
-  running = running_first program how kernel seen sink begins;
+  running = running_first a kept program how kernel seen sink begins;
   noted = records_none name files;
   fails = λ all. (refl, all);
   unchanged = still;
@@ -73,21 +74,24 @@ under_way_first program how kernel seen sink name files fails quiet same begins 
 }
 
 -- its kernel goes on
-pub still_goes : {g : _} {program : Program} {how : Manner} {made : ℕ} {kernel : Kernel NoExtra g} {first_seen now_seen : WireSeen}
+pub still_goes : {X : Type 0} {g : _} {a : Added X} {kept : a.Kept} {program : Program} {how : Manner} {made : ℕ} {kernel : Kernel X g}
+    {first_seen now_seen : WireSeen}
     {first now : SinkSeen} {shelf : Recording} {fails_first fails_now quiet same : Type 0}
-    → IsUnderWay program how made kernel first_seen now_seen first now shelf fails_first fails_now quiet same → kernel_ended kernel ≡ None
+    → IsUnderWay a kept program how made kernel first_seen now_seen first now shelf fails_first fails_now quiet same → kernel_ended kernel ≡ None
 still_goes under = (under.running.at []).stands.goes
 
 -- a turn is left
-pub with_turn : {g : _} {program : Program} {how : Manner} {made : ℕ} {kernel : Kernel NoExtra g} {past : List Entry} {taken : List Event}
-    {seen now_seen : WireSeen} {first sink : SinkSeen} (left : ℕ) → IsDriven program how made left kernel past taken seen now_seen first sink
-    → made < how.turns → (fewer : ℕ) × IsDriven program how made (suc fewer) kernel past taken seen now_seen first sink
+pub with_turn : {X : Type 0} {g : _} {a : Added X} {kept : a.Kept} {program : Program} {how : Manner} {made : ℕ} {kernel : Kernel X g} {past : List Entry}
+    {taken : List Event}
+    {seen now_seen : WireSeen} {first sink : SinkSeen} (left : ℕ) → IsDriven a kept program how made left kernel past taken seen now_seen first sink
+    → made < how.turns → (fewer : ℕ) × IsDriven a kept program how made (suc fewer) kernel past taken seen now_seen first sink
 with_turn zero running some = absurd (let turns = running.turns in omega arith)
 with_turn (suc fewer) running some = (fewer, running)
 
 -- none is
-pub none_left : {g : _} {program : Program} {how : Manner} {made left : ℕ} {kernel : Kernel NoExtra g} {past : List Entry} {taken : List Event}
-    {seen now_seen : WireSeen} {first sink : SinkSeen} → IsDriven program how made left kernel past taken seen now_seen first sink
+pub none_left : {X : Type 0} {g : _} {a : Added X} {kept : a.Kept} {program : Program} {how : Manner} {made left : ℕ} {kernel : Kernel X g}
+    {past : List Entry} {taken : List Event}
+    {seen now_seen : WireSeen} {first sink : SinkSeen} → IsDriven a kept program how made left kernel past taken seen now_seen first sink
     → how.turns ≤ made → left ≡ 0
 none_left running most = let turns = running.turns in omega arith
 
@@ -95,11 +99,12 @@ some_is : {n m : ℕ} → Some n ≡ Some m → n ≡ m
 some_is is = cc is
 
 -- `seen` is the wire as the run began, `now` as the turn did, and `last` after it.
-module _ {g : _} {program : Program} {how : Manner} {made left : ℕ} {kernel new : Kernel NoExtra g} {past : List Entry} {taken : List Event}
+module _ {X : Type 0} {g : _} {a : Added X} {kept : a.Kept} {program : Program} {how : Manner} {made left : ℕ} {kernel new : Kernel X g}
+    {past : List Entry} {taken : List Event}
     {now last : WireSeen} {first sink : SinkSeen} {fails_first fails_now quiet_now quiet : Type 0} {result said : code.Went} (seen : WireSeen)
-    (running : IsDriven program how made (suc left) kernel past taken seen now first sink)
+    (running : IsDriven a kept program how made (suc left) kernel past taken seen now first sink)
     (fails_then : fails_first → (made ≡ 0) × fails_now) (stays : Stays seen now)
-    (turned : TurnedBy nothing_added (record { before = now; after = last; fails = fails_now; quiet = quiet_now }) kernel new result said)
+    (turned : TurnedBy a (record { before = now; after = last; fails = fails_now; quiet = quiet_now }) kernel new result said)
     (quietly : quiet_now → quiet) where
   -- what was asked in it
   asks_now : AsksBy (untaken kernel) (untaken new) now last said
@@ -113,7 +118,7 @@ module _ {g : _} {program : Program} {how : Manner} {made left : ℕ} {kernel ne
   asked_at w is other = asked_all new last running said asks_now (λ none. other (sym (said_so w is other) ∙ none))
 
   ends_at : (end : End) → EndedSo end said
-      → EndsHere program how made taken seen.left (taken ++ untaken new) end × Undisturbed fails_first quiet
+      → EndsHere (run_over a.meaning kept program) how made taken seen.left (taken ++ untaken new) end × Undisturbed fails_first quiet
   ends_at end what = (
     ended new last running said turned.turns end what,
     (
@@ -129,16 +134,16 @@ module _ {g : _} {program : Program} {how : Manner} {made left : ℕ} {kernel ne
   caused_at end what = let here = running.at [] in ended_caused seen now last said end what (turned.caused taken [] here.s here.stands) stays.0
 
   fails_at : (call : Call) → said ≡ went.Stopped (stop.Failed call)
-      → FailsHere program how made taken seen.left (taken ++ untaken new) × Rose seen.faults last.faults
+      → FailsHere (run_over a.meaning kept program) how made taken seen.left (taken ++ untaken new) × Rose seen.faults last.faults
   fails_at call is =
       let (here, rose) = fails new last running said turned.turns call is in
       (here, rose_earlier seen.faults now.faults last.faults stays.1 rose)
 
   pub goes_at : result ≡ went.Went
-      → (had : List Answer) × (Takes now.left last.left had × (KernelGoesOn nothing_added had kernel new × Undisturbed fails_first quiet))
+      → (had : List Answer) × (Takes now.left last.left had × (KernelGoesOn a had kernel new × Undisturbed fails_first quiet))
   goes_at is =
       let went = said_so went.Went is (λ e. cc e) in
-      let (had, (takes, goes)) = subst (λ (w : code.Went). TurnsTo nothing_added now last kernel new w) went turned.turns in (
+      let (had, (takes, goes)) = subst (λ (w : code.Went). TurnsTo a now last kernel new w) went turned.turns in (
         had,
         (
           takes,
@@ -158,7 +163,7 @@ module _ {g : _} {program : Program} {how : Manner} {made left : ℕ} {kernel ne
     it = driven_over seen last fails_first quiet shelf same
 
     -- nothing more was recorded or written
-    pub refused_at : mid ≡ shelf.new → (made ≡ 0 → same) → CutsShort program how fault it first sink (Halted Memory)
+    pub refused_at : mid ≡ shelf.new → (made ≡ 0 → same) → CutsShort (run_over a.meaning kept program) how fault it first sink (Halted Memory)
     refused_at unnoted unmade =
         refused new seen last fault fails_first fails_now quiet shelf same running (rose_earlier seen.faults now.faults last.faults stays.1) fails_then
         (subst (λ (s : ShelfSeen). Records shelf.name (recorded taken) shelf.old s) unnoted noted) unmade quiet_now said turned.turns
@@ -198,24 +203,24 @@ module _ {g : _} {program : Program} {how : Manner} {made left : ℕ} {kernel ne
 
       ends_ok : (end : End) (w : code.Went) → result ≡ w → (w ≡ went.Stopped stop.Memory → ⊥) → EndedSo end w
           → Records shelf.name (recorded events) mid shelf.new → (status : ℕ) → WroteLast end lines sink final (Some status)
-          → WritesWhole (MayTell program how fault it) first final status
+          → WritesWhole (MayTell (run_over a.meaning kept program) how fault it) first final status
       ends_ok end w is other so done status (said_status, wrote) =
           let ended_as = subst (λ (w : code.Went). EndedSo end w) (sym (said_so w is other)) so in
           let (here, still) = ends_at end ended_as in
-          ends_whole program how fault it made first sink final mid taken (untaken new) running.sink noted here still
+          ends_whole (run_over a.meaning kept program) how fault it made first sink final mid taken (untaken new) running.sink noted here still
           (asked_at w is other) (records done) (caused_at end ended_as) status (some_is said_status)
           (wrote ∙ ap (λ (es : List Event). took sink (lines_of_events how.trace es ++ line (end_text end))) out)
 
       ends_err : (end : End) (w : code.Went) → result ≡ w → (w ≡ went.Stopped stop.Memory → ⊥) → EndedSo end w
           → (cut : Cut) → StopsTelling here_on (recorded events) (lines ++ line (end_text end)) sink final cut
-          → CutsShort program how fault it first final cut
+          → CutsShort (run_over a.meaning kept program) how fault it first final cut
       ends_err end w is other so cut stops =
           let (here, still) = ends_at end (subst (λ (w : code.Went). EndedSo end w) (sym (said_so w is other)) so) in
-          ends_early program how fault it made first sink final mid taken (untaken new) running.sink noted here still
+          ends_early (run_over a.meaning kept program) how fault it made first sink final mid taken (untaken new) running.sink noted here still
           (asked_at w is other) fewer cut (tells (λ t. t ++ line (end_text end)) cut stops)
 
       ended_so : (w : code.Went) → result ≡ w → is_refused w ≡ false → Records shelf.name (recorded events) mid shelf.new → (status : ℕ)
-          → WroteTurn fault lines sink final (Some status) w → WritesWhole (MayTell program how fault it) first final status
+          → WroteTurn fault lines sink final (Some status) w → WritesWhole (MayTell (run_over a.meaning kept program) how fault it) first final status
       ended_so went.Went is held done status (none, wrote) = absurd (cc none)
       ended_so (went.Finished outcome) is held done status written =
           ends_ok (end_of outcome) (went.Finished outcome) is (λ e. cc e) refl done status written
@@ -230,30 +235,33 @@ module _ {g : _} {program : Program} {how : Manner} {made left : ℕ} {kernel ne
           ends_ok (ends.Mismatch count call) (went.Stopped (stop.Mismatch count call)) is (λ e. cc e) (refl, held) done status written
       ended_so (went.Stopped (stop.Failed call)) is held done status (said_status, wrote) =
           let (here, rose) = fails_at call (said_so (went.Stopped (stop.Failed call)) is (λ e. cc e)) in
-          fails_whole program how fault it made first sink final mid taken (untaken new) running.sink noted here rose
+          fails_whole (run_over a.meaning kept program) how fault it made first sink final mid taken (untaken new) running.sink noted here rose
           (asked_at (went.Stopped (stop.Failed call)) is (λ e. cc e)) (records done) status (some_is said_status)
           (wrote ∙ ap (λ (es : List Event). took sink (lines_of_events how.trace es ++ line (end_text fault))) out)
       ended_so (went.Stopped stop.Memory) is held done status none = absurd none
 
       -- a run that ended with this turn
       pub turn_ok : is_refused result ≡ false → Records shelf.name (recorded events) mid shelf.new → (told : Option ℕ) (status : ℕ) → told ≡ Some status
-          → WroteTurn fault lines sink final told result → WritesWhole (MayTell program how fault it) first final status
+          → WroteTurn fault lines sink final told result → WritesWhole (MayTell (run_over a.meaning kept program) how fault it) first final status
       turn_ok held done told status is written =
           ended_so result refl held done status (subst (λ (s : Option ℕ). WroteTurn fault lines sink final s result) is written)
 
       -- nothing was told of it
-      refused_so : mid ≡ shelf.new → (made ≡ 0 → same) → (cut : Cut) → cut ≡ Halted Memory → final ≡ sink → CutsShort program how fault it first final cut
+      refused_so : mid ≡ shelf.new → (made ≡ 0 → same) → (cut : Cut) → cut ≡ Halted Memory → final ≡ sink → CutsShort
+          (run_over a.meaning kept program) how fault it first final cut
       refused_so unnoted unmade cut memory unwritten =
-          subst (λ (c : Cut). CutsShort program how fault it first final c) (sym memory)
-          (subst (λ (s : SinkSeen). CutsShort program how fault it first s (Halted Memory)) (sym unwritten) (refused_at unnoted unmade))
+          subst (λ (c : Cut). CutsShort (run_over a.meaning kept program) how fault it first final c) (sym memory)
+          (subst (λ (s : SinkSeen). CutsShort (run_over a.meaning kept program) how fault it first s (Halted Memory)) (sym unwritten)
+          (refused_at unnoted unmade))
 
       -- one of which not all was told
       pub turn_err : (w : code.Went) → result ≡ w → (is_refused w ≡ true → mid ≡ shelf.new) → (made ≡ 0 → is_refused w ≡ true → same)
-          → (cut : Cut) → CutsTurn here_on (telling how.trace fault events) sink final cut w → CutsShort program how fault it first final cut
+          → (cut : Cut) → CutsTurn here_on (telling how.trace fault events) sink final cut w → CutsShort
+          (run_over a.meaning kept program) how fault it first final cut
       turn_err went.Went is unnoted unmade cut stops =
           let (had, (takes, (goes, still))) = goes_at is in
           let here = goes_further new last running had takes goes in
-          goes_cut program how fault it made first sink final mid taken (untaken new) running.sink noted here still
+          goes_cut (run_over a.meaning kept program) how fault it made first sink final mid taken (untaken new) running.sink noted here still
           (asked_at went.Went is (λ e. cc e)) fewer cut (tells (λ t. t) cut stops)
       turn_err (went.Finished outcome) is unnoted unmade cut stops =
           ends_err (end_of outcome) (went.Finished outcome) is (λ e. cc e) refl cut stops
@@ -267,12 +275,12 @@ module _ {g : _} {program : Program} {how : Manner} {made left : ℕ} {kernel ne
       turn_err (went.Stopped (stop.Mismatch count call)) is unnoted unmade cut stops = by (count == 2 ^ 64 - 1) refl stops
         where
           by : (b : Bool) → (count == 2 ^ 64 - 1) ≡ b → CutsMisfit b here_on (telling how.trace fault events) (ends.Mismatch count call) sink final cut
-              → CutsShort program how fault it first final cut
+              → CutsShort (run_over a.meaning kept program) how fault it first final cut
           by false held stops = ends_err (ends.Mismatch count call) (went.Stopped (stop.Mismatch count call)) is (λ e. cc e) (refl, held) cut stops
           by true past_it (memory, unwritten) = refused_so (unnoted past_it) (λ none. unmade none past_it) cut memory unwritten
       turn_err (went.Stopped (stop.Failed call)) is unnoted unmade cut stops =
           let (here, rose) = fails_at call (said_so (went.Stopped (stop.Failed call)) is (λ e. cc e)) in
-          fails_early program how fault it made first sink final mid taken (untaken new) running.sink noted here rose
+          fails_early (run_over a.meaning kept program) how fault it made first sink final mid taken (untaken new) running.sink noted here rose
           (asked_at (went.Stopped (stop.Failed call)) is (λ e. cc e)) fewer cut (tells (λ t. t ++ line (end_text fault)) cut stops)
       turn_err (went.Stopped stop.Memory) is unnoted unmade cut (memory, unwritten) =
           refused_so (unnoted refl) (λ none. unmade none refl) cut memory unwritten
@@ -300,13 +308,13 @@ module _ {g : _} {program : Program} {how : Manner} {made left : ℕ} {kernel ne
     turn_goes told is written = (goes_so told is written).0
 
     -- the run is under way after it
-    pub goes_on : (told : Option ℕ) → told ≡ None → WroteTurn fault (lines_of_events how.trace events) sink final told result → (after : Kernel NoExtra g)
-        → ((past : List Event) (answers : List Entry) (s : State (Unit {0})) → KernelStandsFor nothing_added past answers new s
-        → KernelStandsFor nothing_added (past ++ untaken new) answers after s)
+    pub goes_on : (told : Option ℕ) → told ≡ None → WroteTurn fault (lines_of_events how.trace events) sink final told result → (after : Kernel X g)
+        → ((past : List Event) (answers : List Entry) (s : State a.Kept) → KernelStandsFor a past answers new s
+        → KernelStandsFor a (past ++ untaken new) answers after s)
         → untaken after ≡ [] → (name : Option (List ℕ)) (old_shelf mid_shelf new_shelf : ShelfSeen)
         → Records name (recorded taken) old_shelf mid_shelf → Records name (recorded events) mid_shelf new_shelf
         → (left_then : ℕ) × (past_then : List Entry) × (taken_then : List Event)
-        × (IsDriven program how (made + 1) left_then after past_then taken_then seen last first final
+        × (IsDriven a kept program how (made + 1) left_then after past_then taken_then seen last first final
         × Records name (recorded taken_then) old_shelf new_shelf)
     goes_on told unsaid written after takes_out none name old_shelf mid_shelf new_shelf noted done =
         let (is, wrote) = goes_so told unsaid written in
@@ -323,17 +331,18 @@ module _ {g : _} {program : Program} {how : Manner} {made left : ℕ} {kernel ne
         )
 
 -- ---- a round, by what it told
-module _ {g : _} {program : Program} {how : Manner} {made : ℕ} {kernel new : Kernel NoExtra g} {now last : WireSeen} {first sink late : SinkSeen}
+module _ {X : Type 0} {g : _} {a : Added X} {kept : a.Kept} {program : Program} {how : Manner} {made : ℕ} {kernel new : Kernel X g} {now last : WireSeen}
+    {first sink late : SinkSeen}
     {name : Option (List ℕ)} {old_files files new_files : ShelfSeen} {fails_first fails_now quiet_then quiet_now quiet same_then same_now : Type 0}
     {fault : End} (seen : WireSeen)
-    (under : IsUnderWay program how made kernel seen now first sink (record { name = name; old = old_files; new = files }) fails_first fails_now
+    (under : IsUnderWay a kept program how made kernel seen now first sink (record { name = name; old = old_files; new = files }) fails_first fails_now
     quiet_then same_then)
     (some : made < how.turns) (stays : Stays seen now) (quietly : quiet_now → quiet) (same : Type 0) where
   -- the run ended
   pub round_ok : (told : Option ℕ) (status : ℕ) → told ≡ Some status
-      → TellsTurn how.trace fault (record { before = now; after = last; fails = fails_now; quiet = quiet_now })
+      → TellsTurn a how.trace fault (record { before = now; after = last; fails = fails_now; quiet = quiet_now })
       (record { name = name; old = files; new = new_files }) same_now sink late kernel new (Ok told)
-      → WritesWhole (MayTell program how fault
+      → WritesWhole (MayTell (run_over a.meaning kept program) how fault
       (driven_over seen last fails_first quiet (record { name = name; old = old_files; new = new_files }) same)) first late status
   round_ok told status is it =
       let (fewer, running) = with_turn under.left under.running some in
@@ -342,9 +351,9 @@ module _ {g : _} {program : Program} {how : Manner} {made : ℕ} {kernel new : K
 
   -- not all was told
   pub round_err : (same_now → files ≡ new_files) → (same_now → same_then → same) → (cut : Cut)
-      → TellsTurn how.trace fault (record { before = now; after = last; fails = fails_now; quiet = quiet_now })
+      → TellsTurn a how.trace fault (record { before = now; after = last; fails = fails_now; quiet = quiet_now })
       (record { name = name; old = files; new = new_files }) same_now sink late kernel new (Err cut)
-      → CutsShort program how fault
+      → CutsShort (run_over a.meaning kept program) how fault
       (driven_over seen last fails_first quiet (record { name = name; old = old_files; new = new_files }) same) first late cut
   round_err seen_same same_on cut it =
       let (fewer, running) = with_turn under.left under.running some in
@@ -354,9 +363,9 @@ module _ {g : _} {program : Program} {how : Manner} {made : ℕ} {kernel new : K
 
   -- the run goes on
   pub round_on : (fails_then : Type 0) (told : Option ℕ) → told ≡ None
-      → TellsTurn how.trace fault (record { before = now; after = last; fails = fails_now; quiet = quiet_now })
+      → TellsTurn a how.trace fault (record { before = now; after = last; fails = fails_now; quiet = quiet_now })
       (record { name = name; old = files; new = new_files }) same_now sink late kernel new (Ok told)
-      → IsUnderWay program how (made + 1) new seen last first late (record { name = name; old = old_files; new = new_files }) fails_first fails_then
+      → IsUnderWay a kept program how (made + 1) new seen last first late (record { name = name; old = old_files; new = new_files }) fails_first fails_then
       quiet same
   round_on fails_then told is it =
       let (fewer, running) = with_turn under.left under.running some in
@@ -378,11 +387,12 @@ module _ {g : _} {program : Program} {how : Manner} {made : ℕ} {kernel new : K
       }
 
 -- Where no turn is left. Nothing more is recorded.
-module _ {g : _} {program : Program} {how : Manner} {made : ℕ} {kernel : Kernel NoExtra g} {first sink : SinkSeen} {shelf : Recording}
+module _ {X : Type 0} {g : _} {a : Added X} {kept : a.Kept} {program : Program} {how : Manner} {made : ℕ} {kernel : Kernel X g} {first sink : SinkSeen}
+    {shelf : Recording}
     {fails_first fails_now quiet same : Type 0} (seen now : WireSeen)
-    (under : IsUnderWay program how made kernel seen now first sink shelf fails_first fails_now quiet same) (some : 1 ≤ how.turns)
+    (under : IsUnderWay a kept program how made kernel seen now first sink shelf fails_first fails_now quiet same) (some : 1 ≤ how.turns)
     (most : how.turns ≤ made) (fault : End) (final : SinkSeen) where
-  abbrev running : IsDriven program how made under.left kernel under.past under.taken seen now first sink
+  abbrev running : IsDriven a kept program how made under.left kernel under.past under.taken seen now first sink
   running = under.running
 
   abbrev taken : List Event
@@ -394,27 +404,30 @@ module _ {g : _} {program : Program} {how : Manner} {made : ℕ} {kernel : Kerne
   abbrev last_it : Driven
   last_it = driven_over seen now fails_first quiet shelf same
 
-  last_here : (end : End) → LastOf kernel how.turns end → EndsHere program how made taken seen.left (taken ++ []) end
+  last_here : (end : End) → LastOf a kernel how.turns end → EndsHere (run_over a.meaning kept program) how made taken seen.left (taken ++ []) end
   last_here end is =
-      subst (λ (es : List Event). EndsHere program how made taken seen.left es end) (sym (append-nil taken)) (ends_last running (none_left running most) end is)
+      subst (λ (es : List Event). EndsHere (run_over a.meaning kept program) how made taken seen.left es end) (sym (append-nil taken))
+      (ends_last running (none_left running most) end is)
 
-  last_caused : (end : End) → LastOf kernel how.turns end → IsCaused seen now end
+  last_caused : (end : End) → LastOf a kernel how.turns end → IsCaused seen now end
   last_caused end is =
       let here = running.at [] in
-      subst (IsCaused seen now) (sym (is taken [] here.s here.stands)) (limit_caused seen now (is_stalled no_extra here.s) how.turns)
+      subst (IsCaused seen now) (sym (is taken [] here.s here.stands)) (limit_caused seen now (is_stalled a.meaning here.s) how.turns)
 
   last_asked : Asks (taken ++ []) seen now
   last_asked = subst (λ (es : List Event). Asks es seen now) (sym (append-nil taken)) running.asked
 
-  pub last_ok : (end : End) → LastOf kernel how.turns end → (status : ℕ) → (status ≡ status_of end) × (final ≡ took sink (line (end_text end)))
-      → WritesWhole (MayTell program how fault last_it) first final status
+  pub last_ok : (end : End) → LastOf a kernel how.turns end → (status : ℕ) → (status ≡ status_of end) × (final ≡ took sink (line (end_text end)))
+      → WritesWhole (MayTell (run_over a.meaning kept program) how fault last_it) first final status
   last_ok end is status (said_so, wrote) =
-      ends_whole program how fault last_it made first sink final shelf.new taken [] running.sink under.noted (last_here end is) still last_asked
+      ends_whole (run_over a.meaning kept program) how fault last_it made first sink final shelf.new taken [] running.sink under.noted
+      (last_here end is) still last_asked
       (records_none shelf.name shelf.new) (last_caused end is) status said_so wrote
 
-  pub last_err : (end : End) → LastOf kernel how.turns end → (halt : Halt) → StopsWriting (line (end_text end)) sink final halt
-      → CutsShort program how fault last_it first final (Halted halt)
+  pub last_err : (end : End) → LastOf a kernel how.turns end → (halt : Halt) → StopsWriting (line (end_text end)) sink final halt
+      → CutsShort (run_over a.meaning kept program) how fault last_it first final (Halted halt)
   last_err end is halt stops =
-      ends_early program how fault last_it made first sink final shelf.new taken [] running.sink under.noted (last_here end is) still last_asked
+      ends_early (run_over a.meaning kept program) how fault last_it made first sink final shelf.new taken [] running.sink under.noted
+      (last_here end is) still last_asked
       (let turns = running.turns in omega arith) (Halted halt)
       (stops_after (record shelf { old = shelf.new }) [] (line (end_text end)) sink final halt (records_none shelf.name shelf.new) stops)

@@ -1,12 +1,11 @@
 -- A run of which nothing is recorded is one that may be recorded.
 use Rattle.std.proofs.Common.{◌≡◌, ℕ, List, None, inl, inr, subst}
-use Rattle.model_tree.specs.Syntax.{Program}
 use Rattle.model_wire.specs.Event.{Event}
 use Rattle.model_wire.specs.Told.{ShelfSeen, SinkSeen, WireSeen}
 use Rattle.model_wire.specs.Trace.{End}
 use Rattle.model_program.specs.Written.{MayBegin, ProgramOutput, WritesWhole}
 use Rattle.model_commands.specs.Causes.{IsCaused}
-use Rattle.aio_drive.specs.Drive.{AsksUntil, CutsShort, Driven, IsUnbegun, IsUntold, MayDrive, MayTell, StopsRecording}
+use Rattle.aio_drive.specs.Drive.{AsksUntil, CutsShort, Driven, IsUnbegun, IsUntold, MayDrive, MayTell, Runs, StopsRecording}
 use Rattle.aio_drive.specs.Drive.{TellsAll, TellsUntil, Undisturbed, driven_over, over_all, over_front, wire_by, wire_until}
 use Rattle.aio_drive.specs.Outcome.{EndsEarly}
 use Rattle.aio_drive.specs.declared.cut.Cut.{Cut}
@@ -30,12 +29,12 @@ module _ (may might : ProgramOutput → Type 0) (none nothing : Type 0) (wider :
   early_wider Sink old new early = (early.0, widened early.0 early.1, early.2)
 
 -- a wire of which this is known by a run's events, where that is
-pub drives_as : (program : Program) (how : Manner) (fault : End) (it : Driven) (known more : List Event → Type 0)
+pub drives_as : (runs : Runs) (how : Manner) (fault : End) (it : Driven) (known more : List Event → Type 0)
     → ((events : List Event) → known events → more events) → (caused : End → Type 0) → (output : ProgramOutput)
-    → MayDrive program how fault (wire_by it known caused) output → MayDrive program how fault (wire_by it more caused) output
-drives_as program how fault it known more wider caused output (inl (still, entries, agrees, is, holds, cause)) =
+    → MayDrive runs how fault (wire_by it known caused) output → MayDrive runs how fault (wire_by it more caused) output
+drives_as runs how fault it known more wider caused output (inl (still, entries, agrees, is, holds, cause)) =
     inl (still, entries, agrees, is, wider _ holds, cause)
-drives_as program how fault it known more wider caused output (inr (rose, had, told, over, is, holds)) =
+drives_as runs how fault it known more wider caused output (inr (rose, had, told, over, is, holds)) =
     inr (rose, had, told, over, is, wider _ holds)
 
 asks_until : (halt : Halt) (it : Driven) (events : List Event) → TellsUntil halt it events → AsksUntil halt it.before it.after events
@@ -46,28 +45,28 @@ asks_until Sink it events (front, rest, is, told) = (front, rest, is, told.0)
 abbrev pub no_files : ShelfSeen
 no_files = record { file = λ name. None; faults = λ name. 0 }
 
-module _ (program : Program) (how : Manner) (fault : End) (before after : WireSeen) (fails quiet same : Type 0) where
+module _ (runs : Runs) (how : Manner) (fault : End) (before after : WireSeen) (fails quiet same : Type 0) where
   abbrev it : Driven
   it = driven_over before after fails quiet (record { name = None; old = no_files; new = no_files }) same
 
-  pub whole_unrecorded : (old new : SinkSeen) (status : ℕ) → WritesWhole (MayTell program how fault it) old new status
-      → WritesWhole (MayDrive program how fault (over_all before after (Undisturbed fails quiet))) old new status
+  pub whole_unrecorded : (old new : SinkSeen) (status : ℕ) → WritesWhole (MayTell runs how fault it) old new status
+      → WritesWhole (MayDrive runs how fault (over_all before after (Undisturbed fails quiet))) old new status
   whole_unrecorded =
-      whole_wider (MayTell program how fault it) (MayDrive program how fault (over_all before after (Undisturbed fails quiet))) (Unit {0}) (Unit {0})
-      (drives_as program how fault it (TellsAll it) ((over_all before after (Undisturbed fails quiet)).asked) (λ events told. told.0)
+      whole_wider (MayTell runs how fault it) (MayDrive runs how fault (over_all before after (Undisturbed fails quiet))) (Unit {0}) (Unit {0})
+      (drives_as runs how fault it (TellsAll it) ((over_all before after (Undisturbed fails quiet)).asked) (λ events told. told.0)
       (IsCaused before after)) (λ none. none)
 
-  pub early_unrecorded : (cut : Cut) (halt : Halt) → cut ≡ Halted halt → (old new : SinkSeen) → CutsShort program how fault it old new cut
-      → EndsEarly (MayDrive program how fault (over_front halt before after (Undisturbed fails quiet))) (IsUnbegun quiet before after) old new halt
+  pub early_unrecorded : (cut : Cut) (halt : Halt) → cut ≡ Halted halt → (old new : SinkSeen) → CutsShort runs how fault it old new cut
+      → EndsEarly (MayDrive runs how fault (over_front halt before after (Undisturbed fails quiet))) (IsUnbegun quiet before after) old new halt
   early_unrecorded cut halt is old new cuts =
-      early_wider (MayDrive program how fault (wire_until halt it))
-      (MayDrive program how fault (over_front halt before after (Undisturbed fails quiet))) (IsUntold it) (IsUnbegun quiet before after)
-      (drives_as program how fault it (TellsUntil halt it) (AsksUntil halt before after) (asks_until halt it) (λ end. Unit {0}))
+      early_wider (MayDrive runs how fault (wire_until halt it))
+      (MayDrive runs how fault (over_front halt before after (Undisturbed fails quiet))) (IsUntold it) (IsUnbegun quiet before after)
+      (drives_as runs how fault it (TellsUntil halt it) (AsksUntil halt before after) (asks_until halt it) (λ end. Unit {0}))
       (λ untold. untold.0) halt old new
-      (subst (λ (c : Cut). CutsShort program how fault it old new c) is cuts)
+      (subst (λ (c : Cut). CutsShort runs how fault it old new c) is cuts)
 
   -- no file fails where none is named
-  pub never_unrecorded : (cut : Cut) → cut ≡ Unrecorded → (old new : SinkSeen) → CutsShort program how fault it old new cut → ⊥
+  pub never_unrecorded : (cut : Cut) → cut ≡ Unrecorded → (old new : SinkSeen) → CutsShort runs how fault it old new cut → ⊥
   never_unrecorded cut is old new cuts =
-      let stopped : StopsRecording program how it old new = subst (λ (c : Cut). CutsShort program how fault it old new c) is cuts in
+      let stopped : StopsRecording runs how it old new = subst (λ (c : Cut). CutsShort runs how fault it old new c) is cuts in
       stopped.failed

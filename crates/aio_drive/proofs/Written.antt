@@ -1,21 +1,19 @@
 -- What is written of a run that ends, that fails, or that is cut short.
 use Rattle.std.proofs.Common.{◌≡◌, ℕ, ◌≤◌, List, [], ◌++◌, inl, inr}
 use Rattle.std.proofs.Common.{refl, ap, sym, ◌∙◌, subst, append_assoc, arith}
-use Rattle.model_tree.specs.Syntax.{Program}
 use Rattle.model_wire.specs.Event.{Event}
 use Rattle.model_wire.specs.Journal.{Entry}
 use Rattle.model_wire.specs.Told.{Agrees, Rose, ShelfSeen, SinkSeen, took}
 use Rattle.model_wire.specs.Trace.{End, end_text, line, lines_of_events}
 use Rattle.model_program.specs.Program.{output_of}
 use Rattle.model_machine.specs.Run.{Run}
-use Rattle.model_program.specs.Runs.{run}
 use Rattle.model_program.specs.Written.{IsFrontOf, ProgramOutput, WritesWhole}
 use Rattle.model_program.specs.Transcript.{status_of, transcript}
 use Rattle.model_commands.specs.Causes.{IsCaused}
 use Rattle.model_commands.specs.Recorded.{FailsRecording, Records, recorded}
 use Rattle.aio_record.proofs.Growing.{recorded-append}
 use Rattle.aio_core.specs.Asked.{Asks}
-use Rattle.aio_drive.specs.Drive.{CutsShort, Driven, IsUntold, MayDrive, MayTell, StopsRecording, TellsAll, TellsUntil, wire_by, wire_until}
+use Rattle.aio_drive.specs.Drive.{CutsShort, Driven, IsUntold, MayDrive, MayTell, Runs, StopsRecording, TellsAll, TellsUntil, wire_by, wire_until}
 use Rattle.aio_drive.specs.Outcome.{EndsEarly}
 use Rattle.aio_drive.specs.Recording.{StopsTelling}
 use Rattle.aio_drive.specs.Writing.{StopsWriting}
@@ -83,10 +81,10 @@ module _ (may : ProgramOutput → Type 0) (none : Type 0) (first now : SinkSeen)
   nothing_at_all empty holds = ([], inl (refl, holds), had_shown ∙ ap (took first) empty)
 
 -- `so_far` are the events of so many turns, of which all was told; `more` are those of the turn after them.
-module _ (program : Program) (how : Manner) (fault : End) (it : Driven) (made : ℕ) (first now last : SinkSeen) (mid : ShelfSeen) (so_far more : List Event)
+module _ (runs : Runs) (how : Manner) (fault : End) (it : Driven) (made : ℕ) (first now last : SinkSeen) (mid : ShelfSeen) (so_far more : List Event)
     (wrote : now ≡ took first (lines_of_events how.trace so_far)) (noted : Records it.shelf.name (recorded so_far) it.shelf.old mid) where
   abbrev Early : Halt → SinkSeen → SinkSeen → Type 0
-  Early halt old new = EndsEarly (MayDrive program how fault (wire_until halt it)) (IsUntold it) old new halt
+  Early halt old new = EndsEarly (MayDrive runs how fault (wire_until halt it)) (IsUntold it) old new halt
 
   abbrev shown : List ℕ
   shown = lines_of_events how.trace so_far
@@ -134,9 +132,9 @@ module _ (program : Program) (how : Manner) (fault : End) (it : Driven) (made : 
 
   -- the turn's answers could not be recorded
   stops : Asks (so_far ++ more) it.before it.after → made ≤ how.turns → (had rest : List Entry) → Agrees it.before.left (had ++ rest)
-      → (run program had made).events ≡ so_far
-      → (others : List Event) → (run program had how.turns).events ≡ (so_far ++ more) ++ others → (text : List ℕ)
-      → StopsTelling (record it.shelf { old = mid }) (recorded more) text now last Unrecorded → StopsRecording program how it first last
+      → (runs had made).events ≡ so_far
+      → (others : List Event) → (runs had how.turns).events ≡ (so_far ++ more) ++ others → (text : List ℕ)
+      → StopsTelling (record it.shelf { old = mid }) (recorded more) text now last Unrecorded → StopsRecording runs how it first last
   stops asked fewer had rest agrees before others is text (front, some, fails, same) = record {
     had = had;
     told = (rest, agrees);
@@ -157,17 +155,17 @@ module _ (program : Program) (how : Manner) (fault : End) (it : Driven) (made : 
   agrees_all : (entries : List Entry) → Agrees it.before.left entries → Agrees it.before.left (entries ++ [])
   agrees_all entries agrees = subst (λ (es : List Entry). Agrees it.before.left es) (sym (append-nil entries)) agrees
 
-  module _ {end : End} (here : EndsHere program how made so_far it.before.left (so_far ++ more) end) (still : it.undisturbed)
+  module _ {end : End} (here : EndsHere runs how made so_far it.before.left (so_far ++ more) end) (still : it.undisturbed)
       (asked : Asks (so_far ++ more) it.before it.after) where
     whole_run : Run
-    whole_run = run program here.entries how.turns
+    whole_run = runs here.entries how.turns
 
     whole_events : whole_run.events ≡ so_far ++ more
     unfolding whole_run
     whole_events = ap (λ (r : Run). r.events) here.is
 
     may_end : Records it.shelf.name (recorded more) mid it.shelf.new → IsCaused it.before it.after end
-        → MayTell program how fault it (output_of how.trace whole_run)
+        → MayTell runs how fault it (output_of how.trace whole_run)
     unfolding whole_run
     may_end records caused =
         inl (
@@ -180,7 +178,7 @@ module _ (program : Program) (how : Manner) (fault : End) (it : Driven) (made : 
         )
 
     may_end_early : (halt : Halt) → TellsUntil halt it whole_run.events
-        → MayDrive program how fault (wire_until halt it) (output_of how.trace whole_run)
+        → MayDrive runs how fault (wire_until halt it) (output_of how.trace whole_run)
     unfolding whole_run
     may_end_early halt known = inl (still, here.entries, here.agrees, refl, known, tt)
 
@@ -191,7 +189,7 @@ module _ (program : Program) (how : Manner) (fault : End) (it : Driven) (made : 
 
     pub ends_whole : Records it.shelf.name (recorded more) mid it.shelf.new → IsCaused it.before it.after end → (status : ℕ) → status ≡ status_of end
         → last ≡ took now (text_of end)
-        → WritesWhole (MayTell program how fault it) first last status
+        → WritesWhole (MayTell runs how fault it) first last status
     unfolding whole_run
     ends_whole records caused status is all = (
       output_of how.trace whole_run,
@@ -202,30 +200,30 @@ module _ (program : Program) (how : Manner) (fault : End) (it : Driven) (made : 
 
     ends_halted : (halt : Halt) → StopsTelling (record it.shelf { old = mid }) (recorded more) (text_of end) now last (Halted halt) → Early halt first last
     ends_halted halt stops =
-        early_by (MayDrive program how fault (wire_until halt it)) (IsUntold it) first now shown wrote
+        early_by (MayDrive runs how fault (wire_until halt it)) (IsUntold it) first now shown wrote
         (output_of how.trace whole_run)
         (may_end_early halt (until asked whole_run.events [] (whole_events ∙ sym (append-nil (so_far ++ more))) halt (text_of end) stops))
         (text_of end) [] (whole_text ∙ ap (λ (t : List ℕ). shown ++ t) (sym (append-nil (text_of end)))) last halt (stops_text halt (text_of end) stops)
 
     pub ends_early : made ≤ how.turns → (cut : Cut) → StopsTelling (record it.shelf { old = mid }) (recorded more) (text_of end) now last cut
-        → CutsShort program how fault it first last cut
+        → CutsShort runs how fault it first last cut
     unfolding whole_run
     ends_early fewer (Halted halt) stopped = ends_halted halt stopped
     ends_early fewer Unrecorded stopped =
         stops asked fewer here.entries [] (agrees_all here.entries here.agrees) here.before []
         (whole_events ∙ sym (append-nil (so_far ++ more))) (text_of end) stopped
 
-  module _ (here : FailsHere program how made so_far it.before.left (so_far ++ more)) (rose : Rose it.before.faults it.after.faults)
+  module _ (here : FailsHere runs how made so_far it.before.left (so_far ++ more)) (rose : Rose it.before.faults it.after.faults)
       (asked : Asks (so_far ++ more) it.before it.after) where
     failed_run : Run
-    failed_run = record (run program here.had how.turns) { end = fault }
+    failed_run = record (runs here.had how.turns) { end = fault }
 
     failed_events : failed_run.events ≡ so_far ++ more
     unfolding failed_run
     failed_events = ap (λ (r : Run). r.events) here.is
 
     may_fail_by : (known : List Event → Type 0) (caused : End → Type 0) → known failed_run.events
-        → MayDrive program how fault (wire_by it known caused) (output_of how.trace failed_run)
+        → MayDrive runs how fault (wire_by it known caused) (output_of how.trace failed_run)
     unfolding failed_run
     may_fail_by known caused holds = inr (rose, here.had, here.told, (here.call, ap (λ (r : Run). r.end) here.is), refl, holds)
 
@@ -234,7 +232,7 @@ module _ (program : Program) (how : Manner) (fault : End) (it : Driven) (made : 
     failed_text = text_is failed_run failed_events
 
     pub fails_whole : Records it.shelf.name (recorded more) mid it.shelf.new → (status : ℕ) → status ≡ status_of fault → last ≡ took now (text_of fault)
-        → WritesWhole (MayTell program how fault it) first last status
+        → WritesWhole (MayTell runs how fault it) first last status
     unfolding failed_run
     fails_whole records status is all = (
       output_of how.trace failed_run,
@@ -246,7 +244,7 @@ module _ (program : Program) (how : Manner) (fault : End) (it : Driven) (made : 
     fails_halted : (halt : Halt) → StopsTelling (record it.shelf { old = mid }) (recorded more) (text_of fault) now last (Halted halt) → Early halt first last
     unfolding failed_run
     fails_halted halt stops =
-        early_by (MayDrive program how fault (wire_until halt it)) (IsUntold it) first now shown wrote
+        early_by (MayDrive runs how fault (wire_until halt it)) (IsUntold it) first now shown wrote
         (output_of how.trace failed_run)
         (may_fail_by (TellsUntil halt it) (λ end. Unit {0})
         (until asked failed_run.events [] (failed_events ∙ sym (append-nil (so_far ++ more))) halt (text_of fault) stops))
@@ -259,14 +257,14 @@ module _ (program : Program) (how : Manner) (fault : End) (it : Driven) (made : 
         fails_halted Memory ([], (recorded more, refl), none, ([], (text_of fault, refl), same ∙ sym (took-nil now)))
 
     pub fails_early : made ≤ how.turns → (cut : Cut) → StopsTelling (record it.shelf { old = mid }) (recorded more) (text_of fault) now last cut
-        → CutsShort program how fault it first last cut
+        → CutsShort runs how fault it first last cut
     unfolding failed_run
     fails_early fewer (Halted halt) stopped = fails_halted halt stopped
     fails_early fewer Unrecorded stopped =
         stops asked fewer here.had here.told.0 here.told.1 here.before []
         (failed_events ∙ sym (append-nil (so_far ++ more))) (text_of fault) stopped
 
-  module _ (here : GoesOnHere program how made so_far it.before.left (so_far ++ more)) (still : it.undisturbed) where
+  module _ (here : GoesOnHere runs how made so_far it.before.left (so_far ++ more)) (still : it.undisturbed) where
     further_text : (whole : Run) (others : List Event) → whole.events ≡ (so_far ++ more) ++ others
         → transcript how.trace whole
         ≡ shown ++ (lines_of_events how.trace more ++ (lines_of_events how.trace others ++ line (end_text whole.end)))
@@ -279,20 +277,20 @@ module _ (program : Program) (how : Manner) (fault : End) (it : Driven) (made : 
         regrouped : (a b c d : List ℕ) → ((a ++ b) ++ c) ++ d ≡ a ++ (b ++ (c ++ d))
         regrouped a b c d = simp append_assoc
 
-    pub goes_early : (halt : Halt) → TellsUntil halt it (run program here.entries how.turns).events
+    pub goes_early : (halt : Halt) → TellsUntil halt it (runs here.entries how.turns).events
         → StopsWriting (lines_of_events how.trace more) now last halt → Early halt first last
     goes_early halt known stops =
-        let whole = run program here.entries how.turns in
-        early_by (MayDrive program how fault (wire_until halt it)) (IsUntold it) first now shown wrote
+        let whole = runs here.entries how.turns in
+        early_by (MayDrive runs how fault (wire_until halt it)) (IsUntold it) first now shown wrote
         (output_of how.trace whole) (inl (still, here.entries, here.agrees, refl, known, tt))
         (lines_of_events how.trace more) (lines_of_events how.trace here.more ++ line (end_text whole.end))
         (further_text whole here.more here.is) last halt stops
 
     pub goes_cut : Asks (so_far ++ more) it.before it.after → made ≤ how.turns → (cut : Cut)
         → StopsTelling (record it.shelf { old = mid }) (recorded more) (lines_of_events how.trace more) now last cut
-        → CutsShort program how fault it first last cut
+        → CutsShort runs how fault it first last cut
     goes_cut asked fewer (Halted halt) stopped =
-        goes_early halt (until asked (run program here.entries how.turns).events here.more here.is halt (lines_of_events how.trace more) stopped)
+        goes_early halt (until asked (runs here.entries how.turns).events here.more here.is halt (lines_of_events how.trace more) stopped)
         (stops_text halt (lines_of_events how.trace more) stopped)
     goes_cut asked fewer Unrecorded stopped =
         stops asked fewer here.entries [] (agrees_all here.entries here.agrees) here.before here.more here.is (lines_of_events how.trace more) stopped

@@ -1,14 +1,11 @@
 -- What driving a run leaves.
 use Rattle.std.specs.Prelude.{◌≡◌, ℕ, ◌≤◌, List, ◌++◌, ◌⊎◌, Result, IfOk, IfErr, length}
-use Rattle.model_tree.specs.Syntax.{Program}
 use Rattle.model_wire.specs.Event.{Event, calls_in}
 use Rattle.model_wire.specs.Journal.{Entry}
 use Rattle.model_wire.specs.Told.{Agrees, Rose, SinkSeen, WireSeen, took}
 use Rattle.model_wire.specs.Trace.{End, end_text, line, lines_of_events}
-use Rattle.model_machine.specs.Extra.{no_extra}
 use Rattle.model_program.specs.Program.{IsOver, output_of}
-use Rattle.model_machine.specs.Run.{turns_over}
-use Rattle.model_program.specs.Runs.{run}
+use Rattle.model_machine.specs.Run.{Run, turns_over}
 use Rattle.model_machine.specs.State.{State}
 use Rattle.model_program.specs.Written.{IsFrontOf, ProgramOutput, WritesWhole}
 use Rattle.model_program.specs.Transcript.{status_of}
@@ -16,8 +13,7 @@ use Rattle.model_machine.specs.Turn.{is_stalled}
 use Rattle.model_commands.specs.Causes.{IsCaused}
 use Rattle.model_commands.specs.Recorded.{FailsRecording, Records, recorded}
 use Rattle.aio_wire.specs.Outside.{Outside}
-use Rattle.aio_extra.specs.Nothing.{nothing_added}
-use Rattle.aio_extra.specs.declared.nothing.NoExtra.{NoExtra}
+use Rattle.aio_extra.specs.Added.{Added}
 use Rattle.aio_core.specs.Asked.{Asks, AsksOnce}
 use Rattle.aio_core.specs.Turned.{KernelStandsFor}
 use Rattle.aio_core.specs.declared.kernel.Kernel.{Kernel}
@@ -29,6 +25,10 @@ use Rattle.aio_drive.specs.declared.cut.Cut.TheVariants.{Halted, Unrecorded}
 use Rattle.aio_drive.specs.declared.driver.Manner.{Manner}
 use Rattle.aio_drive.specs.declared.halt.Halt.{Halt}
 use Rattle.aio_drive.specs.declared.halt.Halt.TheVariants.{Memory, Sink}
+
+-- the runs of a program, by what the outside answers and how many turns are allowed
+abbrev pub Runs : Type 0
+Runs = List Entry → (allowed : ℕ) → Run
 
 -- what stays of a wire while it doesn't fail; one that fails at each call doesn't let a run end
 abbrev pub Undisturbed : (fails quiet : Type 0) → Type 0
@@ -43,18 +43,18 @@ pub record DrivenWire : Type 1 where
   pub asked : List Event → Type 0
   pub caused : End → Type 0
 
--- What may be written of a program's run. Where the wire didn't fail, the whole run over entries that agree with what it
--- told. Where it failed, the run over the answers had so far, which was over at the call that failed: its lines, and then
+-- What may be written of a program's run, by its runs. Where the wire didn't fail, the whole run over entries that agree with what
+-- it told. Where it failed, the run over the answers had so far, which was over at the call that failed: its lines, and then
 -- the fault's.
-abbrev pub MayDrive : Program → Manner → (fault : End) → DrivenWire → ProgramOutput → Type 0
-MayDrive program how fault wire output =
+abbrev pub MayDrive : Runs → Manner → (fault : End) → DrivenWire → ProgramOutput → Type 0
+MayDrive runs how fault wire output =
     (wire.undisturbed × (entries : List Entry) × Agrees wire.before.left entries
-    × (output ≡ output_of how.trace (run program entries how.turns)) × wire.asked (run program entries how.turns).events
-    × wire.caused (run program entries how.turns).end)
+    × (output ≡ output_of how.trace (runs entries how.turns)) × wire.asked (runs entries how.turns).events
+    × wire.caused (runs entries how.turns).end)
     ⊎ (Rose wire.before.faults wire.after.faults × (had : List Entry) × ((rest : List Entry) × Agrees wire.before.left (had ++ rest))
-    × IsOver (run program had how.turns)
-    × (output ≡ output_of how.trace (record (run program had how.turns) { end = fault }))
-    × wire.asked (run program had how.turns).events)
+    × IsOver (runs had how.turns)
+    × (output ≡ output_of how.trace (record (runs had how.turns) { end = fault }))
+    × wire.asked (runs had how.turns).events)
 
 -- ---- a run of which nothing is recorded
 -- The wire was asked all that the run's events say.
@@ -140,8 +140,8 @@ abbrev pub wire_until : Halt → Driven → DrivenWire
 wire_until halt it = wire_by it (TellsUntil halt it) (λ end. Unit {0})
 
 -- What may be written of a run that is told whole.
-abbrev pub MayTell : Program → Manner → (fault : End) → Driven → ProgramOutput → Type 0
-MayTell program how fault it output = MayDrive program how fault (wire_told it) output
+abbrev pub MayTell : Runs → Manner → (fault : End) → Driven → ProgramOutput → Type 0
+MayTell runs how fault it output = MayDrive runs how fault (wire_told it) output
 
 -- nothing is known of the run yet, and nothing was recorded
 abbrev pub IsUntold : Driven → Type 0
@@ -149,7 +149,7 @@ IsUntold it = IsUnbegun it.quiet it.before it.after × it.same
 
 -- A turn's answers could not be recorded: of its entries the file has a front, and it failed. The lines of the turns before it were
 -- written, and none of its own.
-pub record StopsRecording (program : Program) (how : Manner) (it : Driven) (old new : SinkSeen) : Type 0 where
+pub record StopsRecording (runs : Runs) (how : Manner) (it : Driven) (old new : SinkSeen) : Type 0 where
   pub had : List Entry
   pub told : (rest : List Entry) × Agrees it.before.left (had ++ rest)
   -- so many turns were made before it
@@ -158,50 +158,51 @@ pub record StopsRecording (program : Program) (how : Manner) (it : Driven) (old 
   -- the events of it, and of those after it
   pub turn : List Event
   pub more : List Event
-  pub events : (run program had how.turns).events ≡ ((run program had made).events ++ turn) ++ more
-  pub asked : Asks ((run program had made).events ++ turn) it.before it.after
+  pub events : (runs had how.turns).events ≡ ((runs had made).events ++ turn) ++ more
+  pub asked : Asks ((runs had made).events ++ turn) it.before it.after
   pub front : List ℕ
   pub some : IsFrontOf front (recorded turn)
-  pub failed : FailsRecording it.shelf.name (recorded (run program had made).events ++ front) it.shelf.old it.shelf.new
-  pub wrote : new ≡ took old (lines_of_events how.trace (run program had made).events)
+  pub failed : FailsRecording it.shelf.name (recorded (runs had made).events ++ front) it.shelf.old it.shelf.new
+  pub wrote : new ≡ took old (lines_of_events how.trace (runs had made).events)
 
 -- what is left where such a run was cut short
-abbrev pub CutsShort : Program → Manner → (fault : End) → Driven → (old new : SinkSeen) → Cut → Type 0
-CutsShort program how fault it old new (Halted halt) =
-    EndsEarly (MayDrive program how fault (wire_until halt it)) (IsUntold it) old new halt
-CutsShort program how fault it old new Unrecorded = StopsRecording program how it old new
+abbrev pub CutsShort : Runs → Manner → (fault : End) → Driven → (old new : SinkSeen) → Cut → Type 0
+CutsShort runs how fault it old new (Halted halt) =
+    EndsEarly (MayDrive runs how fault (wire_until halt it)) (IsUntold it) old new halt
+CutsShort runs how fault it old new Unrecorded = StopsRecording runs how it old new
 
 -- ---- a drive
--- A program was driven over a wire, which `was` so before it and `is` so after it; `sink` and `late` are the sink before and after it.
-pub record Drives {W : Type 0} (o : Outside W) (program : Program) (how : Manner) (fault : End) (was is : W) (sink late : SinkSeen)
+-- A program, which has these runs, was driven over a wire, which `was` so before it and `is` so after it; `sink` and `late` are the
+-- sink before and after it.
+pub record Drives {W : Type 0} (o : Outside W) (runs : Runs) (how : Manner) (fault : End) (was is : W) (sink late : SinkSeen)
     (result : Result ℕ Halt) : Type 0 where
   -- all that may be written of the run was written, with its status
   pub ok : IfOk result (WritesWhole
-      (MayDrive program how fault (over_all (o.seen was) (o.seen is) (Undisturbed (o.fails was) (o.quiet was is)))) sink late)
+      (MayDrive runs how fault (over_all (o.seen was) (o.seen is) (Undisturbed (o.fails was) (o.quiet was is)))) sink late)
   -- or a front of it
   pub err : IfErr result (λ halt. EndsEarly
-      (MayDrive program how fault (over_front halt (o.seen was) (o.seen is) (Undisturbed (o.fails was) (o.quiet was is))))
+      (MayDrive runs how fault (over_front halt (o.seen was) (o.seen is) (Undisturbed (o.fails was) (o.quiet was is))))
       (IsUnbegun (o.quiet was is) (o.seen was) (o.seen is)) sink late halt)
   -- what stays of the wire from call to call
   pub keeps : o.keeps was is
 
 -- the same of a run that may be recorded
-pub record DrivesRecorded {W : Type 0} (o : Outside W) (program : Program) (how : Manner) (fault : End) (was is : W) (shelf : Recording)
+pub record DrivesRecorded {W : Type 0} (o : Outside W) (runs : Runs) (how : Manner) (fault : End) (was is : W) (shelf : Recording)
     (same : Type 0) (sink late : SinkSeen) (result : Result ℕ Cut) : Type 0 where
-  pub ok : IfOk result (WritesWhole (MayTell program how fault (driven_by o was is shelf same)) sink late)
-  pub err : IfErr result (CutsShort program how fault (driven_by o was is shelf same) sink late)
+  pub ok : IfOk result (WritesWhole (MayTell runs how fault (driven_by o was is shelf same)) sink late)
+  pub err : IfErr result (CutsShort runs how fault (driven_by o was is shelf same) sink late)
   pub keeps : o.keeps was is
 
 -- ---- the last turn
 -- how a run ends that may make no further turn
-abbrev pub LastOf : {g : _} → Kernel NoExtra g → (turns : ℕ) → End → Type 0
-LastOf kernel turns end =
-    (past : List Event) (answers : List Entry) (s : State (Unit {0})) → KernelStandsFor nothing_added past answers kernel s
-    → end ≡ turns_over (is_stalled no_extra s) turns
+abbrev pub LastOf : {X : Type 0} {g : _} → Added X → Kernel X g → (turns : ℕ) → End → Type 0
+LastOf a kernel turns end =
+    (past : List Event) (answers : List Entry) (s : State a.Kept) → KernelStandsFor a past answers kernel s
+    → end ≡ turns_over (is_stalled a.meaning s) turns
 
 -- the last line of such a run was written, with its status, or writing it stopped
-pub record WritesLimit {g : _} (kernel : Kernel NoExtra g) (how : Manner) (old new : SinkSeen) (result : Result ℕ Halt) : Type 0 where
+pub record WritesLimit {X : Type 0} {g : _} (a : Added X) (kernel : Kernel X g) (how : Manner) (old new : SinkSeen) (result : Result ℕ Halt) : Type 0 where
   pub end : End
-  pub last : LastOf kernel how.turns end
+  pub last : LastOf a kernel how.turns end
   pub ok : IfOk result (λ status. (status ≡ status_of end) × (new ≡ took old (line (end_text end))))
   pub err : IfErr result (StopsWriting (line (end_text end)) old new)

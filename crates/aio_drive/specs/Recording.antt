@@ -12,8 +12,7 @@ use Rattle.model_commands.specs.Recorded.{FailsRecording, Records, recorded}
 use Rattle.aio_wire.specs.Outside.{Outside}
 use Rattle.aio_wire.specs.Replied.{Stays}
 use Rattle.aio_wire.specs.declared.stop.Stop.TheVariants as stop
-use Rattle.aio_extra.specs.Nothing.{nothing_added}
-use Rattle.aio_extra.specs.declared.nothing.NoExtra.{NoExtra}
+use Rattle.aio_extra.specs.Added.{Added}
 use Rattle.aio_core.specs.Turned.{KernelStandsFor, TurnedBy, ended, untaken}
 use Rattle.aio_core.specs.Turning.{WireTurn, wire_turn}
 use Rattle.aio_core.specs.declared.kernel.Kernel.{Kernel}
@@ -90,14 +89,15 @@ CutsTurn it told old new cut (went.Stopped stop.Memory) = (cut ≡ Halted Memory
 -- A turn was made, its events were taken out, its answers were recorded and its lines written, or that stopped. `mid` is the kernel after
 -- the turn, whose events weren't taken out yet; `went` is what the turn answered, and `said` what it came to. Where memory was refused in
 -- it the shelf is the `same`.
-pub record TellsTurn {g : _} (trace : Bool) (fault : End) (wire : WireTurn) (shelf : Recording) (same : Type 0) (sink late : SinkSeen)
-    (old new : Kernel NoExtra g) (result : Result (Option ℕ) Cut) : Type 0 where
-  pub mid : Kernel NoExtra g
+pub record TellsTurn {X : Type 0} {g : _} (a : Added X) (trace : Bool) (fault : End) (wire : WireTurn) (shelf : Recording) (same : Type 0)
+    (sink late : SinkSeen)
+    (old new : Kernel X g) (result : Result (Option ℕ) Cut) : Type 0 where
+  pub mid : Kernel X g
   pub went : Went
   pub said : Went
-  pub turned : TurnedBy nothing_added wire old mid went said
-  pub stands : (past : List Event) (answers : List Entry) (s : State (Unit {0})) → KernelStandsFor nothing_added past answers mid s
-      → KernelStandsFor nothing_added (past ++ untaken mid) answers new s
+  pub turned : TurnedBy a wire old mid went said
+  pub stands : (past : List Event) (answers : List Entry) (s : State a.Kept) → KernelStandsFor a past answers mid s
+      → KernelStandsFor a (past ++ untaken mid) answers new s
   pub left : untaken new ≡ []
   pub told : OnOk result (is_refused went ≡ false)
   pub noted : OnOk result (Records shelf.name (recorded (untaken mid)) shelf.old shelf.new)
@@ -106,10 +106,10 @@ pub record TellsTurn {g : _} (trace : Bool) (fault : End) (wire : WireTurn) (she
   pub refused : is_refused went ≡ true → same
 
 -- The next turn was made over a wire, which `was` so before it and `is` so after it, and told.
-pub record TellsNext {W : Type 0} {g : _} (o : Outside W) (trace : Bool) (fault : End) (was is : W) (shelf : Recording) (same : Type 0)
-    (sink late : SinkSeen) (old new : Kernel NoExtra g) (result : Result (Option ℕ) Cut) : Type 0 where
+pub record TellsNext {X W : Type 0} {g : _} (a : Added X) (o : Outside W) (trace : Bool) (fault : End) (was is : W) (shelf : Recording) (same : Type 0)
+    (sink late : SinkSeen) (old new : Kernel X g) (result : Result (Option ℕ) Cut) : Type 0 where
   -- where the run hadn't ended
-  pub turned : ended old ≡ None → TellsTurn trace fault (wire_turn o was is) shelf same sink late old new result
+  pub turned : ended old ≡ None → TellsTurn a trace fault (wire_turn o was is) shelf same sink late old new result
   -- what stays of the wire; and whether its answers fit, which stays, with its count of faults, which didn't fall
   pub keeps : o.keeps was is
   pub stays : Stays (o.seen was) (o.seen is)

@@ -15,6 +15,7 @@ use Rattle.model_wire.specs.Told.{Agrees, FileFailed, Rose, ShelfSeen, SinkSeen,
 use Rattle.model_wire.specs.Trace.{End, line}
 use Rattle.model_program.specs.Program.{Manner, script_refused, FileSays, JournalSays, JournalBegins, MayRun, MayRunScript, MayReplay}
 use Rattle.model_program.specs.Program.{MayCheck, checked}
+use Rattle.model_program.specs.Added.{added, first_added}
 use Rattle.model_program.specs.Runs.{run}
 use Rattle.model_program.specs.Transcript.{status_of}
 use Rattle.model_program.specs.Written.{ProgramOutput, WritesWhole}
@@ -65,7 +66,7 @@ none_failed old new same = ap (λ (s : ShelfSeen). s.faults) same
 pub may_run : (program : Program) (how : code.Manner) (journal : List ℕ) (old new : ShelfSeen) (before after : WireSeen) (fails quiet : Type 0)
     → before.left ≡ left_of (old.file journal) unread → (old.file journal ≡ Some None → fails) → (quiet → new ≡ old)
     → (Rose before.faults after.faults → FileFailed journal old new) → (asked : List Event → Type 0) (caused : End → Type 0) (output : ProgramOutput)
-    → MayDrive program how end.ShelfFault
+    → MayDrive (run program) how end.ShelfFault
     (record { before = before; after = after; undisturbed = Undisturbed fails quiet; asked = asked; caused = caused }) output
     → MayRun old new program (manner_of journal how) output
 may_run program how journal old new before after fails quiet told missing same failed asked caused output
@@ -131,7 +132,7 @@ module _ {F : Type 0} (seen : F → ShelfSeen) (first held now after : F) (name 
   after_it = seen_of_answers (seen now) late own_last
 
   abbrev Drives : DrivenWire → ProgramOutput → Type 0
-  Drives wire = MayDrive program how end.ShelfFault wire
+  Drives wire = MayDrive (run program) how end.ShelfFault wire
 
   abbrev Runs : ProgramOutput → Type 0
   Runs = MayRun (seen first) (seen after) program (manner_of journal how)
@@ -172,7 +173,7 @@ told_of_file told text entries is agrees =
 
 -- over the entries of a journal
 pub tallies_over : (program : Program) (journal : List ℕ) (seen : WireSeen) (it : Tally)
-    → ((entries : List Entry) → Agrees seen.left entries → entries ≡ entries_of journal) → Tallies program most_turns seen it
+    → ((entries : List Entry) → Agrees seen.left entries → entries ≡ entries_of journal) → Tallies added first_added program most_turns seen it
     → TalliesOver program journal it
 tallies_over program journal seen it told (entries, agrees, counts, status) =
     let same = told entries agrees in

@@ -100,14 +100,14 @@ between_of it = between it.shelf.old it.shelf.new it.before it.after
 module _ (program : Program) (how : Manner) (it : Driven) (fails : Type 0) (undisturbed : it.undisturbed ≡ Undisturbed fails it.quiet) where
   pub runs_over : (known : List Event → Type 0) (told : Option (List ℕ) → List Event → Type 0) (caused : End → Type 0)
       → ((events : List Event) → known events → told it.shelf.name events) → (output : ProgramOutput)
-      → MayDrive program how end.WireFault (wire_by it known caused) output
+      → MayDrive (run program) how end.WireFault (wire_by it known caused) output
       → MayRun (record { seen = between_of it; fails = fails; told = told; caused = caused }) program (pace_of it.shelf.name how) output
   runs_over known told caused same output (inl (calm, entries, agrees, is, holds, cause)) =
       inl ((subst (λ (t : Type 0). t) undisturbed calm).0, entries, agrees, is, same _ holds, cause)
   runs_over known told caused same output (inr (rose, had, told_so, over, is, holds)) = inr (inl (rose, had, told_so, over, is, same _ holds))
 
   -- what no file but the one that is named lost
-  pub others_told : (output : ProgramOutput) → MayTell program how end.WireFault it output → KeepsOthers it.shelf.name it.shelf.old it.shelf.new
+  pub others_told : (output : ProgramOutput) → MayTell (run program) how end.WireFault it output → KeepsOthers it.shelf.name it.shelf.old it.shelf.new
   others_told output (inl (calm, entries, agrees, is, told, cause)) = others_kept it.shelf.name _ it.shelf.old it.shelf.new told.1
   others_told output (inr (rose, had, told_so, over, is, told)) = others_kept it.shelf.name _ it.shelf.old it.shelf.new told.1
 
@@ -116,14 +116,14 @@ module _ (program : Program) (how : Manner) (it : Driven) (fails : Type 0) (undi
   others_until Sink events (front, rest, is, told) = others_kept it.shelf.name _ it.shelf.old it.shelf.new told.1
 
   module _ (kept : it.same → it.shelf.new.file ≡ it.shelf.old.file) (halt : Halt) where
-    others_begun : (front : List ℕ) → MayBegin (MayDrive program how end.WireFault (wire_until halt it)) (IsUntold it) front
+    others_begun : (front : List ℕ) → MayBegin (MayDrive (run program) how end.WireFault (wire_until halt it)) (IsUntold it) front
         → KeepsOthers it.shelf.name it.shelf.old it.shelf.new
     others_begun front (inl (empty, untold)) = others_same it.shelf.name it.shelf.old it.shelf.new (kept untold.1)
     others_begun front (inr (output, inl (calm, entries, agrees, is, told, cause), part)) = others_until halt _ told
     others_begun front (inr (output, inr (rose, had, told_so, over, is, told), part)) = others_until halt _ told
 
   pub others_early : (kept : it.same → it.shelf.new.file ≡ it.shelf.old.file) (halt : Halt) (old new : SinkSeen)
-      → EndsEarly (MayDrive program how end.WireFault (wire_until halt it)) (IsUntold it) old new halt
+      → EndsEarly (MayDrive (run program) how end.WireFault (wire_until halt it)) (IsUntold it) old new halt
       → KeepsOthers it.shelf.name it.shelf.old it.shelf.new
   others_early kept Memory old new early = others_begun kept Memory early.0 early.1
   others_early kept Sink old new early = others_begun kept Sink early.0 early.1
@@ -139,7 +139,7 @@ pub all_so : (it : Driven) (events : List Event) → drive.TellsAll it events �
 all_so it events told = (asks-same events it.before it.after told.0, told.1)
 
 -- ---- a run whose answers could not be recorded
-module _ (program : Program) (how : Manner) (it : Driven) (first mid : SinkSeen) (stops : StopsRecording program how it first mid) where
+module _ (program : Program) (how : Manner) (it : Driven) (first mid : SinkSeen) (stops : StopsRecording (run program) how it first mid) where
   cut_short : ProgramOutput
   cut_short = faulted how.trace end.ShelfFault (run program stops.had stops.made)
 

@@ -1,6 +1,7 @@
 //! The program: what it does for its words, over a shelf, a wire and a sink.
 #![tactic(auto)]
 
+mod added;
 mod checking;
 mod program;
 mod replaying;

@@ -5,6 +5,7 @@ ghost use Rattle.model_program.specs.Program.{MayReplay, MayRun};
 ghost use Rattle.aio_run.specs.Manner.{manner_of};
 ghost use Rattle.aio_run.specs.Writes.{Writes};
 
+use crate::added::added;
 use crate::script::{read_script, refuse};
 use aio_drive::{Halt, Manner, drive};
 use aio_memwire::JournalWire;
@@ -52,5 +53,13 @@ fn replay_program<F: Shelf, K: Sink>(
     ensures files { (F.seen shelf.new).file ≡ (F.seen shelf.old).file }
 {
     let mut wire = JournalWire::answering(alloc, shelf, journal);
-    drive(alloc, program, manner, &End::ShelfFault, &mut wire, out)
+    drive(
+        alloc,
+        program,
+        added(),
+        manner,
+        &End::ShelfFault,
+        &mut wire,
+        out,
+    )
 }

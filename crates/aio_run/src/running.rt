@@ -6,6 +6,7 @@ ghost use Rattle.model_commands.specs.Outputs.{KeepsOthers, MayRun, MayRunOver};
 ghost use Rattle.aio_run.specs.Running.{between, pace_of, told_by};
 ghost use Rattle.aio_run.specs.Writes.{Writes};
 
+use crate::added::added;
 use crate::script::{read_script, refuse};
 use aio_drive::{Cut, Halt, Manner, drive_recorded, say};
 use aio_script::Program;
@@ -66,6 +67,7 @@ fn run_program<F: Shelf, W: Wire, K: Sink>(
     match drive_recorded(
         alloc,
         program,
+        added(),
         manner,
         &End::WireFault,
         wire,

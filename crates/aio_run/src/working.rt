@@ -6,6 +6,7 @@ ghost use Rattle.aio_tally.specs.Tallied.{plain_counts};
 ghost use Rattle.aio_run.specs.Working.{TalliesOver, TalliesWork};
 ghost use Rattle.aio_run.specs.Writes.{Writes};
 
+use crate::added::added;
 use aio_base::Memory;
 use aio_drive::{Halt, say};
 use aio_memwire::JournalWire;
@@ -54,7 +55,7 @@ fn tally_over<F: Shelf>(alloc: Global, program: &Program, shelf: &mut F) -> Resu
         → TalliesOver program.now text tally) }
 {
     let mut wire = JournalWire::answering(alloc, shelf, "journal");
-    match tally_run(alloc, program, MOST_TURNS, &mut wire) {
+    match tally_run(alloc, program, added(), MOST_TURNS, &mut wire) {
         Ok(tally) => Ok(tally),
         // A shelf in memory doesn't fail where it has the file.
         Err(_) => Err(Memory),

@@ -5,16 +5,15 @@ use Rattle.model_tree.specs.Syntax.{Program}
 use Rattle.model_wire.specs.Event.{Event}
 use Rattle.model_wire.specs.Journal.{Entry}
 use Rattle.model_wire.specs.Told.{Agrees, WireSeen}
-use Rattle.model_machine.specs.Extra.{no_extra}
+use Rattle.model_machine.specs.Extra.{Extra}
 use Rattle.model_machine.specs.Run.{turns_over}
 use Rattle.model_machine.specs.State.{State}
 use Rattle.model_machine.specs.Turn.{is_stalled}
-use Rattle.model_program.specs.Runs.{run}
+use Rattle.model_program.specs.Runs.{run_over}
 use Rattle.model_program.specs.Transcript.{status_of}
 use Rattle.model_commands.specs.Works as plain
-use Rattle.model_commands.specs.Works.{counted, counts_of, is_call, is_said, tasks_in}
-use Rattle.aio_extra.specs.Nothing.{nothing_added}
-use Rattle.aio_extra.specs.declared.nothing.NoExtra.{NoExtra}
+use Rattle.model_commands.specs.Works.{counted, counts_over, is_call, is_said, tasks_in}
+use Rattle.aio_extra.specs.Added.{Added}
 use Rattle.aio_core.specs.Turned.{KernelStandsFor, TurnedBy, held_tasks, untaken}
 use Rattle.aio_core.specs.Turning.{WireTurn}
 use Rattle.aio_core.specs.declared.kernel.Kernel.{Kernel}
@@ -27,26 +26,28 @@ use Rattle.aio_tally.specs.declared.tallying.Tally.{Tally}
 abbrev pub plain_counts : Counts → plain.Counts
 plain_counts it = record { tasks = it.tasks; calls = it.calls; said = it.said }
 
--- A program's whole run, over entries that agree with what the wire told, has these counts and this status.
-abbrev pub Tallies : Program → (turns : ℕ) → WireSeen → Tally → Type 0
-Tallies program turns seen it =
-    (entries : List Entry) × Agrees seen.left entries × (plain_counts it.counts ≡ counts_of program entries turns)
-    × (it.status ≡ status_of (run program entries turns).end)
+-- A program's whole run, over entries that agree with what the wire told, has these counts and this status, where this is added to the
+-- loop's own requests, and keeps this as the run begins.
+abbrev pub Tallies : {S : Type 0} → Extra S → (first : S) → Program → (turns : ℕ) → WireSeen → Tally → Type 0
+Tallies added first program turns seen it =
+    (entries : List Entry) × Agrees seen.left entries × (plain_counts it.counts ≡ counts_over added first program entries turns)
+    × (it.status ≡ status_of (run_over added first program entries turns).end)
 
 -- A turn was made, its events were taken out, and what it did was counted. `mid` is the kernel after the turn, whose events weren't taken
 -- out yet; `went` is what the turn answered, and `said` what it came to. There were so many tasks `before` it, and `after` it.
-pub record CountsTurn {g : _} (wire : WireTurn) (old new : Kernel NoExtra g) (was is : Counts) (result : Result (Option ℕ) Uncounted) : Type 0 where
-  pub mid : Kernel NoExtra g
+pub record CountsTurn {X : Type 0} {g : _} (a : Added X) (wire : WireTurn) (old new : Kernel X g) (was is : Counts)
+    (result : Result (Option ℕ) Uncounted) : Type 0 where
+  pub mid : Kernel X g
   pub went : Went
   pub said : Went
-  pub turned : TurnedBy nothing_added wire old mid went said
-  pub stands : (past : List Event) (answers : List Entry) (s : State (Unit {0})) → KernelStandsFor nothing_added past answers mid s
-      → KernelStandsFor nothing_added (past ++ untaken mid) answers new s
+  pub turned : TurnedBy a wire old mid went said
+  pub stands : (past : List Event) (answers : List Entry) (s : State a.Kept) → KernelStandsFor a past answers mid s
+      → KernelStandsFor a (past ++ untaken mid) answers new s
   pub left : untaken new ≡ []
   pub calls : is.calls ≡ counted (was.calls + count_by is_call (untaken mid))
   pub lines : is.said ≡ counted (was.said + count_by is_said (untaken mid))
   pub before : ℕ
-  pub made : (past : List Event) (answers : List Entry) (s : State (Unit {0})) → KernelStandsFor nothing_added past answers old s
+  pub made : (past : List Event) (answers : List Entry) (s : State a.Kept) → KernelStandsFor a past answers old s
       → before ≡ tasks_in s
   pub after : ℕ
   pub held : held_tasks mid < 2 ^ 32 → after ≡ held_tasks mid
@@ -54,7 +55,7 @@ pub record CountsTurn {g : _} (wire : WireTurn) (old new : Kernel NoExtra g) (wa
   pub status : result ≡ status_by went
 
 -- the status of a run that may make no further turn
-abbrev pub EndsAtLimit : {g : _} → Kernel NoExtra g → (status : ℕ) → Type 0
-EndsAtLimit kernel status =
-    (turns : ℕ) (past : List Event) (answers : List Entry) (s : State (Unit {0})) → KernelStandsFor nothing_added past answers kernel s
-    → status ≡ status_of (turns_over (is_stalled no_extra s) turns)
+abbrev pub EndsAtLimit : {X : Type 0} {g : _} → Added X → Kernel X g → (status : ℕ) → Type 0
+EndsAtLimit a kernel status =
+    (turns : ℕ) (past : List Event) (answers : List Entry) (s : State a.Kept) → KernelStandsFor a past answers kernel s
+    → status ≡ status_of (turns_over (is_stalled a.meaning s) turns)

@@ -1,22 +1,24 @@
 //! A script's run over what the outside answers.
 ghost use Rattle.aio_extra.specs.Added.{KeepsNothing};
 
-use aio_base::{Memory, Outcome};
-use aio_core::{Kernel, Went};
+use aio_drive::{Manner, drive};
 use aio_extra::Extra;
 use aio_memwire::JournalWire;
 use aio_program::Program;
 use aio_script::read;
-use aio_trace::{End, last_line, lines};
-use aio_wire::{Events, MemShelf, Shelf, Stop, Wire};
+use aio_trace::End;
+use aio_wire::{MemShelf, MemSink, Shelf};
 use std::alloc::Global;
 use try_row::RowsStopped;
 
 /// Turns whose time stays at 0.
 pub const AT_ONCE: &str = "turn 0\nturn 0\nturn 0\nturn 0\nturn 0\nturn 0\nturn 0\nturn 0\n";
 
-/// More turns than there are answers.
-const TURNS: u64 = 10;
+/// With the trace, and of more turns than there are answers.
+const MANNER: Manner = Manner {
+    trace: true,
+    turns: 10,
+};
 
 /// The transcript of a script over these answers, with the trace.
 pub fn transcript<X: Extra + Drop>(
@@ -68,121 +70,28 @@ fn drive_over<X: Extra + Drop>(
 ) -> Result<Vec<u8>, RowsStopped>
     requires fresh { ∥ ((kept : X.added.Kept) × KeepsNothing X.added extra kept) ∥₁ }
 {
-    let mut wire = JournalWire::new(alloc, shelf, "answers");
-    let text = drive(alloc, program, &mut wire, extra);
+    let mut wire = JournalWire::answering(alloc, shelf, "answers");
+    let mut out = MemSink::new(alloc);
+    let driven = drive(
+        alloc,
+        program,
+        extra,
+        MANNER,
+        &End::ShelfFault,
+        &mut wire,
+        &mut out,
+    );
     drop(wire);
+    let text = match driven {
+        Ok(_) => copy_of(alloc, out.taken()),
+        Err(_) => Err(RowsStopped),
+    };
+    drop(out);
     text
 }
 
-fn drive<W: Wire, X: Extra + Drop>(
-    alloc: Global,
-    program: &Program,
-    wire: &mut W,
-    extra: X,
-) -> Result<Vec<u8>, RowsStopped>
-    requires fresh { ∥ ((kept : X.added.Kept) × KeepsNothing X.added extra kept) ∥₁ }
-{
-    match Kernel::new(alloc, program, extra) {
-        Ok(mut kernel) => {
-            let text = run_turns(alloc, wire, &mut kernel);
-            drop(kernel);
-            text
-        }
-        Err(Memory) => Err(RowsStopped),
-    }
-}
-
-fn run_turns<W: Wire, X: Extra + Drop>(
-    alloc: Global,
-    wire: &mut W,
-    kernel: &mut Kernel<X>,
-) -> Result<Vec<u8>, RowsStopped> {
-    let mut text = Vec::new(alloc);
-    match tell_turns(alloc, wire, kernel, &mut text) {
-        Ok(()) => Ok(text),
-        Err(RowsStopped) => {
-            drop(text);
-            Err(RowsStopped)
-        }
-    }
-}
-
-/// Runs turns up to the one with which the run ends, and tells them.
-fn tell_turns<W: Wire, X: Extra + Drop>(
-    alloc: Global,
-    wire: &mut W,
-    kernel: &mut Kernel<X>,
-    text: &mut Vec<u8>,
-) -> Result<(), RowsStopped> {
-    for _turn in 0..TURNS {
-        if run_turn(alloc, wire, kernel, text)? {
-            return Ok(());
-        }
-    }
-    Err(RowsStopped)
-}
-
-/// Runs a turn, and tells its events. Whether the run ended by it.
-fn run_turn<W: Wire, X: Extra + Drop>(
-    alloc: Global,
-    wire: &mut W,
-    kernel: &mut Kernel<X>,
-    text: &mut Vec<u8>,
-) -> Result<bool, RowsStopped> {
-    let went = kernel.turn(alloc, wire);
-    match tell_events(alloc, kernel.events(), text) {
-        Ok(()) => tell_end(alloc, went, text),
-        Err(Memory) => {
-            drop(went);
-            Err(RowsStopped)
-        }
-    }
-}
-
-fn tell_events(alloc: Global, events: Events, text: &mut Vec<u8>) -> Result<(), Memory> {
-    let told = lines(alloc, &events, true, text);
-    drop(events);
-    told
-}
-
-/// Tells the last line, where the run ended by this turn.
-fn tell_end(alloc: Global, went: Went, text: &mut Vec<u8>) -> Result<bool, RowsStopped> {
-    match went {
-        Went::Went => Ok(false),
-        Went::Finished(outcome) => tell_last(alloc, end_of(outcome), text),
-        Went::Stalled => tell_last(alloc, End::Stalled, text),
-        Went::Runaway(task) => tell_last(alloc, End::Runaway(task), text),
-        Went::Stopped(stop) => tell_stop(alloc, stop, text),
-    }
-}
-
-fn end_of(outcome: Outcome) -> End {
-    match outcome {
-        Outcome::Value(value) => End::Returned(value),
-        Outcome::Failed(fault) => End::Raised(fault),
-        Outcome::Cancelled => End::Cancelled,
-    }
-}
-
-fn tell_stop(alloc: Global, stop: Stop, text: &mut Vec<u8>) -> Result<bool, RowsStopped> {
-    match stop {
-        Stop::Over(call) => tell_last(alloc, End::Over(call), text),
-        Stop::Mismatch(_, call) => {
-            drop(call);
-            Err(RowsStopped)
-        }
-        Stop::Failed(call) => {
-            drop(call);
-            Err(RowsStopped)
-        }
-        Stop::Bad(_) => Err(RowsStopped),
-        Stop::Memory => Err(RowsStopped),
-    }
-}
-
-fn tell_last(alloc: Global, end: End, text: &mut Vec<u8>) -> Result<bool, RowsStopped> {
-    let told = last_line(alloc, &end, text);
-    drop(end);
-    told?;
-    Ok(true)
+fn copy_of(alloc: Global, text: &[u8]) -> Result<Vec<u8>, RowsStopped> {
+    let mut copy = Vec::new(alloc);
+    copy.extend_from_slice(text)?;
+    Ok(copy)
 }

@@ -2,15 +2,14 @@ use Rattle.std.proofs.Common.{◌≡◌}
 use Rattle.std.specs.Option.{option_copied}
 use Rattle.model_tree.specs.Syntax.{Program}
 use Rattle.aio_wire.specs.Replied.{Stays}
-use Rattle.aio_extra.specs.Nothing.{nothing_added}
 use Rattle.aio_core.specs.Turned.{Begins}
 use Rattle.aio_drive.proofs.Rounds.{IsUnderWay}
 use Rattle.aio_drive.proofs.driver.drive_kernel.Given as goal
 
 abbrev pub invariant-loop-made : goal.invariant-loop-made
 invariant-loop-made g l = record {
-  running : (program : Program) → Begins nothing_added tt program l.fn.kernel
-      → IsUnderWay program l.fn.manner l._made l.kernel (g.W.Wire.outside.seen l.fn.wire) (g.W.Wire.outside.seen l.wire)
+  running : (kept : g.X.Extra.added.Kept) (program : Program) → Begins g.X.Extra.added kept program l.fn.kernel
+      → IsUnderWay g.X.Extra.added kept program l.fn.manner l._made l.kernel (g.W.Wire.outside.seen l.fn.wire) (g.W.Wire.outside.seen l.wire)
       (g.K.Sink.seen l.fn.out) (g.K.Sink.seen l.out)
       (record {
         name = option_copied l.fn.journal;
