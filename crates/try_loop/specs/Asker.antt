@@ -1,17 +1,19 @@
--- What is added: `extra(5, list)` asks the outside and hands on what it hears, and `extra(6, list)` asks back what it heard, once.
-use Rattle.std.specs.Prelude.{◌≡◌, ℕ, zero, suc, ◌<◌, ℤ, pos, false, List, [], ◌∷◌, ◌++◌, Option, Some, None, codes, length, nat_lt, slice_get, slice_set}
+-- What is added: `extra(5, list)` asks the outside and hands on what it hears, `extra(6, list)` asks back what it heard, once, and
+-- `extra(7, list)` five times; `extra(8, list)` is answered by the list.
+use Rattle.std.specs.Prelude.{◌≡◌, ℕ, zero, suc, ◌<◌, ◌≤◌, ℤ, pos, true, false, ◌&&◌, List, [], ◌∷◌, ◌++◌, Option, Some, None, codes, length, nat_lt, slice_get, slice_set}
 use Rattle.std.specs.Prelude.{refl, if◌then◌else◌}
+use Rattle.std.specs.List.{list_all}
 use Rattle.std.specs.Option.{option_map_or}
 use Rattle.std.specs.Ordering.{int_eq}
 use Rattle.std.proofs.Common.{sym, ap, subst, arith, length-append, length-set, ◌∙◌}
 use Rattle.std.proofs.lemmas.Bool.{le-ltb, lt-ltb, ltb-true}
 use Rattle.std.proofs.lemmas.Option.{none-some}
 use Rattle.model_value.specs.Input.{Input}
-use Rattle.model_value.specs.Value.{Value, Bytes, Nothing as no_value}
+use Rattle.model_value.specs.Value.{Value, Bytes, Items, Nothing as no_value, values}
 use Rattle.model_value.specs.declared.input.Input.TheVariants.{Send, Throw}
 use Rattle.model_loop.specs.Tasks.{next_task}
-use Rattle.model_machine.specs.Extra.{Extra, ExtraAnswer, Answers, Raises, Asks, ExtraCall, ExtraSaid, Keeping, WakesFall, called, key_of, unknown_code}
-use Rattle.model_machine.specs.Sound.{sends_made}
+use Rattle.model_machine.specs.Extra.{Extra, ExtraAnswer, Answers, Raises, Asks, ExtraSaid, Keeping, WakesFall, key_of, unknown_code}
+use Rattle.model_machine.specs.Sound.{all_made, names_made}
 use Rattle.model_machine.specs.State.{State}
 use Rattle.law_cancel.proofs.Lookups.{get-set_same}
 use Rattle.law_runs.specs.Allowed.{IsAnswerAllowed, IsCallAllowed, IsSaidAllowed, MakesAllowedSteps}
@@ -20,10 +22,12 @@ use Rattle.aio_extra.specs.declared.asked.Asked.{Asked}
 use Rattle.aio_extra.specs.declared.asked.Asked.TheVariants.{Answer, Raise, Outside}
 use Rattle.try_loop.specs.declared.asker.Asker.{Asker}
 use Rattle.try_loop.specs.declared.asker.Question.{Question}
-use Rattle.try_loop.specs.declared.asker.Question.TheVariants.{Once, Twice, Nothing}
+use Rattle.try_loop.specs.declared.asker.Question.TheVariants.{Once, Twice, Often, Echo, Nothing}
 
 abbrev pub question_by : ℤ → Question
-question_by code = if int_eq code (pos 5) then Once else (if int_eq code (pos 6) then Twice else Nothing)
+question_by code =
+    if int_eq code (pos 5) then Once
+    else (if int_eq code (pos 6) then Twice else (if int_eq code (pos 7) then Often else (if int_eq code (pos 8) then Echo else Nothing)))
 
 -- ---- what its calls mean
 -- The machine keeps how often each request asks again. Its key is its place.
@@ -31,7 +35,7 @@ abbrev pub Left : Type 0
 Left = List ℕ
 
 abbrev pub left_at : Left → (key : ℕ) → ℕ
-left_at kept key = option_map_or (λ (left : ℕ). left) 0 (slice_get kept key)
+left_at kept key = option_map_or (λ (left : ℕ). left) (slice_get kept key) 0
 
 abbrev pub only_says : ExtraAnswer → Left → ExtraSaid Left
 only_says answer kept = record { call = record { state = kept; steps = [] }; answer = answer }
@@ -40,10 +44,12 @@ only_says answer kept = record { call = record { state = kept; steps = [] }; ans
 abbrev pub asks_first : (more : ℕ) → ℤ → Left → ExtraSaid Left
 asks_first more code kept = only_says (Asks code (codes "q") (length kept)) (kept ++ more ∷ [])
 
-abbrev pub asked_for : Question → ℤ → Left → ExtraSaid Left
-asked_for Once code kept = asks_first 0 code kept
-asked_for Twice code kept = asks_first 1 code kept
-asked_for Nothing code kept = only_says (Raises (unknown_code code)) kept
+abbrev pub asked_for : Question → ℤ → List Value → Left → ExtraSaid Left
+asked_for Once code arguments kept = asks_first 0 code kept
+asked_for Twice code arguments kept = asks_first 1 code kept
+asked_for Often code arguments kept = asks_first 5 code kept
+asked_for Echo code arguments kept = only_says (Answers (Items (values arguments))) kept
+asked_for Nothing code arguments kept = only_says (Raises (unknown_code code)) kept
 
 -- It asks again under its own key.
 abbrev pub bytes_by : (left key : ℕ) → List ℕ → Left → ExtraSaid Left
@@ -64,7 +70,7 @@ left_keeps kept = record { tasks = []; futures = []; own = []; tags = []; values
 abbrev pub asker_means : Extra Left
 asker_means =
     record {
-      ask = λ task code arguments s. asked_for (question_by code) code s.extra;
+      ask = λ task code arguments s. asked_for (question_by code) code arguments s.extra;
       wake = λ key input s. woken_by key input s.extra;
       wakes_left = λ key kept. left_at kept key;
       act = λ key s. record { state = s.extra; steps = [] };
@@ -103,10 +109,20 @@ first_allowed more code s =
           );
     }
 
-asked_allowed : (question : Question) (code : ℤ) (s : State Left) → IsSaidAllowed asker_means None (asked_for question code s.extra) s
-asked_allowed Once code s = first_allowed 0 code s
-asked_allowed Twice code s = first_allowed 1 code s
-asked_allowed Nothing code s = says_allowed None (Raises (unknown_code code)) s tt refl
+-- the items of a list were made where the list was
+listed_made : (made : ℕ) (items : List Value) → all_made made (values items) ≡ list_all (names_made made) items
+listed_made made [] = refl
+listed_made made (value ∷ items) = ap (λ b. names_made made value && b) (listed_made made items)
+
+asked_allowed : (question : Question) (code : ℤ) (arguments : List Value) (s : State Left)
+    → list_all (names_made (next_task s.loop.parts)) arguments ≡ true
+    → IsSaidAllowed asker_means None (asked_for question code arguments s.extra) s
+asked_allowed Once code arguments s made = first_allowed 0 code s
+asked_allowed Twice code arguments s made = first_allowed 1 code s
+asked_allowed Often code arguments s made = first_allowed 5 code s
+asked_allowed Echo code arguments s made =
+    says_allowed None (Answers (Items (values arguments))) s (listed_made (next_task s.loop.parts) arguments ∙ made) refl
+asked_allowed Nothing code arguments s made = says_allowed None (Raises (unknown_code code)) s tt refl
 
 module _ (key : ℕ) (s : State Left) (known : nat_lt key (length s.extra) ≡ true) where
   bytes_allowed : (left : ℕ) (bytes : List ℕ) → IsSaidAllowed asker_means (Some key) (bytes_by left key bytes s.extra) s
@@ -117,7 +133,7 @@ module _ (key : ℕ) (s : State Left) (known : nat_lt key (length s.extra) ≡ t
         call = grown_allowed (Some key) s (slice_set s.extra key more) (omega (arith, n));
         answer = tt;
         key = λ next e.
-            let same : key ≡ next = ap (λ o. option_map_or (λ (k : ℕ). k) next o) e in
+            let same : key ≡ next = ap (λ o. option_map_or (λ (k : ℕ). k) o next) e in
             let w = ltb-true key (length s.extra) known in
             (sym same, lt-ltb next (length (slice_set s.extra key more)) (omega (arith, same, w, n)));
       }
@@ -132,7 +148,7 @@ module _ (key : ℕ) (s : State Left) (known : nat_lt key (length s.extra) ≡ t
 
 pub asker_allowed : MakesAllowedSteps asker_means
 asker_allowed = record {
-  ask = λ task code arguments s may made. asked_allowed (question_by code) code s;
+  ask = λ task code arguments s may made. asked_allowed (question_by code) code arguments s made;
   wake = λ task key input s may known made. woken_allowed key s known input;
   act = λ key s may. grown_allowed None s s.extra (omega arith);
   item = λ code bytes s may. grown_allowed None s s.extra (omega arith);
@@ -144,11 +160,11 @@ IsBelow left said None = Unit {0}
 IsBelow left said (Some next) = left_at said.call.state next < left
 
 bytes_below : (o : Option ℕ) (key : ℕ) (bytes : List ℕ) (kept : Left) → slice_get kept key ≡ o
-    → let left = option_map_or (λ (n : ℕ). n) 0 o in IsBelow left (bytes_by left key bytes kept) (key_of (bytes_by left key bytes kept).answer)
+    → let left = option_map_or (λ (n : ℕ). n) o 0 in IsBelow left (bytes_by left key bytes kept) (key_of (bytes_by left key bytes kept).answer)
 bytes_below None key bytes kept e = tt
 bytes_below (Some zero) key bytes kept e = tt
 bytes_below (Some (suc more)) key bytes kept e =
-    let now = ap (λ o. option_map_or (λ (n : ℕ). n) 0 o) (get-set_same kept key (suc more) more e) in omega (arith, now)
+    let now = ap (λ o. option_map_or (λ (n : ℕ). n) o 0) (get-set_same kept key (suc more) more e) in omega (arith, now)
 
 heard_below : (key : ℕ) (value : Value) (kept : Left)
     → IsBelow (left_at kept key) (heard_by key value kept) (key_of (heard_by key value kept).answer)

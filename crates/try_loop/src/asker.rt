@@ -1,4 +1,5 @@
-//! What is added: a request that asks the outside, once or twice, in the middle of its step.
+//! What is added: requests that ask the outside, once or more often, in the middle of their step,
+//! and one whose answer is its list.
 ghost use Rattle.std.specs.Prelude.{◌≡◌, [], IfOk};
 ghost use Rattle.model_machine.specs.Extra.{unknown_code};
 ghost use Rattle.try_loop.specs.Asker.{SaysIt, asks_first, bytes_by, heard_by, left_at, question_by};
@@ -15,6 +16,10 @@ pub enum Question {
     Once,
     /// 6: `q`, and then the bytes that were heard; what is heard then is the answer.
     Twice,
+    /// 7: `q`, and then five times the bytes that were heard.
+    Often,
+    /// 8: nothing; the answer is the list.
+    Echo,
     /// There is no such request.
     Nothing,
 }
@@ -84,13 +89,15 @@ impl Extra for Asker {
         alloc: Global,
         _task: u32,
         code: i64,
-        _arguments: &Value,
+        arguments: &Value,
         _futures: &[FutureId],
         _parts: &mut Parts,
     ) -> Result<Asked, Memory> {
         match question_of(code) {
             Question::Once => self.ask_first(alloc, code, 0),
             Question::Twice => self.ask_first(alloc, code, 1),
+            Question::Often => self.ask_first(alloc, code, 5),
+            Question::Echo => echo(arguments),
             Question::Nothing => unknown(alloc, code),
         }
     }
@@ -140,7 +147,20 @@ fn question_of(code: i64) -> Question
     if code == 6 {
         return Question::Twice;
     }
+    if code == 7 {
+        return Question::Often;
+    }
+    if code == 8 {
+        return Question::Echo;
+    }
     Question::Nothing
+}
+
+// The list itself.
+fn echo(list: &Value) -> Result<Asked, Memory>
+    ensures { IfOk result (λ asked. asked ≡ Asked.Answer list.now) }
+{
+    Ok(Asked::Answer(list.clone()?))
 }
 
 fn asks(alloc: Global, code: i64, bytes: &[u8], key: u64) -> Result<Asked, Memory>

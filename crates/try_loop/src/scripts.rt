@@ -77,6 +77,22 @@ def main()
 end
 ";
 
+/// Code 11 waits for a future that stands for another one, which nobody settles.
+pub const WAITS_FOR_SEVERAL: &str = "
+def main()
+  a = yield from extra(11, [])
+  print a
+end
+";
+
+/// Code 10 waits five hundred times before it is answered.
+pub const WAITS_OFTEN: &str = "
+def main()
+  a = yield from extra(10, [])
+  print a
+end
+";
+
 /// Code 5 asks the outside in the same step.
 pub const ASKS: &str = "
 def main()
@@ -89,6 +105,28 @@ end
 pub const ASKS_TWICE: &str = "
 def main()
   r = yield from extra(6, [])
+  print r
+end
+";
+
+/// Code 7 asks six times in the same step.
+pub const ASKS_OFTEN: &str = "
+def main()
+  r = yield from extra(7, [])
+  print r
+end
+";
+
+/// Code 8 hands on what its list names: a task, a future, a connection.
+pub const ECHOES: &str = "
+def work()
+  return 1
+end
+def main()
+  t = yield from spawn(work)
+  f = yield from future()
+  c = yield from connect(9)
+  r = yield from extra(8, [t, f, c])
   print r
 end
 ";

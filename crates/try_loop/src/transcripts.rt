@@ -17,7 +17,7 @@ pub const AT_ONCE: &str = "turn 0\nturn 0\nturn 0\nturn 0\nturn 0\nturn 0\nturn 
 /// With the trace, and of more turns than there are answers.
 const MANNER: Manner = Manner {
     trace: true,
-    turns: 10,
+    turns: 2000,
 };
 
 /// The transcript of a script over these answers, with the trace.
