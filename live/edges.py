@@ -81,8 +81,10 @@ def costs(program, name, text, tries=3):
 
 
 def rests(program, folder):
-    """A run that sleeps sleeps as long as it says, and it and one that waits for a program cost next to nothing."""
-    for name, text in (("rests", "T0 rested\n= returned None\n"), ("idles", "T0 0\n= returned None\n")):
+    """A run that sleeps sleeps as long as it says, and it and those that wait for a program, and for its pipes, cost next to
+    nothing."""
+    rows = (("rests", "T0 rested"), ("idles", "T0 0"), ("holds", 'T0 0 b"300000\\n"'))
+    for name, text in ((name, f"{text}\n= returned None\n") for name, text in rows):
         took, cost = costs(program, name, text)
         must(1 <= took < 1.7, f"{name}: a second took {took}")
         must(cost < 0.3, f"{name}: a second took {cost} seconds of a processor")
@@ -166,6 +168,53 @@ def refused(program, folder):
     return None
 
 
+def stays(program, folder):
+    """The end of a run waits five seconds for a program that a kill doesn't end, as one that has other rights."""
+    if os.getuid() != 0 or not shutil.which("setpriv"):
+        return "not tried: this is not root, or there is no setpriv"
+    own, holds = copied(program, folder), shutil.copy(shutil.which("setpriv"), os.path.join(folder, "holds"))
+    os.chmod(holds, 0o4755)
+    with open(script("stays"), encoding="ascii") as file:
+        text = file.read().replace('["sleep", ', f'["{holds}", "--reuid=0", "--regid=0", "--clear-groups", "sleep", ')
+    with open(os.path.join(folder, "stays.aio"), "w", encoding="ascii") as file:
+        file.write(text)
+    began = time.monotonic()
+    must_be([own, "run", os.path.join(folder, "stays.aio")], "T0 over\n= returned None\n", preexec_fn=only(100))
+    took = time.monotonic() - began
+    must(5 <= took < 12, f"the run took {took} seconds")
+    return None
+
+
+def running(*words):
+    """The numbers of the programs that were started with these words."""
+    found, wanted = [], b"".join(word.encode() + b"\0" for word in words)
+    for number in filter(str.isdecimal, os.listdir("/proc")):
+        with contextlib.suppress(OSError), open(f"/proc/{number}/cmdline", "rb") as file:
+            found += [int(number)] * (file.read() == wanted)
+    return found
+
+
+def signalled(program, folder):
+    """A signal to `./aio run` ends the run and its programs; what was recorded is what was told."""
+    guard = os.path.join(os.path.dirname(HERE), "scripts", "guard")
+    for sign, status in ((signal.SIGTERM, 143), (signal.SIGINT, 130), (signal.SIGHUP, 129)):
+        journal = os.path.join(folder, f"{status}.journal")
+        words = [guard, program, "run", script("signalled"), "--record", journal]
+        with subprocess.Popen(words, stdout=subprocess.PIPE) as run:
+            told = run.stdout.readline()
+            must(len(running("sleep", "86399")) == 3, "the programs don't run")
+            run.send_signal(sign)
+            told += run.stdout.read()
+            must(run.wait(LIMIT) == status, f"{sign.name} gives {run.returncode}")
+        must(told == b"T0 here\n", f"the run wrote {told}")
+        left = running("sleep", "86399")
+        for number in left:
+            os.kill(number, signal.SIGKILL)
+        must(not left, f"{len(left)} programs run on after {sign.name}")
+        replayed, _ = ran([program, "replay", script("signalled"), journal])
+        must(replayed.startswith("T0 here\n! over select "), f"the replay wrote\n{replayed}")
+
+
 # ---- calls that fail
 def injected(program, name, call, error, at):
     """A run of which one call fails so."""
@@ -188,7 +237,6 @@ def failures(program, folder):
         must((status, text) == (0, 'T0 first b"hello"\nT0 second b"hello"\n= returned None\n'),
              f"an accept that fails by {error} ends with {status}:\n{text}")
     return None
-
 
 
 # ---- standard input and output
@@ -248,7 +296,8 @@ def listens_here(program, folder):
     must(found == {f"0100007F:{8798:04X}"}, f"it listens on {found}")
 
 
-PARTS = (heaps, late, rests, fed, missing, forgotten, threads, refused, failures, crowded_output, closed_descriptors, full_files, listens_here)
+PARTS = (heaps, late, rests, fed, missing, forgotten, threads, refused, stays, signalled, failures, crowded_output)
+PARTS += (closed_descriptors, full_files, listens_here)
 
 
 def main():
