@@ -90,6 +90,16 @@ def rests(program, folder):
         must(cost < 0.3, f"{name}: a second took {cost} seconds of a processor")
 
 
+def spares(program, folder):
+    """Pumps that find no room for what they have to tell sleep until there is some: a long step costs one processor."""
+    before, began = resource.getrusage(resource.RUSAGE_CHILDREN), time.monotonic()
+    text, status = ran([program, "run", script("crowd")])
+    took, after = time.monotonic() - began, resource.getrusage(resource.RUSAGE_CHILDREN)
+    cost = after.ru_utime + after.ru_stime - before.ru_utime - before.ru_stime
+    must((text, status) == ("= runaway T0\n", 8), f"the run ended with {status} and wrote\n{text}")
+    must(cost < 1.5 * took + 0.5, f"{took} seconds took {cost} seconds of a processor")
+
+
 # ---- programs
 def fed(program, folder):
     """Two million bytes go through a program while it is fed, in few turns."""
@@ -296,7 +306,7 @@ def listens_here(program, folder):
     must(found == {f"0100007F:{8798:04X}"}, f"it listens on {found}")
 
 
-PARTS = (heaps, late, rests, fed, missing, forgotten, threads, refused, stays, signalled, failures, crowded_output)
+PARTS = (heaps, late, rests, spares, fed, missing, forgotten, threads, refused, stays, signalled, failures, crowded_output)
 PARTS += (closed_descriptors, full_files, listens_here)
 
 

@@ -16,6 +16,7 @@ use crate::delivery::{InboxQueue, NoneStep, PostStep, SeatStep, SettleStep, Take
 use crate::name::InboxName;
 use crate::post::{Post, PostKind, Posting};
 use crate::poster::Poster;
+use crate::room::Room;
 use crate::taker::Taker;
 use crate::unnamed::UnnamedInbox;
 use aio_base::Memory;
@@ -31,6 +32,7 @@ const MOST: u64 = 1 << 51;
 #[derive(Drop)]
 pub struct Inbox<N: InboxName> {
     queue: InboxQueue,
+    room: Room,
     of: PhantomData<N>,
     pub ghost sized: { ruled_capacity queue ≡ 1024 },
     pub ghost named: { queue.table.shared.table_id ≡ N.table },
@@ -62,6 +64,7 @@ impl<N: InboxName> Inbox<N> {
         }
         let inbox = Inbox {
             queue,
+            room: Room::new(),
             of: PhantomData,
         };
         let taker = Taker {
@@ -105,8 +108,19 @@ impl<N: InboxName> Inbox<N> {
         }
     }
 
+    /// How many posts were taken so far. Whoever may find no room asks it before it posts.
+    pub fn takes(&self) -> u64 {
+        self.room.takes()
+    }
+
+    /// Waits until more posts were taken than so many: then there may be room.
+    pub fn wait_for_room<R: Wait>(&self, rt: &R, takes: u64) {
+        self.room.wait(rt, takes);
+    }
+
     /// Takes the oldest post. `None` only where the inbox was empty at a step of the call. It takes no
-    /// memory and waits for no post; the queue tries again where another thread's step came between.
+    /// memory and waits for no post; the queue tries again where another thread's step came between. Who waits for room is
+    /// woken.
     pub fn take<R: Wait>(&self, rt: &R, taker: &mut Taker<N>) -> Option<Post>
         ensures none { IfNone result (taker.new ≡ with_none taker.old) }
         ensures empty { IfNone result (Held 0 (IsLeftFor taker.old)) }
@@ -120,7 +134,10 @@ impl<N: InboxName> Inbox<N> {
         ensures ends { All (Ends taker.new) taker.new.settled }
     {
         match self.queue.pop_as::<TakeStep, R>(rt, &mut taker.pass) {
-            Some(post) => Some(post),
+            Some(post) => {
+                self.room.make(rt);
+                Some(post)
+            }
             None => {
                 self.queue.another::<NoneStep>(&mut taker.pass);
                 None

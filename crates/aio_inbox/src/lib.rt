@@ -7,6 +7,7 @@ mod inbox;
 mod name;
 mod post;
 mod poster;
+mod room;
 mod taker;
 mod unnamed;
 mod view;

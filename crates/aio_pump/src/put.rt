@@ -4,9 +4,8 @@ ghost use Rattle.aio_pump.specs.Moments.{Puts};
 use crate::bell::Bell;
 use aio_inbox::{Inbox, InboxName, PostKind, Poster, Posting};
 use std::sync::Wait;
-use std::thread;
 
-/// Posts, and rings once. False where the poster is spent, and then nothing was posted or rung.
+/// Posts, and rings once. While the inbox is full it sleeps until a post is taken. False where the poster is spent, and then nothing was posted or rung.
 pub(crate) fn put<R: Wait, N: InboxName, B: Bell>(
     rt: &R,
     inbox: &Inbox<N>,
@@ -18,6 +17,7 @@ pub(crate) fn put<R: Wait, N: InboxName, B: Bell>(
 {
     let mut left = kind;
     for _ in rt.forever() {
+        let takes = inbox.takes();
         match inbox.post(rt, poster, left) {
             Posting::Posted => {
                 bell.ring();
@@ -25,7 +25,7 @@ pub(crate) fn put<R: Wait, N: InboxName, B: Bell>(
             }
             Posting::Full(back) => {
                 left = back;
-                thread::yield_now();
+                inbox.wait_for_room(rt, takes);
             }
             Posting::Spent(_) => return false,
         }
