@@ -39,6 +39,36 @@ fn run_rows<T: RowRunner>(alloc: Global, text: &[u8], runner: &mut T) -> Result<
     Ok(())
 }
 
+/// Runs these words over a shelf that has one file.
+pub fn run_words<T: RowRunner>(
+    alloc: Global,
+    words: &[&str],
+    name: &str,
+    text: &[u8],
+    runner: &mut T,
+) -> Result<(), RowsStopped> {
+    let mut row = Row::new(alloc, name)?;
+    let ran = run_filled(alloc, words, name, text, &mut row, runner);
+    forget_row(row);
+    ran
+}
+
+fn run_filled<T: RowRunner>(
+    alloc: Global,
+    words: &[&str],
+    name: &str,
+    text: &[u8],
+    row: &mut Row,
+    runner: &mut T,
+) -> Result<(), RowsStopped> {
+    for word in words {
+        row.add(alloc, &RowLine::Word(word))?;
+    }
+    row.add(alloc, &RowLine::File(name))?;
+    row.add(alloc, &RowLine::End(text))?;
+    runner.run(alloc, row)
+}
+
 /// Runs the row of this name, whose lines these are: what is left behind them.
 fn run_row<'a, T: RowRunner>(
     alloc: Global,
