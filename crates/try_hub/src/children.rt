@@ -1,9 +1,10 @@
 //! What the pumps of children post.
-use aio_base::{Blob, Memory};
+use aio_base::Blob;
 use aio_hub::Launch;
 use aio_inbox::PostKind;
 use model_pump::Stream;
 use std::alloc::Global;
+use try_row::blob_of;
 
 /// A post. A piece, an end and a break are of the stream of the pump that posts it.
 #[derive(Clone, Copy)]
@@ -36,59 +37,60 @@ pub const OVER: Posts = Posts {
     exit: &[Says::Exit(0)],
 };
 
-fn piece(alloc: Global, stream: Stream, bytes: &[u8]) -> Result<PostKind, Memory> {
-    Ok(PostKind::Piece {
-        stream,
-        offset: 0,
-        bytes: Blob::of(Vec::from_slice(alloc, bytes)?),
-    })
-}
-
-fn long_piece(alloc: Global, stream: Stream, length: usize) -> Result<PostKind, Memory> {
-    Ok(PostKind::Piece {
-        stream,
-        offset: 0,
-        bytes: Blob::of(vec![in alloc; b'x'; length]?),
-    })
-}
-
-fn post_of(alloc: Global, stream: Stream, says: Says) -> Result<PostKind, Memory> {
-    match says {
-        Says::Piece(bytes) => piece(alloc, stream, bytes),
-        Says::Long(length) => long_piece(alloc, stream, length),
-        Says::End => Ok(PostKind::End(stream)),
-        Says::Room => Ok(PostKind::Room),
-        Says::Broken => Ok(PostKind::Broken),
-        Says::Exit(code) => Ok(PostKind::Exit(code)),
-        Says::Fault => Ok(PostKind::Fault),
-        Says::Starved => Ok(PostKind::Starved),
+fn long_blob(alloc: Global, length: usize) -> Blob {
+    match vec![in alloc; b'x'; length] {
+        Ok(held) => Blob::of(held),
+        Err(_) => Blob::of(Vec::new(alloc)),
     }
 }
 
-fn posts_of(alloc: Global, stream: Stream, says: &[Says]) -> Result<Vec<PostKind>, Memory> {
+fn piece(stream: Stream, bytes: Blob) -> PostKind {
+    PostKind::Piece {
+        stream,
+        offset: 0,
+        bytes,
+    }
+}
+
+fn post_of(alloc: Global, stream: Stream, says: Says) -> PostKind {
+    match says {
+        Says::Piece(bytes) => piece(stream, blob_of(alloc, bytes)),
+        Says::Long(length) => piece(stream, long_blob(alloc, length)),
+        Says::End => PostKind::End(stream),
+        Says::Room => PostKind::Room,
+        Says::Broken => PostKind::Broken,
+        Says::Exit(code) => PostKind::Exit(code),
+        Says::Fault => PostKind::Fault,
+        Says::Starved => PostKind::Starved,
+    }
+}
+
+// Where memory is refused the last of them are missing.
+fn posts_of(alloc: Global, stream: Stream, says: &[Says]) -> Vec<PostKind> {
     let mut posts = Vec::new(alloc);
     for one in says {
-        posts.push(post_of(alloc, stream, *one)?)?;
+        let _pushed = posts.push(post_of(alloc, stream, *one));
     }
-    Ok(posts)
+    posts
 }
 
-fn launch_of(alloc: Global, posts: &Posts) -> Result<Launch, Memory> {
-    Ok(Launch {
-        stdin: posts_of(alloc, Stream::Out, posts.stdin)?,
-        out: posts_of(alloc, Stream::Out, posts.out)?,
-        errs: posts_of(alloc, Stream::Errs, posts.errs)?,
-        exit: posts_of(alloc, Stream::Out, posts.exit)?,
-    })
+fn launch_of(alloc: Global, posts: &Posts) -> Launch {
+    Launch {
+        stdin: posts_of(alloc, Stream::Out, posts.stdin),
+        out: posts_of(alloc, Stream::Out, posts.out),
+        errs: posts_of(alloc, Stream::Errs, posts.errs),
+        exit: posts_of(alloc, Stream::Out, posts.exit),
+    }
 }
 
-/// What a launcher in memory is told of so many children of each kind.
-pub fn launches_of(alloc: Global, children: &[(u32, Posts)]) -> Result<Vec<Launch>, Memory> {
+/// What a launcher in memory is told of so many children of each kind. Where memory is refused the last of them are missing,
+/// and say nothing.
+pub fn launches_of(alloc: Global, children: &[(u32, Posts)]) -> Vec<Launch> {
     let mut launches = Vec::new(alloc);
     for (times, posts) in children {
         for _ in 0..*times {
-            launches.push(launch_of(alloc, posts)?)?;
+            let _pushed = launches.push(launch_of(alloc, posts));
         }
     }
-    Ok(launches)
+    launches
 }

@@ -1,9 +1,10 @@
-//! The rows of a hub, one after another.
+//! The rows of a hub, one after another, and the cases of what stands around it in memory.
 ghost use Rattle.std.specs.Prelude.{◌≡◌};
 ghost use Rattle.aio_inbox.specs.Naming.{table_of};
 
+use crate::hub_rows::HUB;
+use crate::outside::OUTSIDE;
 use crate::play::{HubRow, plays};
-use crate::rows::ROWS;
 use aio_inbox::UnnamedInbox;
 use std::alloc::Global;
 use std::io;
@@ -11,14 +12,23 @@ use std::marker::Brand;
 use std::sync::Wait;
 use try_row::RowCount;
 
-/// Runs all rows, prints what came of them, and answers how many differed.
+/// Runs all rows of a hub, prints what came of them, and answers how many differed.
 pub fn run_hub<R: Print + Wait + Copy>(rt: R, alloc: Global) -> Result<u64, io::Error> {
     let mut tally = RowCount::new();
-    for row in &ROWS {
+    for row in &HUB {
         let right = is_right(rt, alloc, row);
         tally.count(&rt, row.name, right)?;
     }
     tally.print(&rt)
+}
+
+/// The same of a source, of calls that are made to fail, and of the bytes that a journal's wire hands on.
+pub fn run_outside<R: Print>(rt: &R, alloc: Global) -> Result<u64, io::Error> {
+    let mut tally = RowCount::new();
+    for (name, part) in &OUTSIDE {
+        tally.count(rt, name, part.is_right(alloc))?;
+    }
+    tally.print(rt)
 }
 
 // Whether a row comes out as it must. Where memory is refused it doesn't.

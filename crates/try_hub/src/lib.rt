@@ -1,19 +1,15 @@
-//! Worked cases of an inbox, with posters on threads of their own, and of a hub, over a poller and a launcher in memory.
+//! Worked cases of a hub, over a poller and a launcher in memory, of parts of the outside in memory, and of the poller over the
+//! system's own sockets.
 #![tactic(auto)]
 
+mod asks;
 mod children;
-mod exchange;
 mod hub;
-mod inbox;
-mod launching;
-mod lend;
-mod log;
+mod hub_rows;
+mod outside;
 mod play;
-mod posting;
-mod rows;
-mod selecting;
+mod sockets;
 mod telling;
-mod two_seats;
 
-pub use hub::run_hub;
-pub use inbox::{run_inbox, run_load};
+pub use hub::{run_hub, run_outside};
+pub use sockets::run_sockets;

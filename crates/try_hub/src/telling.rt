@@ -1,106 +1,129 @@
-//! What is replied, a line each.
-use aio_base::{Blob, ChildItem, Memory};
-use aio_wire::{Answer, Item, Reply};
-use std::alloc::Global;
+//! What is replied, in words.
+use aio_base::{ChildItem, Memory};
+use aio_wire::{Answer, Item, Readiness, Reply};
+use try_row::Wanted;
 
 /// The most bytes that are told by themselves; more are told by their number.
 const FEW: usize = 8;
 
-/// The text is told, with no end of its line.
-pub fn say(text: &str, told: &mut Vec<u8>) -> Result<(), Memory> {
-    told.extend_from_slice(text.as_bytes())?;
-    Ok(())
-}
-
-fn say_bytes(alloc: Global, bytes: &Blob, told: &mut Vec<u8>) -> Result<(), Memory> {
-    let held = bytes.items();
-    if held.len() <= FEW {
-        told.extend_from_slice(held)?;
-        return Ok(());
+fn say_bytes(bytes: &[u8], wanted: &mut Wanted<'_>) {
+    if bytes.len() <= FEW {
+        wanted.say(bytes);
+    } else {
+        wanted.say_number(bytes.len() as u64);
+        wanted.say(b" bytes");
     }
-    let count = format!(in alloc; "{} bytes", held.len())?;
-    say(count.as_str(), told)
 }
 
-fn say_news(alloc: Global, news: &ChildItem, told: &mut Vec<u8>) -> Result<(), Memory> {
+fn say_code(code: i64, wanted: &mut Wanted<'_>) {
+    if code < 0 {
+        wanted.say(b"-");
+    }
+    wanted.say_number(code.unsigned_abs());
+}
+
+fn news_word(news: &ChildItem) -> &'static str {
     match news {
-        ChildItem::Broken => say("broken", told),
-        ChildItem::Out(bytes) => {
-            say("out ", told)?;
-            say_bytes(alloc, bytes, told)
-        }
-        ChildItem::OutEnd => say("out ends", told),
-        ChildItem::Errs(bytes) => {
-            say("errs ", told)?;
-            say_bytes(alloc, bytes, told)
-        }
-        ChildItem::ErrsEnd => say("errs ends", told),
-        ChildItem::Exit(code) => {
-            let line = format!(in alloc; "exits {code}")?;
-            say(line.as_str(), told)
-        }
+        ChildItem::Broken => "broken",
+        ChildItem::Out(_) => "out ",
+        ChildItem::OutEnd => "out ends",
+        ChildItem::Errs(_) => "errs ",
+        ChildItem::ErrsEnd => "errs ends",
+        ChildItem::Exit(_) => "exits ",
     }
 }
 
-fn say_number(alloc: Global, number: u32, told: &mut Vec<u8>) -> Result<(), Memory> {
-    let line = format!(in alloc; "; {number} ")?;
-    say(line.as_str(), told)
+fn ready_word(ready: Readiness) -> &'static str {
+    match ready {
+        Readiness::Read => "r",
+        Readiness::Write => "w",
+        Readiness::Both => "rw",
+    }
 }
 
-fn say_item(alloc: Global, item: &Item, told: &mut Vec<u8>) -> Result<(), Memory> {
+/// Of whom an item tells, and in which word.
+fn item_words(item: &Item) -> (u32, &'static str) {
     match item {
-        Item::WritableChild(child) => {
-            say_number(alloc, *child, told)?;
-            say("may be fed", told)
-        }
-        Item::Child { child, item } => {
-            say_number(alloc, *child, told)?;
-            say_news(alloc, item, told)
-        }
-        Item::ReadableServer(_)
-        | Item::Ready { .. }
-        | Item::Up(_)
-        | Item::Down(_)
-        | Item::Extra { .. } => say("; another", told),
+        Item::ReadableServer(server) => (*server, "readable"),
+        Item::Ready { conn, ready } => (*conn, ready_word(*ready)),
+        Item::Up(conn) => (*conn, "up"),
+        Item::Down(conn) => (*conn, "down"),
+        Item::WritableChild(child) => (*child, "may be fed"),
+        Item::Child { child, item } => (*child, news_word(item)),
+        Item::Extra { .. } => (0, "another"),
     }
 }
 
-fn say_turn(alloc: Global, now: u64, items: &[Item], told: &mut Vec<u8>) -> Result<(), Memory> {
-    let line = format!(in alloc; "turn {now}")?;
-    say(line.as_str(), told)?;
+fn say_news(news: &ChildItem, wanted: &mut Wanted<'_>) {
+    match news {
+        ChildItem::Out(bytes) | ChildItem::Errs(bytes) => say_bytes(bytes.items(), wanted),
+        ChildItem::Exit(code) => say_code(*code, wanted),
+        ChildItem::Broken | ChildItem::OutEnd | ChildItem::ErrsEnd => {}
+    }
+}
+
+fn say_item(item: &Item, wanted: &mut Wanted<'_>) {
+    let (number, word) = item_words(item);
+    wanted.say(b"; ");
+    wanted.say_number(u64::from(number));
+    wanted.say(b" ");
+    wanted.say(word.as_bytes());
+    if let Item::Child { item, .. } = item {
+        say_news(item, wanted);
+    }
+}
+
+/// Tells each item: `; ` and of whom it is, and what came.
+pub fn say_items(items: &[Item], wanted: &mut Wanted<'_>) {
     for item in items {
-        say_item(alloc, item, told)?;
+        say_item(item, wanted);
     }
-    Ok(())
 }
 
-fn say_answer(alloc: Global, answer: &Answer, told: &mut Vec<u8>) -> Result<(), Memory> {
+fn answer_word(answer: &Answer) -> &'static str {
     match answer {
-        Answer::Turn { now, items } => say_turn(alloc, *now, items.items(), told),
-        Answer::Took(count) => {
-            let line = format!(in alloc; "took {count}")?;
-            say(line.as_str(), told)
-        }
-        Answer::Done => say("ok", told),
-        Answer::Refused => say("refused", told),
-        Answer::Again => say("again", told),
-        Answer::Broken => say("broken", told),
-        Answer::Child => say("child", told),
-        Answer::Conn | Answer::Data(_) | Answer::Eof | Answer::Extra(_) => say("another", told),
+        Answer::Turn { .. } => "turn ",
+        Answer::Took(_) => "took ",
+        Answer::Done => "ok",
+        Answer::Refused => "refused",
+        Answer::Again => "again",
+        Answer::Broken => "broken",
+        Answer::Child => "child",
+        Answer::Conn => "conn",
+        Answer::Data(_) => "data ",
+        Answer::Eof => "eof",
+        Answer::Extra(_) => "another",
     }
 }
 
-/// What a wire replied, a line.
-pub fn tell(
-    alloc: Global,
-    reply: &Result<Reply, Memory>,
-    told: &mut Vec<u8>,
-) -> Result<(), Memory> {
-    match reply {
-        Ok(Reply::Got(answer)) => say_answer(alloc, answer, told)?,
-        Ok(Reply::Over) | Ok(Reply::Bad(_)) => say("an end", told)?,
-        Ok(Reply::Failed) => say("failed", told)?,
-        Err(Memory) => say("no memory", told)?,
+fn say_answer(answer: &Answer, wanted: &mut Wanted<'_>) {
+    wanted.say(answer_word(answer).as_bytes());
+    match answer {
+        Answer::Turn { now, items } => {
+            wanted.say_number(*now);
+            say_items(items.items(), wanted);
+        }
+        Answer::Took(count) => wanted.say_number(*count),
+        Answer::Data(bytes) => say_bytes(bytes.items(), wanted),
+        Answer::Done
+        | Answer::Refused
+        | Answer::Again
+        | Answer::Broken
+        | Answer::Child
+        | Answer::Conn
+        | Answer::Eof
+        | Answer::Extra(_) => {}
     }
-    say("\n", told)
+}
+
+/// Whether what a wire or a poller replied is told so.
+pub fn is_told(reply: &Result<Reply, Memory>, told: &str) -> bool {
+    let mut wanted = Wanted::new(told.as_bytes());
+    match reply {
+        Ok(Reply::Got(answer)) => say_answer(answer, &mut wanted),
+        Ok(Reply::Over) | Ok(Reply::Bad(_)) => wanted.say(b"an end"),
+        Ok(Reply::Failed) => wanted.say(b"failed"),
+        Err(Memory) => wanted.say(b"no memory"),
+    }
+    wanted.is_told()
 }

@@ -1,16 +1,19 @@
 //! Pieces of 65,536 bytes, from a source through a pump, an inbox and its taker.
 
-use crate::shown::{Told, give, told_of};
+use crate::pumped::pumped;
+use crate::shown::{give, take};
 use aio_base::{Blob, Memory};
-use aio_inbox::{Inbox, InboxName, Post, PostKind, Poster, Taker};
-use aio_lane::{Command, Head, Tail, lane};
-use aio_pump::{Ending, MemBell, pump_out};
+use aio_inbox::{Inbox, InboxName, PostKind, Poster, Taker};
+use aio_lane::{Command, Head, lane};
+use aio_pump::Ending;
 use aio_wire::{Source, SourceGot};
-use model_pump::Stream;
 use std::alloc::Global;
 use std::sync::Wait;
 use std::thread;
 use std::thread::Threads;
+
+/// How many bytes each piece has.
+const PIECE: usize = 65_536;
 
 /// Gives these bytes so many times. It tells nothing.
 #[derive(Drop)]
@@ -36,34 +39,39 @@ impl Source for Repeated {
     }
 }
 
-fn pumped<N: InboxName, R: Wait>(
-    rt: &R,
-    alloc: Global,
-    tail: Tail,
-    source: Repeated,
-    inbox: &Inbox<N>,
-    poster: Poster<N>,
-) -> Told {
-    let mut own = source;
-    let mut bell = MemBell::new();
-    let report = pump_out(
-        rt,
-        alloc,
-        tail,
-        &mut own,
-        inbox,
-        poster,
-        Stream::Out,
-        &mut bell,
-    );
-    told_of(report, &bell)
+// A source of so many pieces; of none where memory is refused.
+fn source_of(alloc: Global, pieces: u64) -> Repeated {
+    let bytes = match vec![in alloc; 7u8; PIECE] {
+        Ok(bytes) => bytes,
+        Err(_) => Vec::new(alloc),
+    };
+    Repeated {
+        bytes,
+        left: pieces,
+    }
 }
 
-// The next post, as it comes.
-fn next_post<N: InboxName, R: Wait>(rt: &R, inbox: &Inbox<N>, taker: &mut Taker<N>) -> Post {
+fn size_of(kind: &PostKind) -> Option<u64> {
+    match kind {
+        PostKind::Piece { bytes, .. } => Some(bytes.items().len() as u64),
+        PostKind::End(_)
+        | PostKind::Room
+        | PostKind::Broken
+        | PostKind::Exit(_)
+        | PostKind::Fault
+        | PostKind::Starved => None,
+    }
+}
+
+// The size of the next piece, as it comes; nothing where another post does.
+fn next_size<N: InboxName, R: Wait>(rt: &R, inbox: &Inbox<N>, taker: &mut Taker<N>) -> Option<u64> {
     for _ in rt.forever() {
-        match inbox.take(rt, taker) {
-            Some(post) => return post,
+        match take(rt, inbox, taker) {
+            Some(post) => {
+                let size = size_of(&post.kind);
+                drop(post);
+                return size;
+            }
             None => thread::yield_now(),
         }
     }
@@ -71,30 +79,21 @@ fn next_post<N: InboxName, R: Wait>(rt: &R, inbox: &Inbox<N>, taker: &mut Taker<
 }
 
 // Gives a Go for each piece, takes it, and counts the bytes until the end came.
-fn fetch<N: InboxName, R: Wait>(rt: &R, inbox: &Inbox<N>, taker: Taker<N>, head: Head) -> u64 {
-    let mut own = taker;
-    let mut seat = head;
+fn fetch<N: InboxName, R: Wait>(
+    rt: &R,
+    inbox: &Inbox<N>,
+    taker: &mut Taker<N>,
+    head: &mut Head,
+) -> u64 {
     let mut came = 0u64;
     for _ in rt.forever() {
-        give(rt, &mut seat, Command::Go);
-        match next_post(rt, inbox, &mut own).kind {
-            PostKind::Piece { bytes, .. } => came = came.saturating_add(bytes.items().len() as u64),
-            _ => break,
+        give(rt, head, Command::Go);
+        match next_size(rt, inbox, taker) {
+            Some(size) => came = came.saturating_add(size),
+            None => break,
         }
     }
     came
-}
-
-// A source of so many pieces.
-fn source_of(alloc: Global, pieces: u64) -> Result<Repeated, Memory> {
-    let mut bytes = Vec::new(alloc);
-    for _ in 0..65_536 {
-        bytes.push(7u8)?;
-    }
-    Ok(Repeated {
-        bytes,
-        left: pieces,
-    })
 }
 
 /// Whether so many pieces came whole.
@@ -102,21 +101,23 @@ pub fn carry<N: InboxName + Send + Sync, R: Threads + Wait + Sync>(
     rt: &R,
     alloc: Global,
     inbox: &Inbox<N>,
-    taker: Taker<N>,
+    taker: &mut Taker<N>,
     poster: Poster<N>,
     pieces: u64,
 ) -> bool {
-    match (source_of(alloc, pieces), lane(alloc)) {
-        (Ok(source), Ok((head, tail))) => {
+    match lane(alloc) {
+        Ok((head, tail)) => {
+            let (mut own, mut source) = (head, source_of(alloc, pieces));
+            let (gives, lent) = (&mut own, &mut source);
             let (told, came) = thread::join(
                 rt,
-                move || pumped(rt, alloc, tail, source, inbox, poster),
-                move || fetch(rt, inbox, taker, head),
+                move || pumped(rt, alloc, tail, lent, inbox, poster),
+                move || fetch(rt, inbox, taker, gives),
             );
-            came == pieces.saturating_mul(65_536)
+            came == pieces.saturating_mul(PIECE as u64)
                 && told.moved == came
                 && told.ending == Ending::Ended
         }
-        _ => false,
+        Err(_) => false,
     }
 }

@@ -1,17 +1,19 @@
-//! Worked cases of lanes and pumps, some on threads of their own, and of what they are run over: a source in memory, calls that
-//! are made to fail, and the bytes that a journal's wire hands on.
+//! Worked cases of an inbox, and of lanes and pumps over it, some on threads of their own.
 #![tactic(auto)]
 
 mod carry;
-mod exits;
-mod failing;
-mod handed;
+mod cases;
+mod exchange;
+mod full;
+mod log;
 mod meeting;
 mod narrow;
-mod reads;
-mod running;
+mod posting;
+mod pump_row;
+mod pump_rows;
+mod pumped;
+mod putting;
+mod seats;
 mod shown;
-mod sources;
-mod writes;
 
-pub use running::{carry_pieces, run_rows};
+pub use cases::{carry_pieces, carry_posts, run_inbox, run_pumps};

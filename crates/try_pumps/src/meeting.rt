@@ -1,12 +1,12 @@
 //! Two pumps of which each goes on only once a post of the other was taken.
 
-use crate::shown::{Told, give, told_of};
+use crate::pumped::pumped;
+use crate::shown::{Told, give, take};
 use aio_base::{Blob, Memory};
 use aio_inbox::{Inbox, InboxName, PostKind, Poster, Taker};
-use aio_lane::{Command, Head, Tail, lane};
-use aio_pump::{Ending, MemBell, pump_out};
+use aio_lane::{Command, Tail, lane};
+use aio_pump::Ending;
 use aio_wire::{Source, SourceGot};
-use model_pump::Stream;
 use std::alloc::Global;
 use std::sync::Wait;
 use std::sync::atomic::{AtomicU64, Ordering};
@@ -21,7 +21,7 @@ const TRIES: u32 = 10_000_000;
 #[derive(Drop)]
 struct Gated<'w> {
     word: &'w AtomicU64,
-    left: u32,
+    left: u64,
 }
 
 impl<'w> Source for Gated<'w> {
@@ -53,28 +53,61 @@ fn is_set(word: &AtomicU64) -> bool {
     false
 }
 
-fn pumped<N: InboxName, R: Wait>(
+/// What a pump works with, in whose lane the Gos stand for its pieces, and one for the end.
+#[derive(Drop)]
+struct Side<N: InboxName> {
+    poster: Poster<N>,
+    tail: Tail,
+    pieces: u64,
+}
+
+// Nothing where memory is refused.
+fn side_of<N: InboxName, R: Wait>(
     rt: &R,
     alloc: Global,
-    tail: Tail,
-    word: &AtomicU64,
-    pieces: u32,
-    inbox: &Inbox<N>,
     poster: Poster<N>,
-) -> Told {
-    let mut source = Gated { word, left: pieces };
-    let mut bell = MemBell::new();
-    let report = pump_out(
-        rt,
-        alloc,
-        tail,
-        &mut source,
-        inbox,
+    pieces: u64,
+) -> Option<Side<N>> {
+    match lane(alloc) {
+        Ok((head, tail)) => {
+            let mut own = head;
+            for _ in 0..pieces.saturating_add(1) {
+                give(rt, &mut own, Command::Go);
+            }
+            drop(own);
+            Some(Side {
+                poster,
+                tail,
+                pieces,
+            })
+        }
+        Err(_) => {
+            drop(poster);
+            None
+        }
+    }
+}
+
+// Whether a side's pump posts all of its pieces and the end, over a source that waits for this word.
+fn is_whole<N: InboxName, R: Wait>(
+    rt: &R,
+    alloc: Global,
+    inbox: &Inbox<N>,
+    side: Side<N>,
+    word: &AtomicU64,
+) -> bool {
+    let Side {
         poster,
-        Stream::Out,
-        &mut bell,
-    );
-    told_of(report, &bell)
+        tail,
+        pieces,
+    } = side;
+    let mut source = Gated { word, left: pieces };
+    let told = pumped(rt, alloc, tail, &mut source, inbox, poster);
+    is_told(told, pieces)
+}
+
+fn is_told(told: Told, pieces: u64) -> bool {
+    told.moved == pieces && told.ending == Ending::Ended && told.rings == pieces.saturating_add(1)
 }
 
 // Takes until each seat posted what is no piece, which is its last, and sets the word of each seat of which a post was
@@ -82,44 +115,27 @@ fn pumped<N: InboxName, R: Wait>(
 fn take_both<N: InboxName, R: Wait>(
     rt: &R,
     inbox: &Inbox<N>,
-    taker: Taker<N>,
+    taker: &mut Taker<N>,
     of_first: &AtomicU64,
     of_second: &AtomicU64,
 ) {
-    let mut own = taker;
     let mut ends = 0u32;
     for _ in rt.forever() {
         if ends >= 2 {
             break;
         }
-        match inbox.take(rt, &mut own) {
+        match take(rt, inbox, taker) {
             Some(post) => {
                 let word = if post.seat == 0 { of_first } else { of_second };
                 word.store(1, Ordering::SeqCst);
                 if !matches!(&post.kind, PostKind::Piece { .. }) {
                     ends = ends.saturating_add(1);
                 }
+                drop(post);
             }
             None => thread::yield_now(),
         }
     }
-}
-
-// A lane, or none where memory is refused.
-fn lane_of(alloc: Global) -> Option<(Head, Tail)> {
-    match lane(alloc) {
-        Ok(ends) => Some(ends),
-        Err(_) => None,
-    }
-}
-
-// Gives a Go for each piece, and one for the end.
-fn give_gos<R: Wait>(rt: &R, head: Head, pieces: u32) {
-    let mut own = head;
-    for _ in 0..pieces {
-        give(rt, &mut own, Command::Go);
-    }
-    give(rt, &mut own, Command::Go);
 }
 
 /// The first seat's source gives its one piece once a post of the second seat was taken; the second seat's gives one, and
@@ -128,53 +144,45 @@ pub fn meet<N: InboxName + Send + Sync, R: Threads + Wait + Sync>(
     rt: &R,
     alloc: Global,
     inbox: &Inbox<N>,
-    taker: Taker<N>,
+    taker: &mut Taker<N>,
     first: Poster<N>,
     second: Poster<N>,
 ) -> bool {
-    match (lane_of(alloc), lane_of(alloc)) {
-        (Some((head_one, tail_one)), Some((head_two, tail_two))) => {
-            give_gos(rt, head_one, 1);
-            give_gos(rt, head_two, 2);
-            let (one, two) = run(
-                rt,
-                alloc,
-                inbox,
-                taker,
-                (first, tail_one),
-                (second, tail_two),
-            );
-            is_whole(one, 1) && is_whole(two, 2)
+    match side_of(rt, alloc, first, 1) {
+        Some(one) => match side_of(rt, alloc, second, 2) {
+            Some(two) => run(rt, alloc, inbox, taker, one, two),
+            None => {
+                drop(one);
+                false
+            }
+        },
+        None => {
+            drop(second);
+            false
         }
-        _ => false,
     }
-}
-
-// Whether all pieces and the end were posted.
-fn is_whole(told: Told, pieces: u64) -> bool {
-    told.moved == pieces && told.ending == Ending::Ended && told.rings == pieces.saturating_add(1)
 }
 
 fn run<N: InboxName + Send + Sync, R: Threads + Wait + Sync>(
     rt: &R,
     alloc: Global,
     inbox: &Inbox<N>,
-    taker: Taker<N>,
-    first: (Poster<N>, Tail),
-    second: (Poster<N>, Tail),
-) -> (Told, Told) {
+    taker: &mut Taker<N>,
+    one: Side<N>,
+    two: Side<N>,
+) -> bool {
     let (word_one, word_two) = (AtomicU64::new(0), AtomicU64::new(0));
     let (of_first, of_second) = (&word_one, &word_two);
-    let (_, told) = thread::join(
+    let (_, whole) = thread::join(
         rt,
         move || take_both(rt, inbox, taker, of_first, of_second),
         move || {
             thread::join(
                 rt,
-                move || pumped(rt, alloc, first.1, of_second, 1, inbox, first.0),
-                move || pumped(rt, alloc, second.1, of_first, 2, inbox, second.0),
+                move || is_whole(rt, alloc, inbox, one, of_second),
+                move || is_whole(rt, alloc, inbox, two, of_first),
             )
         },
     );
-    told
+    whole.0 && whole.1
 }

@@ -1,6 +1,6 @@
 //! What a row looks at: a pump's report, and the posts that were taken then.
 
-use aio_inbox::{Inbox, InboxName, Post, PostKind, Taker};
+use aio_inbox::{Inbox, InboxName, Post, PostKind, Poster, Posting, Taker};
 use aio_lane::{Command, Giving, Head};
 use aio_pump::{Ending, MemBell, PumpReport};
 use model_pump::Stream;
@@ -15,7 +15,7 @@ pub struct Told {
     pub rings: u64,
 }
 
-/// A post of seat 0. A piece is of the standard output; it is told by its place, its length and its last bytes.
+/// A post of seat 1. A piece is of the standard output; it is told by its place, its length and its last bytes.
 #[derive(Clone, Copy)]
 pub enum Shown {
     Piece(u64, usize, &'static [u8]),
@@ -27,20 +27,18 @@ pub enum Shown {
 }
 
 /// What a pump told; the rest of its report is let go.
-pub fn told_of<P: Drop>(report: PumpReport<P>, bell: &MemBell) -> Told {
-    Told {
+pub fn told_of<N: InboxName>(report: PumpReport<Poster<N>>, bell: &MemBell) -> Told {
+    let told = Told {
         moved: report.moved,
         ending: report.ending,
         rings: bell.rings(),
-    }
+    };
+    drop(report);
+    told
 }
 
 impl Shown {
-    fn is(self, post: &Post, number: u64) -> bool {
-        post.seat == 0 && post.number == number && self.is_kind(&post.kind)
-    }
-
-    fn is_kind(self, kind: &PostKind) -> bool {
+    fn is(self, kind: &PostKind) -> bool {
         match (self, kind) {
             (
                 Shown::Piece(place, length, last),
@@ -66,26 +64,51 @@ impl Shown {
     }
 }
 
+/// Takes once.
+pub fn take<N: InboxName, R: Wait>(rt: &R, inbox: &Inbox<N>, taker: &mut Taker<N>) -> Option<Post> {
+    inbox.take(rt, taker)
+}
+
 /// Whether these posts are taken now, numbered from 0, and then no other.
 pub fn comes<N: InboxName, R: Wait>(
     rt: &R,
     inbox: &Inbox<N>,
-    taker: Taker<N>,
+    taker: &mut Taker<N>,
     posts: &[Shown],
 ) -> bool {
-    let mut own = taker;
     let mut number = 0u64;
     for shown in posts {
-        let right = match inbox.take(rt, &mut own) {
-            Some(post) => shown.is(&post, number),
-            None => false,
-        };
-        if !right {
+        if !is_next(rt, inbox, taker, *shown, number) {
             return false;
         }
         number = number.saturating_add(1);
     }
-    inbox.take(rt, &mut own).is_none()
+    take(rt, inbox, taker).is_none()
+}
+
+fn is_next<N: InboxName, R: Wait>(
+    rt: &R,
+    inbox: &Inbox<N>,
+    taker: &mut Taker<N>,
+    shown: Shown,
+    number: u64,
+) -> bool {
+    match take(rt, inbox, taker) {
+        Some(post) => {
+            let right = post.seat == 1 && post.number == number && shown.is(&post.kind);
+            drop(post);
+            right
+        }
+        None => false,
+    }
+}
+
+/// Whether a Room is posted; it isn't where the inbox is full.
+pub fn posts_room<N: InboxName, R: Wait>(rt: &R, inbox: &Inbox<N>, poster: &mut Poster<N>) -> bool {
+    let said = inbox.post(rt, poster, PostKind::Room);
+    let posted = matches!(&said, Posting::Posted);
+    drop(said);
+    posted
 }
 
 /// Gives a command, and tries again while the lane is full.
@@ -100,5 +123,12 @@ pub fn give<R: Wait>(rt: &R, head: &mut Head, command: Command) {
             }
             Giving::Spent(_) => return,
         }
+    }
+}
+
+/// Gives a Go so often.
+pub fn give_gos<R: Wait>(rt: &R, head: &mut Head, gos: u64) {
+    for _ in 0..gos {
+        give(rt, head, Command::Go);
     }
 }

@@ -2,6 +2,7 @@
 use crate::faults::{fail_scripts, run_scripts};
 use crate::rows::run_rows;
 use crate::words::run_lists;
+use aio_text::number;
 use std::alloc::Global;
 use std::io;
 use std::net::Net;
@@ -25,11 +26,12 @@ enum Suite {
     Inbox,
     Hub,
     Pumps,
+    Outside,
     Sockets,
 }
 
 /// The word that begins each.
-const SUITES: [(&str, Suite); 12] = [
+static SUITES: [(&str, Suite); 13] = [
     ("--rows", Suite::Rows),
     ("--tapes", Suite::Tapes),
     ("--words", Suite::Words),
@@ -41,13 +43,14 @@ const SUITES: [(&str, Suite); 12] = [
     ("--inbox", Suite::Inbox),
     ("--hub", Suite::Hub),
     ("--pumps", Suite::Pumps),
+    ("--outside", Suite::Outside),
     ("--sockets", Suite::Sockets),
 ];
 
 fn suite_of(word: &str) -> Option<Suite> {
-    for (name, suite) in SUITES {
-        if word == name {
-            return Some(suite);
+    for (name, suite) in &SUITES {
+        if word == *name {
+            return Some(*suite);
         }
     }
     None
@@ -104,49 +107,48 @@ where
             try_loop::run_parts(&rt, alloc)?;
             Ok(0)
         }
-        Suite::Inbox => Ok(run_inbox(rt, alloc, words)?),
+        Suite::Inbox => Ok(run_inbox(&rt, alloc, words)?),
         Suite::Hub => Ok(try_hub::run_hub(rt, alloc)?),
         Suite::Pumps => Ok(run_pumps(&rt, alloc, words)?),
-        Suite::Sockets => {
-            try_sockets::run_cases(rt, alloc)?;
-            Ok(0)
-        }
+        Suite::Outside => Ok(try_hub::run_outside(&rt, alloc)?),
+        Suite::Sockets => Ok(try_hub::run_sockets(rt, alloc)?),
     }
 }
 
-/// A number of posts and one of posters, where the words are two.
-fn load_of(words: &[String]) -> Option<(u32, u32)> {
-    let posts = words.first()?.as_str().parse::<u32>().ok()?;
-    let posters = words.get(1)?.as_str().parse::<u32>().ok()?;
-    Some((posts, posters))
+/// A number, where a word tells one.
+fn number_of(word: Option<&String>) -> Option<u64> {
+    match word {
+        Some(word) => number(word.as_str().as_bytes()),
+        None => None,
+    }
 }
 
-fn run_inbox<R>(rt: R, alloc: Global, words: &[String]) -> Result<u64, io::Error>
+/// How many differ: none where it is right.
+fn unless(right: bool) -> u64 {
+    if right { 0 } else { 1 }
+}
+
+fn run_inbox<R>(rt: &R, alloc: Global, words: &[String]) -> Result<u64, io::Error>
 where
-    R: Print + Threads + Wait + Copy + Send + Sync + 'static,
+    R: Print + Threads + Wait + Clock + Copy + Send + Sync + 'static,
 {
-    match load_of(words) {
-        Some((posts, posters)) => try_hub::run_load(&rt, alloc, posts, posters)?,
-        None => try_hub::run_inbox(&rt, alloc)?,
+    match (number_of(words.first()), number_of(words.get(1))) {
+        (Some(posts), Some(posters)) => Ok(unless(try_pumps::carry_posts(
+            rt,
+            alloc,
+            u32::try_from(posts).unwrap_or(u32::MAX),
+            u32::try_from(posters).unwrap_or(u32::MAX),
+        ))),
+        _ => try_pumps::run_inbox(rt, alloc),
     }
-    Ok(0)
 }
 
 fn run_pumps<R>(rt: &R, alloc: Global, words: &[String]) -> Result<u64, io::Error>
 where
-    R: Print + Threads + Wait + Clock + Sync,
+    R: Print + Threads + Wait + Clock + Copy + Send + Sync + 'static,
 {
-    let Some(pieces) = pieces_of(words) else {
-        return try_pumps::run_rows(rt, alloc);
-    };
-    if try_pumps::carry_pieces(rt, alloc, pieces) {
-        Ok(0)
-    } else {
-        Ok(1)
+    match number_of(words.first()) {
+        Some(pieces) => Ok(unless(try_pumps::carry_pieces(rt, alloc, pieces))),
+        None => try_pumps::run_pumps(rt, alloc),
     }
-}
-
-/// A number of pieces, where a word tells one.
-fn pieces_of(words: &[String]) -> Option<u64> {
-    words.first()?.as_str().parse::<u64>().ok()
 }

@@ -3,15 +3,30 @@ ghost use Rattle.std.specs.Prelude.{◌≡◌, ◌≤◌, [], length, All, IfOk}
 ghost use Rattle.aio_inbox.specs.Naming.{table_of};
 ghost use Rattle.aio_inbox.specs.Accounts.{IsWhole};
 
-use crate::inbox::Load;
 use crate::log::Log;
 use crate::posting::post_all;
+use crate::putting::take;
 use aio_base::Memory;
 use aio_inbox::{Inbox, InboxName, Poster, Taker, UnnamedInbox};
 use std::alloc::Global;
 use std::sync::Wait;
 use std::thread;
 use std::thread::Threads;
+
+/// How often each of how many posters posts. There is one at least, and there are 1,024 at most.
+#[derive(Clone, Copy)]
+pub struct Load {
+    pub posts: u32,
+    pub posters: u32,
+}
+
+impl Load {
+    fn seats(self) -> u32
+        ensures { (1 ≤ result) × (result ≤ 1024) }
+    {
+        self.posters.max(1).min(1024)
+    }
+}
 
 /// Each poster posts so often while the taker takes. Then all posters are settled, and what was taken
 /// of each seat is what was posted on it.
@@ -20,24 +35,13 @@ pub fn exchange<N: InboxName + Send + Sync, R: Threads + Wait + Sync>(
     alloc: Global,
     unnamed: UnnamedInbox,
     load: Load,
-) -> Result<bool, Memory>
-    requires named { table_of unnamed ≡ N.table }
-    requires posters { (1 ≤ load.posters) × (load.posters ≤ 1024) }
+) -> bool
+    requires { table_of unnamed ≡ N.table }
 {
-    let (inbox, taker, posters) = make_new::<N>(alloc, unnamed, load.posters)?;
-    let log = Log::new(alloc, load.posters)?;
-    let all = u64::from(load.posts) * u64::from(load.posters);
-    let inbox = &inbox;
-    let ((mut taker, mut log), posters) = thread::join(
-        rt,
-        move || take_some(rt, inbox, taker, log, all),
-        move || -> Result<Vec<Poster<N>>, Memory>
-            requires { All (λ p. p.posted ≡ []) posters.items }
-        { post_side(rt, inbox, posters, load.posts) },
-    );
-    settle_all(rt, inbox, &mut taker, posters?);
-    take_rest(rt, inbox, &mut taker, &mut log);
-    Ok(log.is_right(load.posts))
+    match make_new::<N>(alloc, unnamed, load.seats()) {
+        Ok((inbox, taker, posters)) => is_exchanged(rt, alloc, &inbox, taker, posters, load),
+        Err(_) => false,
+    }
 }
 
 /// Makes the inbox with its posters, which have posted nothing.
@@ -54,24 +58,53 @@ fn make_new<N: InboxName>(
     Inbox::<N>::make(alloc, unnamed, seats)
 }
 
+fn is_exchanged<N: InboxName + Send + Sync, R: Threads + Wait + Sync>(
+    rt: &R,
+    alloc: Global,
+    inbox: &Inbox<N>,
+    taker: Taker<N>,
+    posters: Vec<Poster<N>>,
+    load: Load,
+) -> bool
+    requires { All (λ p. p.posted ≡ []) posters.items }
+{
+    let mut own = taker;
+    let mut log = Log::new(alloc, load.seats());
+    let all = u64::from(load.posts) * u64::from(load.seats());
+    let (_, back) = thread::join(
+        rt,
+        || take_some(rt, inbox, &mut own, &mut log, all),
+        move || -> Result<Vec<Poster<N>>, Memory>
+            requires { All (λ p. p.posted ≡ []) posters.items }
+        { post_side(rt, inbox, posters, load.posts) },
+    );
+    match back {
+        Ok(back) => {
+            settle_all(rt, inbox, &mut own, back);
+            take_rest(rt, inbox, &mut own, &mut log);
+            log.is_right(load.posts)
+        }
+        Err(_) => false,
+    }
+}
+
 /// Takes so many posts, as they come.
 fn take_some<N: InboxName, R: Wait>(
     rt: &R,
     inbox: &Inbox<N>,
-    mut taker: Taker<N>,
-    mut log: Log,
+    taker: &mut Taker<N>,
+    log: &mut Log,
     posts: u64,
-) -> (Taker<N>, Log) {
+) {
     for _ in rt.forever() {
         if log.came() >= posts {
             break;
         }
-        match inbox.take(rt, &mut taker) {
-            Some(post) => log.note(post),
+        match take(rt, inbox, taker) {
+            Some(taken) => log.note(taken),
             None => thread::yield_now(),
         }
     }
-    (taker, log)
 }
 
 /// Posts on all seats at once.
@@ -104,8 +137,8 @@ fn take_rest<N: InboxName, R: Wait>(rt: &R, inbox: &Inbox<N>, taker: &mut Taker<
     ensures { All (IsWhole taker.new) taker.new.settled }
 {
     for _ in rt.forever() {
-        match inbox.take(rt, taker) {
-            Some(post) => log.note(post),
+        match take(rt, inbox, taker) {
+            Some(taken) => log.note(taken),
             None => return,
         }
     }

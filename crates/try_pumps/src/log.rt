@@ -1,7 +1,6 @@
 //! What a taker saw come.
-use crate::posting::kind_of;
-use aio_base::Memory;
-use aio_inbox::{Post, PostKind};
+use crate::posting::code_at;
+use crate::putting::Taken;
 use std::alloc::Global;
 
 /// The number that comes next on each seat, how many posts came, and whether each was the one that
@@ -14,17 +13,17 @@ pub struct Log {
 }
 
 impl Log {
-    /// A log of posts on so many seats, empty.
-    pub fn new(alloc: Global, seats: u32) -> Result<Log, Memory> {
-        let mut next = Vec::new(alloc);
-        for _ in 0..seats {
-            next.push(0)?;
-        }
-        Ok(Log {
+    /// A log of posts on so many seats, empty. Where memory is refused it is never right.
+    pub fn new(alloc: Global, seats: u32) -> Log {
+        let (next, right) = match vec![in alloc; 0u32; seats as usize] {
+            Ok(next) => (next, true),
+            Err(_) => (Vec::new(alloc), false),
+        };
+        Log {
             next,
             came: 0,
-            right: true,
-        })
+            right,
+        }
     }
 
     /// How many posts came.
@@ -33,12 +32,11 @@ impl Log {
     }
 
     /// A post came.
-    pub fn note(&mut self, post: Post) {
-        let Post { seat, number, kind } = post;
+    pub fn note(&mut self, taken: Taken) {
+        let Taken { seat, number, code } = taken;
         self.came = self.came.saturating_add(1);
         let due = self.count(seat);
-        let is_due = is_kind_of(kind, due) && number == u64::from(due);
-        self.right = self.right && is_due;
+        self.right = self.right && code == Some(code_at(due)) && number == u64::from(due);
         if let Some(next) = self.next.get_mut(seat as usize) {
             *next = due.saturating_add(1);
         }
@@ -52,12 +50,5 @@ impl Log {
     /// Whether all that came was due, and so many posts came of each seat.
     pub fn is_right(&self, posts: u32) -> bool {
         self.right && self.next.iter().all(|count| *count == posts)
-    }
-}
-
-fn is_kind_of(kind: PostKind, number: u32) -> bool {
-    match (kind, kind_of(number)) {
-        (PostKind::Exit(code), PostKind::Exit(wanted)) => code == wanted,
-        _ => false,
     }
 }

@@ -1,13 +1,13 @@
-//! What the posters of these cases do.
-ghost use Rattle.std.specs.Prelude.{◌≡◌, ◌<◌, ◌≤◌, ◌^◌, ◌+◌, [], length};
+//! Posters that post again where they find the inbox full.
+ghost use Rattle.std.specs.Prelude.{◌≡◌, ◌<◌, ◌^◌, ◌+◌, [], length};
 
 use aio_inbox::{Inbox, InboxName, PostKind, Poster, Posting};
 use std::sync::Wait;
 use std::thread;
 
-/// What stands in a seat's post of this number, so that a taker can tell it.
-pub fn kind_of(number: u32) -> PostKind {
-    PostKind::Exit((number % 1000) as i32)
+/// The code of the exit that is a seat's post of this number, so that a taker can tell it.
+pub fn code_at(number: u32) -> i32 {
+    (number % 1000) as i32
 }
 
 /// Posts, and posts the same again as long as the inbox is full.
@@ -45,7 +45,7 @@ pub fn post_all<N: InboxName, R: Wait>(
     ensures { length result.posted ≡ posts }
 {
     for number in 0..posts {
-        post_again(rt, inbox, &mut poster, kind_of(number));
+        post_again(rt, inbox, &mut poster, PostKind::Exit(code_at(number)));
     }
     poster
 }

@@ -1,11 +1,12 @@
 //! The rows.
+use crate::asks::Ask::{Accept, End as EndStdin, Extra, Feed, Kill, Launch, Live, Select};
+use crate::asks::Look::{All, Exits, Out, Stdin};
 use crate::children::Says::{Broken, End, Exit, Fault, Long, Piece, Room, Starved};
 use crate::children::{OVER, Posts};
 use crate::play::HubRow;
-use crate::play::Step::{Accept, Ends, Extra, Feed, Kill, Launch, Launches, Lives, Select};
-use crate::selecting::Look::{All, Exits, Out, Stdin};
 
-pub static ROWS: [HubRow; 14] = [
+/// Courses of calls on a hub.
+pub static HUB: [HubRow; 14] = [
     HubRow {
         name: "a child that ends while pieces are left",
         children: &[(
@@ -21,13 +22,16 @@ pub static ROWS: [HubRow; 14] = [
         failed_polls: &[],
         failed_launches: &[],
         steps: &[
-            Launch,
-            Select(&[All(0)]),
-            Select(&[All(0)]),
-            Select(&[All(0)]),
-            Select(&[All(0)]),
+            (1, Launch, "child"),
+            (
+                1,
+                Select(&[All(0)]),
+                "turn 5; 0 out ab; 0 errs ends; 0 exits 3",
+            ),
+            (1, Select(&[All(0)]), "turn 7; 0 out cd"),
+            (1, Select(&[All(0)]), "turn 9; 0 out ends"),
+            (1, Select(&[All(0)]), "turn 9"),
         ],
-        told: "child\nturn 5; 0 out ab; 0 errs ends; 0 exits 3\nturn 7; 0 out cd\nturn 9; 0 out ends\nturn 9\n",
         ends: Some(4),
     },
     HubRow {
@@ -45,12 +49,11 @@ pub static ROWS: [HubRow; 14] = [
         failed_polls: &[],
         failed_launches: &[],
         steps: &[
-            Launch,
-            Select(&[Exits(0)]),
-            Select(&[Out(0)]),
-            Select(&[Out(0)]),
+            (1, Launch, "child"),
+            (1, Select(&[Exits(0)]), "turn 0; 0 exits 0"),
+            (1, Select(&[Out(0)]), "turn 0; 0 out ab"),
+            (1, Select(&[Out(0)]), "turn 0; 0 out cd"),
         ],
-        told: "child\nturn 0; 0 exits 0\nturn 0; 0 out ab\nturn 0; 0 out cd\n",
         ends: Some(4),
     },
     HubRow {
@@ -88,12 +91,19 @@ pub static ROWS: [HubRow; 14] = [
         failed_polls: &[],
         failed_launches: &[],
         steps: &[
-            Launches(3),
-            Select(&[All(0), All(1), All(2)]),
-            Select(&[All(0), All(1), All(2)]),
-            Select(&[All(0), All(1), All(2)]),
+            (3, Launch, "child"),
+            (
+                1,
+                Select(&[All(0), All(1), All(2)]),
+                "turn 0; 0 out 65536 bytes; 0 errs 65536 bytes; 1 out 65536 bytes; 1 errs 65536 bytes",
+            ),
+            (
+                1,
+                Select(&[All(0), All(1), All(2)]),
+                "turn 0; 0 out 65536 bytes; 2 out 65536 bytes",
+            ),
+            (1, Select(&[All(0), All(1), All(2)]), "turn 0"),
         ],
-        told: "3 launched\nturn 0; 0 out 65536 bytes; 0 errs 65536 bytes; 1 out 65536 bytes; 1 errs 65536 bytes\nturn 0; 0 out 65536 bytes; 2 out 65536 bytes\nturn 0\n",
         ends: Some(12),
     },
     HubRow {
@@ -110,8 +120,11 @@ pub static ROWS: [HubRow; 14] = [
         times: &[],
         failed_polls: &[],
         failed_launches: &[],
-        steps: &[Launch, Select(&[All(0)]), Select(&[All(0)])],
-        told: "child\nfailed\nturn 0; 0 out ab; 0 exits 0\n",
+        steps: &[
+            (1, Launch, "child"),
+            (1, Select(&[All(0)]), "failed"),
+            (1, Select(&[All(0)]), "turn 0; 0 out ab; 0 exits 0"),
+        ],
         ends: Some(4),
     },
     HubRow {
@@ -128,8 +141,11 @@ pub static ROWS: [HubRow; 14] = [
         times: &[],
         failed_polls: &[1],
         failed_launches: &[],
-        steps: &[Launch, Select(&[All(0)]), Select(&[All(0)])],
-        told: "child\nfailed\nturn 0; 0 out ab\n",
+        steps: &[
+            (1, Launch, "child"),
+            (1, Select(&[All(0)]), "failed"),
+            (1, Select(&[All(0)]), "turn 0; 0 out ab"),
+        ],
         ends: Some(4),
     },
     HubRow {
@@ -146,8 +162,12 @@ pub static ROWS: [HubRow; 14] = [
         times: &[],
         failed_polls: &[],
         failed_launches: &[],
-        steps: &[Launch, Select(&[All(0)]), Launch, Kill(0)],
-        told: "child\nno memory\nno memory\nno memory\n",
+        steps: &[
+            (1, Launch, "child"),
+            (1, Select(&[All(0)]), "no memory"),
+            (1, Launch, "no memory"),
+            (1, Kill(0), "no memory"),
+        ],
         ends: Some(4),
     },
     HubRow {
@@ -164,8 +184,13 @@ pub static ROWS: [HubRow; 14] = [
         times: &[],
         failed_polls: &[],
         failed_launches: &[],
-        steps: &[Launch, Select(&[]), Feed(0, 9), Ends(0)],
-        told: "child\nturn 0\ntook 2\ntook 2\ntook 2\ntook 2\ntook 2\ntook 2\ntook 2\ntook 2\nagain\nok\n",
+        steps: &[
+            (1, Launch, "child"),
+            (1, Select(&[]), "turn 0"),
+            (8, Feed(0), "took 2"),
+            (1, Feed(0), "again"),
+            (1, EndStdin(0), "ok"),
+        ],
         ends: None,
     },
     HubRow {
@@ -174,8 +199,13 @@ pub static ROWS: [HubRow; 14] = [
         times: &[],
         failed_polls: &[],
         failed_launches: &[],
-        steps: &[Launch, Select(&[Stdin(0)]), Feed(0, 8), Select(&[Stdin(0)])],
-        told: "child\nturn 0; 0 may be fed\ntook 2\ntook 2\ntook 2\ntook 2\ntook 2\ntook 2\ntook 2\nagain\nturn 0\n",
+        steps: &[
+            (1, Launch, "child"),
+            (1, Select(&[Stdin(0)]), "turn 0; 0 may be fed"),
+            (7, Feed(0), "took 2"),
+            (1, Feed(0), "again"),
+            (1, Select(&[Stdin(0)]), "turn 0"),
+        ],
         ends: Some(4),
     },
     HubRow {
@@ -193,13 +223,12 @@ pub static ROWS: [HubRow; 14] = [
         failed_polls: &[],
         failed_launches: &[],
         steps: &[
-            Launch,
-            Feed(0, 1),
-            Select(&[Stdin(0)]),
-            Feed(0, 1),
-            Select(&[Stdin(0)]),
+            (1, Launch, "child"),
+            (1, Feed(0), "took 2"),
+            (1, Select(&[Stdin(0)]), "turn 0; 0 may be fed; 0 broken"),
+            (1, Feed(0), "broken"),
+            (1, Select(&[Stdin(0)]), "turn 0; 0 may be fed; 0 broken"),
         ],
-        told: "child\ntook 2\nturn 0; 0 may be fed; 0 broken\nbroken\nturn 0; 0 may be fed; 0 broken\n",
         ends: Some(4),
     },
     HubRow {
@@ -208,8 +237,7 @@ pub static ROWS: [HubRow; 14] = [
         times: &[],
         failed_polls: &[],
         failed_launches: &[],
-        steps: &[Lives(300)],
-        told: "300 launched\n",
+        steps: &[(300, Live, "child")],
         ends: Some(0),
     },
     HubRow {
@@ -218,8 +246,16 @@ pub static ROWS: [HubRow; 14] = [
         times: &[],
         failed_polls: &[],
         failed_launches: &[],
-        steps: &[Launch, Select(&[All(0)]), Launches(256), Launch],
-        told: "child\nturn 0; 0 broken; 0 out ends; 0 errs ends; 0 exits 0\n256 launched\nrefused\n",
+        steps: &[
+            (1, Launch, "child"),
+            (
+                1,
+                Select(&[All(0)]),
+                "turn 0; 0 broken; 0 out ends; 0 errs ends; 0 exits 0",
+            ),
+            (256, Launch, "child"),
+            (1, Launch, "refused"),
+        ],
         ends: Some(1_024),
     },
     HubRow {
@@ -237,13 +273,16 @@ pub static ROWS: [HubRow; 14] = [
         failed_polls: &[],
         failed_launches: &[],
         steps: &[
-            Launch,
-            Select(&[All(0)]),
-            Launches(255),
-            Launch,
-            Select(&[All(0)]),
+            (1, Launch, "child"),
+            (1, Select(&[All(0)]), "failed"),
+            (255, Launch, "child"),
+            (1, Launch, "refused"),
+            (
+                1,
+                Select(&[All(0)]),
+                "turn 0; 0 out ends; 0 errs ends; 0 exits 0; 0 broken",
+            ),
         ],
-        told: "child\nfailed\n255 launched\nrefused\nturn 0; 0 out ends; 0 errs ends; 0 exits 0; 0 broken\n",
         ends: Some(1_020),
     },
     HubRow {
@@ -252,8 +291,13 @@ pub static ROWS: [HubRow; 14] = [
         times: &[],
         failed_polls: &[],
         failed_launches: &[1],
-        steps: &[Launch, Launch, Kill(0), Accept(0), Extra(7)],
-        told: "refused\nchild\nok\nagain\nrefused\n",
+        steps: &[
+            (1, Launch, "refused"),
+            (1, Launch, "child"),
+            (1, Kill(0), "ok"),
+            (1, Accept(0), "again"),
+            (1, Extra(7), "refused"),
+        ],
         ends: Some(4),
     },
     HubRow {
@@ -262,8 +306,11 @@ pub static ROWS: [HubRow; 14] = [
         times: &[],
         failed_polls: &[],
         failed_launches: &[],
-        steps: &[Feed(0, 1), Ends(0), Select(&[Stdin(0)])],
-        told: "again\nok\nturn 0; 0 may be fed\n",
+        steps: &[
+            (1, Feed(0), "again"),
+            (1, EndStdin(0), "ok"),
+            (1, Select(&[Stdin(0)]), "turn 0; 0 may be fed"),
+        ],
         ends: Some(0),
     },
 ];

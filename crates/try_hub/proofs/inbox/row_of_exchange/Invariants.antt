@@ -1,6 +1,0 @@
-use Rattle.aio_inbox.specs.Naming.{table_of}
-use Rattle.try_hub.proofs.inbox.row_of_exchange.Given as goal
-
--- the inbox is the queue that was just made
-abbrev pub ghosts-exchange : goal.ghosts-exchange
-ghosts-exchange g a = record { table = table_of a.unnamed }
