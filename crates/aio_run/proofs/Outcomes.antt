@@ -104,6 +104,12 @@ pub seen_kept : {F : Type 0} (seen : F → ShelfSeen) (first held now after : F)
     → seen after ≡ seen first
 seen_kept {F} seen first held now after same left quiet = sym (ap seen left) ∙ quiet ∙ ap seen same
 
+-- what is seen of the files stays with what is left
+pub files_left : {F : Type 0} (seen : F → ShelfSeen) (first held now after : F) → held ≡ first → now ≡ after → (seen now).file ≡ (seen held).file
+    → (seen after).file ≡ (seen first).file
+files_left {F} seen first held now after same left kept =
+    ap (λ (s : F). (seen s).file) (sym left) ∙ kept ∙ ap (λ (s : F). (seen s).file) same
+
 -- a count that rose in what was held rose in what is left of it
 pub rose_here : {F : Type 0} (seen : F → ShelfSeen) (first held now after : F) (name late journal : List ℕ) → held ≡ first → now ≡ after
     → name ≡ journal → late ≡ name → Rose ((seen held).faults name) ((seen now).faults late)
