@@ -40,9 +40,9 @@ history_tells limit added first = record {
     told = ap (λ es. es ++ called_by (added.ask task code arguments s).answer) h.told;
     whole = h.whole;
   };
-  wakes = λ task key input s h. record {
+  wakes = λ task key input s woken_so h. record {
     last = _;
-    history = goes h.history (Wakes task key input s) (sym h.keeps, h.asked);
+    history = goes h.history (Wakes task key input s) (sym h.keeps, h.asked, woken_so);
     keeps = refl;
     asked = refl;
     told = ap (λ es. es ++ called_by (added.wake key input s).answer) h.told;

@@ -26,6 +26,7 @@ use Rattle.law_reach.specs.Reaches.{IsUnmet, left_by}
 use Rattle.law_reach.proofs.Opened.{decides_comes, reply_comes}
 use Rattle.law_walk.proofs.Trees.{asked_comes}
 use Rattle.law_calls.specs.Tells.{In, LeavesBy, Tells}
+use Rattle.law_calls.specs.Told.{HasBegun, IsWoken}
 use Rattle.law_calls.proofs.Rows.{Untold, is_extra_request, reply_same, row_untold, unchanging}
 
 -- the outside was asked, and answered
@@ -52,7 +53,7 @@ module _ {S : Type 0} {limit : ℕ} {added : Extra S} {Holds : S → List Event 
 
     -- ---- what is added
     abbrev WakesIn : Wake S → Type 0
-    WakesIn wake = (key : ℕ) (input : Input) (s : State S) → In Holds s → LeavesBy Holds (wake key input s)
+    WakesIn wake = (key : ℕ) (input : Input) (s : State S) → IsWoken task input s → In Holds s → LeavesBy Holds (wake key input s)
 
     -- what the outside answered wakes it
     abbrev HearsIn : Wake S → Type 0
@@ -61,27 +62,28 @@ module _ {S : Type 0} {limit : ℕ} {added : Extra S} {Holds : S → List Event 
         → Called task (extra.Asks code bytes key) s.extra s.events
         → LeavesBy Holds (wake key (input_by answer) (heard (call.Extra code bytes) answer left s))
 
-    until_in : (o : Option Outcome) (wake : Wake S) (on key : ℕ) (s : State S) → WakesIn wake → In Holds s
+    until_in : (o : Option Outcome) (wake : Wake S) (on key : ℕ) (s : State S) → ended s on ≡ o → WakesIn wake → In Holds s
         → LeavesBy Holds (serves_until o wake task on key s)
-    until_in (Some outcome) wake on key s wakes holds = wakes key (input_of outcome) s holds
-    until_in None wake on key s wakes holds = holds
+    until_in (Some outcome) wake on key s is wakes holds =
+        wakes key (input_of outcome) s (inr (record { on = on; outcome = outcome; ended = is; heard = refl })) holds
+    until_in None wake on key s is wakes holds = holds
 
     serves_in : (answer : ExtraAnswer) (wake : Wake S) (s : State S) → WakesIn wake → HearsIn wake → Called task answer s.extra s.events
         → LeavesBy Holds (serves_as answer wake task s)
     serves_in (extra.Answers value) wake s wakes hears it = tells.over task (extra.Answers value) s.extra s.events refl it
     serves_in (extra.Raises fault) wake s wakes hears it = tells.over task (extra.Raises fault) s.extra s.events refl it
     serves_in (extra.Waits on key) wake s wakes hears it =
-        until_in (ended s on) wake on key s wakes (tells.over task (extra.Waits on key) s.extra s.events refl it)
+        until_in (ended s on) wake on key s refl wakes (tells.over task (extra.Waits on key) s.extra s.events refl it)
     serves_in (extra.Asks code bytes key) wake s wakes hears it =
         asked_comes Halts (LeavesBy Holds) unmet (call.Extra code bytes) (λ said. wake key (input_by said)) s
         (λ came left fit. hears code bytes key came left s fit it)
 
     within_in : (wakes : ℕ) → WakesIn (woken_within added wakes task) × HearsIn (woken_within added wakes task)
-    within_in zero = (λ key input s holds. inr holds, λ code bytes key answer left s fit it. inl (inr tt))
+    within_in zero = (λ key input s woken_so holds. inr holds, λ code bytes key answer left s fit it. inl (inr tt))
     within_in (suc wakes) = (
-      λ key input s holds.
+      λ key input s woken_so holds.
           serves_in (added.wake key input s).answer (woken_within added wakes task) (called (added.wake key input s).call s) (within_in wakes).0
-          (within_in wakes).1 (tells.wakes task key input s holds),
+          (within_in wakes).1 (tells.wakes task key input s woken_so holds),
       λ code bytes key answer left s fit it.
           let t = heard (call.Extra code bytes) answer left s in
           serves_in (added.wake key (input_by answer) t).answer (woken_within added wakes task) (called (added.wake key (input_by answer) t).call t)
@@ -91,7 +93,7 @@ module _ {S : Type 0} {limit : ℕ} {added : Extra S} {Holds : S → List Event 
     )
 
     pub woken_in : WakesIn (woken added task)
-    woken_in key input s holds = (within_in (suc (added.wakes_left key s.extra))).0 key input s holds
+    woken_in key input s woken_so holds = (within_in (suc (added.wakes_left key s.extra))).0 key input s woken_so holds
 
     woken_hears : HearsIn (woken added task)
     woken_hears code bytes key answer left s fit it =
@@ -134,13 +136,13 @@ module _ {S : Type 0} {limit : ℕ} {added : Extra S} {Holds : S → List Event 
         comes_in s (decides unchanging resume_point task input s)
         (row_untold (Some task) (decides_comes unchanging task resume_point input s).reaches) holds
 
-    pub decides_in : (resume_point : ResumePoint) (input : Input) (s : State S) → In Holds s
+    pub decides_in : (resume_point : ResumePoint) (input : Input) (s : State S) → HasBegun task s.events → In Holds s
         → LeavesBy Holds (decides added resume_point task input s)
-    decides_in Asked input s holds = still_in Asked input s holds
-    decides_in (Sleeping tag) input s holds = still_in (Sleeping tag) input s holds
-    decides_in (Leaving group) input s holds = still_in (Leaving group) input s holds
-    decides_in (Serving key) input s holds = woken_in key input s holds
-    decides_in (Connecting conn) input s holds = still_in (Connecting conn) input s holds
-    decides_in (Yielding whom) input s holds = still_in (Yielding whom) input s holds
-    decides_in (Reading from op on) input s holds = still_in (Reading from op on) input s holds
-    decides_in (ReadingAll from taken on) input s holds = still_in (ReadingAll from taken on) input s holds
+    decides_in Asked input s began holds = still_in Asked input s holds
+    decides_in (Sleeping tag) input s began holds = still_in (Sleeping tag) input s holds
+    decides_in (Leaving group) input s began holds = still_in (Leaving group) input s holds
+    decides_in (Serving key) input s began holds = woken_in key input s (inl began) holds
+    decides_in (Connecting conn) input s began holds = still_in (Connecting conn) input s holds
+    decides_in (Yielding whom) input s began holds = still_in (Yielding whom) input s holds
+    decides_in (Reading from op on) input s began holds = still_in (Reading from op on) input s holds
+    decides_in (ReadingAll from taken on) input s began holds = still_in (ReadingAll from taken on) input s holds

@@ -1,6 +1,7 @@
 -- What goes on holds after a step, a callback and a turn, after each callback of a turn, and of every state of a run.
 use Rattle.std.proofs.Common.{◌≡◌, inl, inr, ℕ, zero, suc, ◌+◌, Bool, true, false, cond, not, ◌&&◌, List, [], ◌∷◌, Option, Some, None}
 use Rattle.std.proofs.Common.{nat_lt, refl, ap}
+use Rattle.std.proofs.lemmas.Bool.{eq-eqb}
 use Rattle.std.proofs.lemmas.List.{append_assoc}
 use Rattle.model_value.specs.Action.{Action}
 use Rattle.model_value.specs.declared.action.Action.TheVariants as action
@@ -17,6 +18,7 @@ use Rattle.model_wire.specs.Trace.{End}
 use Rattle.model_loop.specs.Futures.{next_future}
 use Rattle.model_loop.specs.Parts.{Handle}
 use Rattle.model_loop.specs.Tasks.{begin_step, next_task}
+use Rattle.model_loop.specs.Ways.{steps}
 use Rattle.model_stream.specs.Doing as doing
 use Rattle.model_stream.specs.Doing.{Doing, Ends, Changes, Asks as AsksOf}
 use Rattle.model_stream.specs.Requests.{close}
@@ -38,7 +40,7 @@ use Rattle.law_reach.specs.Reaches.{IsUnmet}
 use Rattle.law_reach.proofs.Opened.{any, any_kept}
 use Rattle.law_walk.proofs.Trees.{asked_comes}
 use Rattle.law_calls.specs.Tells.{AfterTurn, AreAllIn, In, IsRunIn, LeavesBy, LeavesTo, Tells}
-use Rattle.law_calls.specs.Told.{is_of_extra}
+use Rattle.law_calls.specs.Told.{HasBegun, is_of_extra}
 use Rattle.law_calls.proofs.Events.{heard_untold}
 use Rattle.law_calls.proofs.Serving.{decides_in, heard, reply_in, untold_in}
 
@@ -72,14 +74,14 @@ module _ {S : Type 0} {limit : ℕ} {added : Extra S} {Holds : S → List Event 
   serve_in (suc answers) task s holds =
       served_in (says_of limit added task s) task (serve limit added answers task) s refl holds (serve_in answers task)
 
-  step_in : (task : ℕ) (input : Input) (s : State S) → In Holds s → LeavesTo Holds (step limit added task input s)
+  step_in : (task : ℕ) (input : Input) (s : State S) → HasBegun task s.events → In Holds s → LeavesTo Holds (step limit added task input s)
   unfolding step
-  step_in task input s holds =
+  step_in task input s began holds =
       let resume_point = (generator_of task s).resume_point in
       let begun = begin_step task input (given_up resume_point s.loop.parts) in
       let awake = stands Asked task (unbooked_in (λ p. begun.parts) s) in
       taken_in task (decides added resume_point task begun.input awake) true (serve_all limit added task)
-      (decides_in tells task resume_point begun.input awake holds) (λ t it. serve_in _ task t it)
+      (decides_in tells task resume_point begun.input awake began holds) (λ t it. serve_in _ task t it)
 
   -- ---- callbacks of listeners, connections and children
   -- a call of one of them was answered
@@ -134,11 +136,16 @@ module _ {S : Type 0} {limit : ℕ} {added : Extra S} {Holds : S → List Event 
       tells.beside s.extra s.events (event.Ran it ∷ [])
       (ap (λ b. cond b (event.Ran it ∷ []) []) other, refl) holds
 
+  -- a step of a task begins with it
+  begun : (it : Action) (task : ℕ) (s : State S) → steps task it ≡ true → HasBegun task (noted (event.Ran it) s).events
+  begun it task s is = record { before = s.events; it = it; ends = refl; steps = is }
+
   effect_in : (it : Action) (s : State S) → In Holds s → LeavesTo Holds (effect limit added it (noted (event.Ran it) s))
   unfolding effect
-  effect_in (action.Step task) s holds = step_in task _ _ (ran_in (action.Step task) s refl holds)
-  effect_in (action.StepInCycle task cycle) s holds = step_in task _ _ (ran_in (action.StepInCycle task cycle) s refl holds)
-  effect_in (action.Wakeup task) s holds = step_in task _ _ (ran_in (action.Wakeup task) s refl holds)
+  effect_in (action.Step task) s holds = step_in task _ _ (begun (action.Step task) task s (eq-eqb task task refl)) (ran_in (action.Step task) s refl holds)
+  effect_in (action.StepInCycle task cycle) s holds =
+      step_in task _ _ (begun (action.StepInCycle task cycle) task s (eq-eqb task task refl)) (ran_in (action.StepInCycle task cycle) s refl holds)
+  effect_in (action.Wakeup task) s holds = step_in task _ _ (begun (action.Wakeup task) task s (eq-eqb task task refl)) (ran_in (action.Wakeup task) s refl holds)
   effect_in (action.SleepDone task future) s holds = ran_in (action.SleepDone task future) s refl holds
   effect_in (action.GroupDone group task) s holds = ran_in (action.GroupDone group task) s refl holds
   effect_in (action.Fires timeout) s holds = ran_in (action.Fires timeout) s refl holds

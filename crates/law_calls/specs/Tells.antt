@@ -18,7 +18,7 @@ use Rattle.model_machine.specs.State.{State}
 use Rattle.model_machine.specs.Turn.{turn}
 use Rattle.model_machine.specs.Went.{Went, Goes, Stops}
 use Rattle.law_reach.specs.Reaches.{IsRunaway, IsUnmet}
-use Rattle.law_calls.specs.Told.{IsAskedBy, asks_last, told_after}
+use Rattle.law_calls.specs.Told.{IsAskedBy, IsWoken, asks_last, told_after}
 
 abbrev pub In : {S : Type 0} → (S → List Event → Type 0) → State S → Type 0
 In Holds s = Holds s.extra s.events
@@ -63,7 +63,7 @@ pub record Tells {S : Type 0} (limit : ℕ) (added : Extra S) (Holds : S → Lis
   pub beside : (kept : S) (events more : List Event) → IsUntold more → Holds kept events → Holds kept (events ++ more)
   pub asks : (task : ℕ) (code : ℤ) (arguments : List Value) (s : State S) → IsAskedBy limit added task code arguments s → In Holds s
       → Called task (added.ask task code arguments s).answer (added.ask task code arguments s).call.state s.events
-  pub wakes : (task key : ℕ) (input : Input) (s : State S) → In Holds s
+  pub wakes : (task key : ℕ) (input : Input) (s : State S) → IsWoken task input s → In Holds s
       → Called task (added.wake key input s).answer (added.wake key input s).call.state s.events
   pub hears : (task key : ℕ) (code : ℤ) (bytes : List ℕ) (answer : Answer) (s : State S) (before : List Event)
       → fits (call.Extra code bytes) answer ≡ true

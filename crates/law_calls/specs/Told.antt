@@ -1,20 +1,23 @@
 -- What a run makes of what is added: its calls, one after another, with what it asked the outside in between and what it was
 -- answered; and the events that are of it.
-use Rattle.std.specs.Prelude.{◌≡◌, ℕ, ℤ, Bool, true, false, cond, List, [], ◌∷◌, ◌++◌, Option, Some, None}
+use Rattle.std.specs.Prelude.{◌≡◌, ◌⊎◌, ℕ, ℤ, Bool, true, false, cond, List, [], ◌∷◌, ◌++◌, Option, Some, None}
 use Rattle.model_value.specs.declared.action.Action.TheVariants as action
 use Rattle.model_value.specs.declared.request.Request.TheVariants as request
 use Rattle.model_value.specs.Action.{Action}
 use Rattle.model_value.specs.Input.{Input}
-use Rattle.model_value.specs.Value.{Value}
+use Rattle.model_value.specs.Value.{Outcome, Value}
 use Rattle.model_says.specs.Endings as says
 use Rattle.model_wire.specs.declared.call.Call.TheVariants as call
 use Rattle.model_wire.specs.declared.event.Event.TheVariants as event
 use Rattle.model_wire.specs.Call.{Call, Answer}
 use Rattle.model_wire.specs.Event.{Event}
 use Rattle.model_wire.specs.Fits.{fits}
+use Rattle.model_loop.specs.Futures.{future_outcome}
+use Rattle.model_loop.specs.Ways.{steps}
 use Rattle.model_machine.specs.Arguments.{as_int, as_list}
 use Rattle.model_machine.specs.Extra as extra
 use Rattle.model_machine.specs.Extra.{Extra, ExtraAnswer, ExtraSaid}
+use Rattle.model_machine.specs.Outcomes.{input_of}
 use Rattle.model_machine.specs.Replies.{input_by}
 use Rattle.model_machine.specs.State.{State}
 use Rattle.model_machine.specs.Step.{says_of}
@@ -114,11 +117,28 @@ pub record IsAskedBy {S : Type 0} (limit : ℕ) (added : Extra S) (task : ℕ) (
   pub is_code : as_int number ≡ Some code
   pub are_arguments : as_list list ≡ Some arguments
 
+-- A task's step began: the last event is that of it.
+pub record HasBegun (task : ℕ) (events : List Event) : Type 0 where
+  pub before : List Event
+  pub it : Action
+  pub ends : events ≡ before ++ event.Ran it ∷ []
+  pub steps : steps task it ≡ true
+
+-- The wait of a request is over: its task's step began with what it came to, or what it would wait for is done.
+pub record IsDone {S : Type 0} (input : Input) (s : State S) : Type 0 where
+  pub on : ℕ
+  pub outcome : Outcome
+  pub ended : future_outcome s.loop.parts on ≡ Some outcome
+  pub heard : input ≡ input_of outcome
+
+abbrev pub IsWoken : {S : Type 0} → (task : ℕ) → Input → State S → Type 0
+IsWoken task input s = HasBegun task s.events ⊎ IsDone input s
+
 -- Each call finds what the call before left. Where the outside was asked nothing else happens than that it answers, and what fits.
 abbrev pub MayHappen : {S : Type 0} → (limit : ℕ) → Extra S → Happening S → Told S → Type 0
 MayHappen limit added (Asks task code arguments s) told =
     (s.extra ≡ told.extra) × (told.asked ≡ None) × IsAskedBy limit added task code arguments s
-MayHappen limit added (Wakes task key input s) told = (s.extra ≡ told.extra) × (told.asked ≡ None)
+MayHappen limit added (Wakes task key input s) told = (s.extra ≡ told.extra) × (told.asked ≡ None) × IsWoken task input s
 MayHappen limit added (Hears question answer s) told =
     (s.extra ≡ told.extra) × (told.asked ≡ Some question) × (fits (call.Extra question.code question.bytes) answer ≡ true)
 MayHappen limit added (Acts key s) told = (s.extra ≡ told.extra) × (told.asked ≡ None)

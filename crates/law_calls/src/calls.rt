@@ -10,11 +10,11 @@ ghost use Rattle.law_calls.specs.Told.{HasHappened, Told, first_told};
 
 /// In each state of each run of every program, over whatever the outside answers: what is kept came
 /// by calls alone, one after another, each from what the one before left: of a task that asked, with
-/// the code and the arguments that its coroutine says; of a request whose wait was over; of what the
-/// outside answered to what was asked right before; of its own handle that ran; and of news. And
-/// what they told are the events that are of what is added, in order, each once. So it is between
-/// two turns, between any two callbacks of a turn, and where the run ends, but where it ends in the
-/// middle of a step.
+/// the code and the arguments that its coroutine says; of a request whose wait was over, as a step
+/// of its task began or at once; of what the outside answered to what was asked right before; of its
+/// own handle that ran; and of news. And what they told are the events that are of what is added, in
+/// order, each once. So it is between two turns, between any two callbacks of a turn, and where the
+/// run ends, but where it ends in the middle of a step.
 pub fn its_calls_are_what_the_events_say<S>()
     ensures from_start { (limit : ℕ) (added : Extra S) (most : ℕ) (state : S) (program : Program)
         (answers : List Entry) (turns : ℕ)
