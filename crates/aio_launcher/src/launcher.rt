@@ -12,7 +12,7 @@ use aio_base::Memory;
 use aio_hub::{Launched, Launcher, PumpKit, PumpReports};
 use aio_inbox::{Inbox, InboxName, Poster};
 use aio_poller::PollerBell;
-use aio_process::Process;
+use aio_process::{Process, copied};
 use aio_wire::WordList;
 use indexmap::IndexMap;
 use std::alloc::Global;
@@ -257,22 +257,4 @@ fn shared<T: Drop>(alloc: Global, value: T) -> Result<(Arc<T, Global>, Arc<T, Gl
             Err(Memory::from(error))
         }
     }
-}
-
-fn copied(alloc: Global, words: &WordList) -> Result<Vec<String>, Memory> {
-    let mut all = Vec::with_capacity(alloc, words.items().len())?;
-    match copy_all(alloc, words, &mut all) {
-        Ok(()) => Ok(all),
-        Err(error) => {
-            drop(all);
-            Err(error)
-        }
-    }
-}
-
-fn copy_all(alloc: Global, words: &WordList, all: &mut Vec<String>) -> Result<(), Memory> {
-    for word in words.items() {
-        all.push(String::from_str(alloc, word.as_str())?)?;
-    }
-    Ok(())
 }

@@ -8,11 +8,11 @@ use crate::slot::Slot;
 use aio_hub::PumpKit;
 use aio_inbox::{Inbox, InboxName, Poster};
 use aio_poller::PollerBell;
-use aio_process::Process;
+use aio_process::{Process, command_of};
 use std::alloc::Global;
 use std::io;
 use std::io::ErrorKind;
-use std::process::{Child, Command, Processes, Stdio, SystemProcess};
+use std::process::{Child, Processes, SystemProcess};
 use std::sync::{Arc, Wait};
 use std::thread::Threads;
 use std::time::Clock;
@@ -205,30 +205,13 @@ fn pipes_of(child: &mut Child) -> Option<Pipes> {
     })
 }
 
-/// It gets the directory and the environment of this program, and no descriptor but its pipes.
+// Starts the program of these words.
 fn spawned<R>(rt: &R, alloc: Global, words: &[String]) -> io::Result<Child>
 where
     R: Processes<Started = SystemProcess>,
 {
-    let Some((program, rest)) = words.split_first() else {
-        return Err(io::Error::from(ErrorKind::InvalidInput));
-    };
-    let mut command = Command::new(alloc, program.as_str())?;
-    let child = run(rt, &mut command, rest);
+    let mut command = command_of(alloc, words)?;
+    let child = command.spawn(rt);
     drop(command);
     child
-}
-
-fn run<R>(rt: &R, command: &mut Command, rest: &[String]) -> io::Result<Child>
-where
-    R: Processes<Started = SystemProcess>,
-{
-    for word in rest {
-        command.arg(word.as_str())?;
-    }
-    command
-        .stdin(Stdio::piped())
-        .stdout(Stdio::piped())
-        .stderr(Stdio::piped());
-    command.spawn(rt)
 }
