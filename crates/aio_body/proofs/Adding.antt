@@ -89,7 +89,7 @@ module _ {X : Type 0} {a : Added X} where
     runs = is;
     may = may;
     there = λ id named. at id named (h.name_map.gone id) refl;
-      rules = h.profile.rules;
+    rules = h.profile.rules;
   }
     where
       -- what was released was nobody's
