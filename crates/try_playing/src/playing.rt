@@ -3,136 +3,100 @@ ghost use Rattle.std.specs.Prelude.{◌≡◌};
 ghost use Rattle.aio_inbox.specs.Naming.{table_of};
 
 use crate::launcher::PlayLauncher;
-use crate::plan::{Plan, forget_plan};
 use crate::poller::PlayPoller;
-use crate::replay::{Outcome, run_over, words_of};
+use crate::reading::{answers_in, numbers_in, text_of};
 use crate::stage::Stage;
 use aio_asked::Hub;
-use aio_base::Memory;
 use aio_hub::MemPoller;
 use aio_inbox::{InboxName, UnnamedInbox};
+use aio_run::aio_main;
+use aio_wire::Wire;
 use std::alloc::Global;
 use std::sync::{Arc, Wait};
 use try_row::Row;
 
-/// Where the answers of the hub are recorded.
-pub const PLAYED: &str = "p";
-
 /// Where the pumps of the children stand.
 type StageOf<N> = Arc<Stage<N>, Global>;
 
-/// A hub whose poller and launcher play a plan.
+/// A hub whose poller and launcher do what a row's files say.
 type PlayHub<N, R> = Hub<N, R, PlayPoller<N, R, MemPoller>, PlayLauncher<N, R>>;
 
-/// Runs a row's script over a hub that plays this plan, and closes the hub. It records its answers in the file `PLAYED`.
-pub fn play<N: InboxName, R: Wait + Copy>(
+/// Whether a row's run over such a hub comes out as it must, on an inbox of its own. Then the hub is closed.
+pub fn plays<N: InboxName, R: Wait + Copy>(
     rt: R,
     alloc: Global,
     unnamed: UnnamedInbox,
     row: &mut Row,
-    plan: Plan,
-) -> Result<Outcome, Memory>
+) -> bool
     requires { table_of unnamed ≡ N.table }
 {
-    let hub = hub_of::<N, R>(rt, alloc, unnamed, plan)?;
-    run_hub(alloc, row, hub)
+    match Arc::new(alloc, Stage::<N>::new(alloc)) {
+        Ok(stage) => match Arc::try_clone(&stage) {
+            Ok(other) => plays_on(rt, alloc, unnamed, row, stage, other),
+            Err(_) => false,
+        },
+        Err(_) => false,
+    }
 }
 
-fn run_hub<N: InboxName, R: Wait + Copy>(
-    alloc: Global,
-    row: &mut Row,
-    hub: PlayHub<N, R>,
-) -> Result<Outcome, Memory> {
-    let mut wire = hub;
-    let outcome = run_row(alloc, row, &mut wire);
-    let _ends = wire.close(alloc);
-    outcome
-}
-
-fn run_row<N: InboxName, R: Wait + Copy>(
-    alloc: Global,
-    row: &mut Row,
-    wire: &mut PlayHub<N, R>,
-) -> Result<Outcome, Memory> {
-    let words = words_of(alloc, row, PLAYED)?;
-    run_over(alloc, row, &words, wire)
-}
-
-fn hub_of<N: InboxName, R: Wait + Copy>(
+fn plays_on<N: InboxName, R: Wait + Copy>(
     rt: R,
     alloc: Global,
     unnamed: UnnamedInbox,
-    plan: Plan,
-) -> Result<PlayHub<N, R>, Memory>
-    requires { table_of unnamed ≡ N.table }
-{
-    let made = stages::<N>(alloc);
-    let failing = failing_of(alloc, plan.answers.len() as u64, plan.is_cut);
-    match (made, failing) {
-        (Ok((stage, other)), Ok(failing)) => {
-            let (poller, launcher) = sides(rt, alloc, stage, other, plan, failing);
-            Hub::<N, R, PlayPoller<N, R, MemPoller>, PlayLauncher<N, R>>::make(
-                rt, alloc, poller, launcher, unnamed,
-            )
-        }
-        _ => {
-            forget_plan(plan);
-            Err(Memory)
-        }
-    }
-}
-
-// The stage, for the poller and for the launcher.
-fn stages<N: InboxName>(alloc: Global) -> Result<(StageOf<N>, StageOf<N>), Memory> {
-    let stage = Arc::new(alloc, Stage::<N>::new(alloc))?;
-    match Arc::try_clone(&stage) {
-        Ok(other) => Ok((stage, other)),
-        Err(_) => {
-            forget_stage(stage);
-            Err(Memory)
-        }
-    }
-}
-
-fn forget_stage<N: InboxName>(_stage: StageOf<N>) {}
-
-// The poller and the launcher that play a plan.
-fn sides<N: InboxName, R: Copy>(
-    rt: R,
-    alloc: Global,
+    row: &mut Row,
     stage: StageOf<N>,
     other: StageOf<N>,
-    plan: Plan,
-    failing: Vec<u64>,
-) -> (PlayPoller<N, R, MemPoller>, PlayLauncher<N, R>) {
-    let Plan {
-        answers,
-        polls,
-        refused,
-        children: _,
-        is_cut: _,
-    } = plan;
-    let poller = PlayPoller {
-        rt,
-        stage,
-        polls,
-        inner: MemPoller::new(alloc, answers, failing),
-    };
+) -> bool
+    requires { table_of unnamed ≡ N.table }
+{
+    let poller = poller_of(rt, alloc, row, stage);
     let launcher = PlayLauncher {
         rt,
         stage: other,
-        refused,
+        refused: numbers_in(alloc, text_of(row, "refused")),
         made: 0,
         faults: 0,
     };
-    (poller, launcher)
+    match Hub::<N, R, PlayPoller<N, R, MemPoller>, PlayLauncher<N, R>>::make(
+        rt, alloc, poller, launcher, unnamed,
+    ) {
+        Ok(hub) => runs(alloc, row, hub),
+        Err(_) => false,
+    }
 }
 
-// Which call of the poller fails, counted from 1: the one after so many, or none.
-fn failing_of(alloc: Global, answered: u64, is_cut: bool) -> Result<Vec<u64>, Memory> {
-    let mut failing = Vec::new(alloc);
-    if is_cut {
-        failing.push(answered.saturating_add(1))?;
+fn poller_of<N: InboxName, R: Copy>(
+    rt: R,
+    alloc: Global,
+    row: &Row,
+    stage: StageOf<N>,
+) -> PlayPoller<N, R, MemPoller> {
+    let inner = MemPoller::new(
+        alloc,
+        answers_in(alloc, text_of(row, "poller")),
+        numbers_in(alloc, text_of(row, "failing")),
+    );
+    PlayPoller {
+        rt,
+        stage,
+        posts: answers_in(alloc, text_of(row, "posts")),
+        polled: 0,
+        inner,
     }
-    Ok(failing)
+}
+
+fn runs<N: InboxName, R: Wait + Copy>(alloc: Global, row: &mut Row, hub: PlayHub<N, R>) -> bool {
+    let mut wire = hub;
+    let right = is_right(alloc, row, &mut wire);
+    let ends = wire.close(alloc);
+    drop(ends);
+    right
+}
+
+// Runs the program over this wire: whether it ends, writes and records as it must.
+fn is_right<W: Wire>(alloc: Global, row: &mut Row, wire: &mut W) -> bool {
+    let status = aio_main(alloc, &row.words, &mut row.shelf, wire, &mut row.out);
+    row.ends_with(status)
+        && row.out.inner.taken() == row.written.as_slice()
+        && text_of(row, "p") == text_of(row, "record")
 }

@@ -1,20 +1,20 @@
 //! A poller by whose polls the pumps of children post.
-use crate::plan::Posts;
 use crate::stage::Stage;
 use aio_base::Memory;
 use aio_hub::{Polled, Poller};
 use aio_inbox::InboxName;
-use aio_wire::{Call, Reply, WatchList};
+use aio_wire::{Answer, Call, Reply, WatchList};
 use std::alloc::Global;
-use std::collections::VecDeque;
 use std::sync::{Arc, Wait};
 
-/// Answers as the poller in it does. Before each poll the pumps post what comes next, and nothing past the list.
+/// Answers as the poller in it does. Before each poll the pumps post what the items of the next turn tell, and nothing past
+/// the list.
 #[derive(Drop)]
 pub struct PlayPoller<N: InboxName, R, P> {
     pub rt: R,
     pub stage: Arc<Stage<N>, Global>,
-    pub polls: VecDeque<Posts>,
+    pub posts: Vec<Answer>,
+    pub polled: usize,
     pub inner: P,
 }
 
@@ -27,9 +27,10 @@ impl<N: InboxName, R: Wait, P: Poller> Poller for PlayPoller<N, R, P> {
         wait: Option<u64>,
         watch: &WatchList,
     ) -> Result<Polled, Memory> {
-        if let Some(posts) = self.polls.pop_front() {
-            self.stage.post_all(&self.rt, posts);
+        if let Some(Answer::Turn { now: _, items }) = self.posts.get(self.polled) {
+            self.stage.post_all(&self.rt, alloc, items.items());
         }
+        self.polled = self.polled.saturating_add(1);
         self.inner.poll(alloc, wait, watch)
     }
 

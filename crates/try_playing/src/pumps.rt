@@ -1,66 +1,70 @@
 //! What a pump does before it posts, and what its child's pumps report at the end.
-use crate::plan::ChildPost;
 use crate::stage::Pumps;
-use aio_base::Blob;
+use aio_base::{Blob, ChildItem};
 use aio_hub::{PumpKit, PumpReports};
-use aio_inbox::{InboxName, PostKind, Poster, Stream};
+use aio_inbox::{Inbox, InboxName, PostKind, Poster, Stream};
 use aio_lane::Tail;
 use aio_pump::{Ending, PumpReport};
-use aio_wire::ChildItem;
+use std::alloc::Global;
 use std::sync::Wait;
+use try_row::blob_of;
 
-/// Has a pump of this child post. It takes the command first that the post answers: a Write before a Room, a Go before a
-/// piece or an end.
-pub fn post<N: InboxName, R: Wait>(rt: &R, pumps: &mut Pumps<N>, next: ChildPost) {
-    match next {
-        ChildPost::Room(_) => {
-            let _write = pumps.stdin.next(rt);
-            let _said = pumps.inbox.post(rt, &mut pumps.stdin_seat, PostKind::Room);
-        }
-        ChildPost::News { child: _, news } => post_news(rt, pumps, news),
-    }
+// Posts once. Where the inbox is full nothing is posted.
+fn put<N: InboxName, R: Wait>(rt: &R, inbox: &Inbox<N>, poster: &mut Poster<N>, kind: PostKind) {
+    let said = inbox.post(rt, poster, kind);
+    drop(said);
 }
 
-fn post_news<N: InboxName, R: Wait>(rt: &R, pumps: &mut Pumps<N>, news: ChildItem) {
+// Takes a command from a lane; it waits for one.
+fn obey<R: Wait>(rt: &R, tail: &mut Tail) {
+    let command = tail.next(rt);
+    drop(command);
+}
+
+/// Has the pump of a child's standard input post a Room. It takes the Write first that the post answers.
+pub fn post_room<N: InboxName, R: Wait>(rt: &R, pumps: &mut Pumps<N>) {
+    obey(rt, &mut pumps.stdin);
+    put(rt, &pumps.inbox, &mut pumps.stdin_seat, PostKind::Room);
+}
+
+/// Has a pump of a child post what becomes this item. It takes the Go first that a piece or an end answers.
+pub fn post_news<N: InboxName, R: Wait>(
+    rt: &R,
+    alloc: Global,
+    pumps: &mut Pumps<N>,
+    news: &ChildItem,
+) {
     match news {
-        ChildItem::Broken => {
-            let _said = pumps
-                .inbox
-                .post(rt, &mut pumps.stdin_seat, PostKind::Broken);
-        }
-        ChildItem::Out(bytes) => post_out(rt, pumps, piece(Stream::Out, bytes)),
+        ChildItem::Broken => put(rt, &pumps.inbox, &mut pumps.stdin_seat, PostKind::Broken),
+        ChildItem::Out(bytes) => post_out(rt, pumps, piece(alloc, Stream::Out, bytes)),
         ChildItem::OutEnd => post_out(rt, pumps, PostKind::End(Stream::Out)),
-        ChildItem::Errs(bytes) => post_errs(rt, pumps, piece(Stream::Errs, bytes)),
+        ChildItem::Errs(bytes) => post_errs(rt, pumps, piece(alloc, Stream::Errs, bytes)),
         ChildItem::ErrsEnd => post_errs(rt, pumps, PostKind::End(Stream::Errs)),
-        ChildItem::Exit(code) => post_exit(rt, pumps, code),
+        // A code that is no code of a program isn't posted.
+        ChildItem::Exit(code) => {
+            if let Ok(code) = i32::try_from(*code) {
+                put(rt, &pumps.inbox, &mut pumps.exit_seat, PostKind::Exit(code));
+            }
+        }
     }
 }
 
-// A code that is no code of a program isn't posted.
-fn post_exit<N: InboxName, R: Wait>(rt: &R, pumps: &mut Pumps<N>, code: i64) {
-    if let Ok(code) = i32::try_from(code) {
-        let _said = pumps
-            .inbox
-            .post(rt, &mut pumps.exit_seat, PostKind::Exit(code));
-    }
-}
-
-fn piece(stream: Stream, bytes: Blob) -> PostKind {
+fn piece(alloc: Global, stream: Stream, bytes: &Blob) -> PostKind {
     PostKind::Piece {
         stream,
         offset: 0,
-        bytes,
+        bytes: blob_of(alloc, bytes.items()),
     }
 }
 
 fn post_out<N: InboxName, R: Wait>(rt: &R, pumps: &mut Pumps<N>, kind: PostKind) {
-    let _go = pumps.out.next(rt);
-    let _said = pumps.inbox.post(rt, &mut pumps.out_seat, kind);
+    obey(rt, &mut pumps.out);
+    put(rt, &pumps.inbox, &mut pumps.out_seat, kind);
 }
 
 fn post_errs<N: InboxName, R: Wait>(rt: &R, pumps: &mut Pumps<N>, kind: PostKind) {
-    let _go = pumps.errs.next(rt);
-    let _said = pumps.inbox.post(rt, &mut pumps.errs_seat, kind);
+    obey(rt, &mut pumps.errs);
+    put(rt, &pumps.inbox, &mut pumps.errs_seat, kind);
 }
 
 fn report<N: InboxName>(poster: Poster<N>, tail: Option<Tail>) -> PumpReport<Poster<N>> {

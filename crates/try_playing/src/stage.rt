@@ -2,11 +2,11 @@
 //! and takes them.
 ghost use Rattle.std.specs.Prelude.{◌<◌, length, IfSome};
 
-use crate::plan::{ChildPost, Posts};
-use crate::pumps::post;
+use crate::pumps::{post_news, post_room};
 use aio_base::Memory;
 use aio_hub::PumpKit;
 use aio_inbox::{Inbox, InboxName, Poster};
+use aio_wire::Item;
 use std::alloc::Global;
 use std::sync::{Mutex, Wait};
 
@@ -46,15 +46,12 @@ impl<N: InboxName> Stage<N> {
         unreachable!()
     }
 
-    /// Has pumps post, in order. Those of a child that doesn't run post nothing.
-    pub fn post_all<R: Wait>(&self, rt: &R, posts: Posts) {
+    /// Has pumps post, in order: a Room where an item tells that a child may be fed, and else what becomes the item. Those of a
+    /// child that doesn't run post nothing.
+    pub fn post_all<R: Wait>(&self, rt: &R, alloc: Global, items: &[Item]) {
         let mut all = self.pumps.lock(rt);
-        let mut left = posts;
-        for _ in 0..u64::MAX {
-            let Some(next) = left.pop_front() else {
-                break;
-            };
-            post_in(rt, &mut *all, next);
+        for item in items {
+            post_in(rt, alloc, &mut *all, item);
         }
     }
 }
@@ -70,8 +67,22 @@ fn take_from<N: InboxName>(all: &mut Vec<Pumps<N>>, child: u32) -> Option<Pumps<
     Some(all.remove(at))
 }
 
-fn post_in<N: InboxName, R: Wait>(rt: &R, all: &mut Vec<Pumps<N>>, next: ChildPost) {
-    if let Some(at) = place_of(all.as_slice(), next.child()) {
-        post(rt, &mut all[at], next);
+fn post_in<N: InboxName, R: Wait>(rt: &R, alloc: Global, all: &mut Vec<Pumps<N>>, item: &Item) {
+    match item {
+        Item::WritableChild(child) => {
+            if let Some(at) = place_of(all.as_slice(), *child) {
+                post_room(rt, &mut all[at]);
+            }
+        }
+        Item::Child { child, item } => {
+            if let Some(at) = place_of(all.as_slice(), *child) {
+                post_news(rt, alloc, &mut all[at], item);
+            }
+        }
+        Item::ReadableServer(_)
+        | Item::Ready { .. }
+        | Item::Up(_)
+        | Item::Down(_)
+        | Item::Extra { .. } => {}
     }
 }
