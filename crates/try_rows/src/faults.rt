@@ -4,7 +4,6 @@
 mod fault;
 mod lines;
 mod memory;
-mod outcome;
 mod running;
 mod script;
 mod tally;
@@ -27,7 +26,9 @@ pub fn fail_scripts<R: Files + Print + AllocGlobal>(
     let mut tally = Tally::new();
     for name in names {
         let script = Script::read(rt, alloc, name.as_str())?;
-        tally.fail_script(rt, alloc, &script)?;
+        let failed = tally.fail_script(rt, alloc, &script);
+        drop(script);
+        failed?;
     }
     println!(rt;
         "{} scripts, {} calls, {} differ",
@@ -44,7 +45,9 @@ pub fn run_scripts<R: Files + Print + AllocGlobal>(
 ) -> Result<u64, RowsStopped> {
     for name in names {
         let script = Script::read(rt, alloc, name.as_str())?;
-        run_script(rt, alloc, &script)?;
+        let ran = run_script(rt, alloc, &script);
+        drop(script);
+        ran?;
     }
     Ok(0)
 }

@@ -23,27 +23,16 @@ pub fn run_over(
     out: &mut FailAt<MemSink>,
 ) -> Result<Ended, Memory> {
     let mut answers = MemShelf::new(alloc);
-    let ended = run_put(alloc, words, journal, &mut answers, failing, shelf, out);
-    forget_shelf(answers);
+    let put = match journal {
+        Some(text) => answers.append(alloc, "j", text).is_ok(),
+        None => true,
+    };
+    let ended = run_asking(alloc, words, &mut answers, failing, shelf, out, put);
+    drop(answers);
     ended
 }
 
-/// Runs it once the journal stands on its shelf.
-fn run_put(
-    alloc: Global,
-    words: &Vec<String>,
-    journal: Option<&[u8]>,
-    answers: &mut MemShelf,
-    failing: Vec<u64>,
-    shelf: &mut FailAt<MemShelf>,
-    out: &mut FailAt<MemSink>,
-) -> Result<Ended, Memory> {
-    if let Some(text) = journal {
-        answers.append(alloc, "j", text)?;
-    }
-    Ok(run_asking(alloc, words, answers, failing, shelf, out))
-}
-
+// Runs it once the journal stands on its shelf.
 fn run_asking(
     alloc: Global,
     words: &Vec<String>,
@@ -51,12 +40,18 @@ fn run_asking(
     failing: Vec<u64>,
     shelf: &mut FailAt<MemShelf>,
     out: &mut FailAt<MemSink>,
-) -> Ended {
-    let mut wire = FailAt::new(JournalWire::new(alloc, answers, "j"), failing);
-    let status = aio_main(alloc, words, shelf, &mut wire, out);
-    let asked = wire.made;
+    put: bool,
+) -> Result<Ended, Memory> {
+    let mut wire = FailAt::new(JournalWire::answering(alloc, answers, "j"), failing);
+    let ended = if put {
+        let status = aio_main(alloc, words, shelf, &mut wire, out);
+        Ok(Ended {
+            status,
+            asked: wire.made,
+        })
+    } else {
+        Err(Memory)
+    };
     drop(wire);
-    Ended { status, asked }
+    ended
 }
-
-fn forget_shelf(_shelf: MemShelf) {}

@@ -1,6 +1,5 @@
 //! Files of lists of words, read as the program reads them.
 
-mod asked;
 mod lists;
 
 use lists::Lists;

@@ -3,7 +3,7 @@ use aio_base::Memory;
 use std::alloc::Global;
 
 /// A part of the outside.
-#[derive(Clone, Copy, PartialEq, Eq)]
+#[derive(Clone, Copy)]
 pub enum Part {
     Wire,
     Shelf,
@@ -28,19 +28,17 @@ pub struct Fault {
     pub number: u64,
 }
 
-impl Fault {
-    /// No call fails.
-    pub fn none() -> Fault {
-        Fault {
-            part: Part::Wire,
-            number: 0,
-        }
-    }
+/// No call fails.
+pub const NONE: Fault = Fault {
+    part: Part::Wire,
+    number: 0,
+};
 
-    /// Which calls of this part fail.
-    pub fn calls_of(self, alloc: Global, part: Part) -> Result<Vec<u64>, Memory> {
+impl Fault {
+    /// Which calls of the wire fail.
+    pub fn of_wire(self, alloc: Global) -> Result<Vec<u64>, Memory> {
         let mut calls = Vec::new(alloc);
-        if self.part == part {
+        if matches!(self.part, Part::Wire) {
             calls.push(self.number)?;
         }
         Ok(calls)

@@ -1,38 +1,29 @@
 //! Lines of texts.
-use aio_base::Memory;
 use aio_text::next_line;
-use std::alloc::Global;
+use try_row::Wanted;
 
 /// The lines before the one that begins with a mark as the `number`-th, counted from 1: all of them
 /// where fewer do, and none for 0.
-pub fn lines_before(
-    alloc: Global,
-    text: &[u8],
-    mark: &[u8],
-    number: u64,
-) -> Result<Vec<u8>, Memory> {
-    let mut front = Vec::new(alloc);
+pub fn lines_before<'a>(text: &'a [u8], mark: &[u8], number: u64) -> &'a [u8] {
     let mut marked = 0u64;
     let mut rest = text;
     for _ in 0..u64::MAX {
         let Some((line, more)) = next_line(rest) else {
-            break;
+            return text;
         };
-        rest = more;
         if line.starts_with(mark) {
             marked = marked.saturating_add(1);
         }
         if marked >= number {
             break;
         }
-        push_line(&mut front, line)?;
+        rest = more;
     }
-    Ok(front)
+    &text[..text.len().saturating_sub(rest.len())]
 }
 
-/// The lines of a traced transcript that stand in it without the trace too.
-pub fn untraced(alloc: Global, text: &[u8]) -> Result<Vec<u8>, Memory> {
-    let mut told = Vec::new(alloc);
+/// Tells the lines of a traced transcript that stand in it without the trace too.
+pub fn say_untraced(text: &[u8], wanted: &mut Wanted<'_>) {
     let mut rest = text;
     for _ in 0..u64::MAX {
         let Some((line, more)) = next_line(rest) else {
@@ -40,10 +31,10 @@ pub fn untraced(alloc: Global, text: &[u8]) -> Result<Vec<u8>, Memory> {
         };
         rest = more;
         if !is_of_trace(line) {
-            push_line(&mut told, line)?;
+            wanted.say(line);
+            wanted.say(b"\n");
         }
     }
-    Ok(told)
 }
 
 /// A call, an answer, or a handle that runs.
@@ -65,10 +56,4 @@ pub fn count_of(text: &[u8], mark: &[u8]) -> u64 {
         }
     }
     count
-}
-
-fn push_line(text: &mut Vec<u8>, line: &[u8]) -> Result<(), Memory> {
-    text.extend_from_slice(line)?;
-    text.push(b'\n')?;
-    Ok(())
 }

@@ -1,101 +1,83 @@
 //! One run, of which at most one call fails.
 use crate::faults::fault::{Fault, Part};
-use crate::faults::outcome::Outcome;
 use crate::faults::script::Script;
-use crate::over_journal::{Ended, run_over};
+use crate::over_journal::run_over;
 use aio_base::Memory;
-use aio_memwire::FailAt;
-use aio_wire::{MemShelf, MemSink, Shelf};
 use std::alloc::Global;
+use try_row::{Row, RowRunner, RowsStopped, run_words};
 
-/// Runs a script over its answers, and records them, with the trace or without it.
-pub fn run(alloc: Global, script: &Script, fault: Fault, trace: bool) -> Result<Outcome, Memory> {
-    let files = fault.calls_of(alloc, Part::Shelf)?;
-    let mut shelf = FailAt::new(MemShelf::new(alloc), files);
-    let outcome = run_on(alloc, script, fault, trace, &mut shelf);
-    forget_shelf(shelf);
-    outcome
+/// The words of a run that is recorded. The last asks for the trace.
+static WORDS: [&str; 5] = ["run", "s", "--record", "r", "--trace"];
+
+/// A run of a script, and what it came to: its status, what it wrote and recorded, how many calls of the wire it made, and how
+/// many of the part of which a call fails.
+#[derive(Drop)]
+pub struct Running<'a> {
+    script: &'a Script,
+    fault: Fault,
+    pub status: u8,
+    pub written: Vec<u8>,
+    pub recorded: Vec<u8>,
+    pub asked: u64,
+    pub made: u64,
 }
 
-/// Runs it on this shelf, which gets the script as a file.
-fn run_on(
-    alloc: Global,
-    script: &Script,
-    fault: Fault,
-    trace: bool,
-    shelf: &mut FailAt<MemShelf>,
-) -> Result<Outcome, Memory> {
-    shelf.inner.append(alloc, "s", &script.text)?;
-    let writes = fault.calls_of(alloc, Part::Sink)?;
-    let mut out = FailAt::new(MemSink::new(alloc), writes);
-    let outcome = run_to(alloc, script, fault, trace, shelf, &mut out);
-    forget_sink(out);
-    outcome
+impl<'a> Running<'a> {
+    /// It didn't run yet.
+    pub fn new(alloc: Global, script: &'a Script, fault: Fault) -> Running<'a> {
+        Running {
+            script,
+            fault,
+            status: 0,
+            written: Vec::new(alloc),
+            recorded: Vec::new(alloc),
+            asked: 0,
+            made: 0,
+        }
+    }
+
+    /// Runs the script over its answers, and records them, with the trace or without it.
+    pub fn run_script(&mut self, alloc: Global, trace: bool) -> Result<(), RowsStopped> {
+        let script = self.script;
+        let words = if trace { &WORDS[..] } else { &WORDS[..4] };
+        run_words(alloc, words, "s", script.text.as_slice(), self)
+    }
 }
 
-/// Runs it to this sink.
-fn run_to(
-    alloc: Global,
-    script: &Script,
-    fault: Fault,
-    trace: bool,
-    shelf: &mut FailAt<MemShelf>,
-    out: &mut FailAt<MemSink>,
-) -> Result<Outcome, Memory> {
-    let words = words_of(alloc, trace)?;
-    let asks = fault.calls_of(alloc, Part::Wire)?;
-    let ended = run_over(
-        alloc,
-        &words,
-        Some(script.journal.as_slice()),
-        asks,
-        shelf,
-        out,
-    )?;
-    outcome_of(alloc, fault, ended, shelf, out)
-}
-
-/// What it came to.
-fn outcome_of(
-    alloc: Global,
-    fault: Fault,
-    ended: Ended,
-    shelf: &FailAt<MemShelf>,
-    out: &FailAt<MemSink>,
-) -> Result<Outcome, Memory> {
-    Ok(Outcome {
-        status: ended.status,
-        written: Vec::from_slice(alloc, out.inner.taken())?,
-        recorded: Vec::from_slice(alloc, recorded_in(&shelf.inner))?,
-        asked: ended.asked,
-        made: match fault.part {
+impl<'a> RowRunner for Running<'a> {
+    fn run(&mut self, alloc: Global, row: &mut Row) -> Result<(), RowsStopped> {
+        note(self.fault, row)?;
+        let failing = self.fault.of_wire(alloc)?;
+        let journal = Some(self.script.journal.as_slice());
+        let ended = run_over(
+            alloc,
+            &row.words,
+            journal,
+            failing,
+            &mut row.shelf,
+            &mut row.out,
+        )?;
+        self.status = ended.status;
+        self.asked = ended.asked;
+        self.made = match self.fault.part {
             Part::Wire => ended.asked,
-            Part::Shelf => shelf.made,
-            Part::Sink => out.made,
-        },
-    })
-}
-
-/// The words of a run that is recorded.
-fn words_of(alloc: Global, trace: bool) -> Result<Vec<String>, Memory> {
-    let mut words = Vec::new(alloc);
-    for word in ["run", "s", "--record", "r"] {
-        words.push(String::from_str(alloc, word)?)?;
-    }
-    if trace {
-        words.push(String::from_str(alloc, "--trace")?)?;
-    }
-    Ok(words)
-}
-
-/// What was recorded: nothing where there is no such file.
-fn recorded_in(shelf: &MemShelf) -> &[u8] {
-    match shelf.file("r") {
-        Some(bytes) => bytes,
-        None => &[],
+            Part::Shelf => row.shelf.made,
+            Part::Sink => row.out.made,
+        };
+        self.written.extend_from_slice(row.out.inner.taken())?;
+        if let Some(recorded) = row.shelf.inner.file("r") {
+            self.recorded.extend_from_slice(recorded)?;
+        }
+        Ok(())
     }
 }
 
-fn forget_shelf(_shelf: FailAt<MemShelf>) {}
-
-fn forget_sink(_out: FailAt<MemSink>) {}
+/// Has the call fail where it is one of the shelf or of the sink. What was put on the shelf before is no call of the run.
+fn note(fault: Fault, row: &mut Row) -> Result<(), Memory> {
+    match fault.part {
+        Part::Wire => {}
+        Part::Shelf => row.shelf.calls.push(fault.number)?,
+        Part::Sink => row.out.calls.push(fault.number)?,
+    }
+    Ok(())
+}

@@ -20,24 +20,35 @@ impl Script {
         alloc: Global,
         name: &str,
     ) -> Result<Script, RowsStopped> {
-        let text = read_file(rt, alloc, name, "aio")?;
-        let journal = read_file(rt, alloc, name, "journal")?;
-        let transcript = read_file(rt, alloc, name, "transcript")?;
-        Ok(Script {
+        let mut script = Script {
             name: String::from_str(alloc, name)?,
-            text,
-            journal,
-            transcript,
-        })
+            text: Vec::new(alloc),
+            journal: Vec::new(alloc),
+            transcript: Vec::new(alloc),
+        };
+        match script.fill(rt, alloc) {
+            Ok(()) => Ok(script),
+            Err(RowsStopped) => {
+                drop(script);
+                Err(RowsStopped)
+            }
+        }
     }
-}
 
-fn read_file<R: Files + AllocGlobal>(
-    rt: &R,
-    alloc: Global,
-    name: &str,
-    ending: &str,
-) -> Result<Vec<u8>, RowsStopped> {
-    let path = format!(in alloc; "{name}.{ending}")?;
-    Ok(fs::read(rt, path.as_str())?)
+    fn fill<R: Files + AllocGlobal>(&mut self, rt: &R, alloc: Global) -> Result<(), RowsStopped> {
+        self.text = self.read_file(rt, alloc, "aio")?;
+        self.journal = self.read_file(rt, alloc, "journal")?;
+        self.transcript = self.read_file(rt, alloc, "transcript")?;
+        Ok(())
+    }
+
+    fn read_file<R: Files + AllocGlobal>(
+        &self,
+        rt: &R,
+        alloc: Global,
+        ending: &str,
+    ) -> Result<Vec<u8>, RowsStopped> {
+        let path = format!(in alloc; "{}.{ending}", self.name)?;
+        Ok(fs::read(rt, path.as_str())?)
+    }
 }

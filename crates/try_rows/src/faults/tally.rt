@@ -1,6 +1,5 @@
 //! How many scripts there were, how many calls failed, and how many runs came out otherwise.
 use crate::faults::fault::{Fault, Part};
-use crate::faults::running::run;
 use crate::faults::script::Script;
 use crate::faults::whole::Whole;
 use std::alloc::Global;
@@ -12,6 +11,8 @@ pub struct Tally {
     pub calls: u64,
     pub differ: u64,
 }
+
+static PARTS: [Part; 3] = [Part::Wire, Part::Shelf, Part::Sink];
 
 impl Tally {
     /// No scripts so far.
@@ -30,17 +31,28 @@ impl Tally {
         alloc: Global,
         script: &Script,
     ) -> Result<(), RowsStopped> {
-        self.scripts = self.scripts.saturating_add(1);
         let whole = Whole::new(alloc, script)?;
-        if !whole.is_told(alloc)? {
+        let failed = self.fail_whole(rt, alloc, &whole);
+        drop(whole);
+        failed
+    }
+
+    fn fail_whole<R: Print>(
+        &mut self,
+        rt: &R,
+        alloc: Global,
+        whole: &Whole<'_>,
+    ) -> Result<(), RowsStopped> {
+        self.scripts = self.scripts.saturating_add(1);
+        if !whole.is_told() {
             self.differ = self.differ.saturating_add(1);
             println!(rt;
                 "{}: with the trace it tells another transcript",
-                script.name
+                whole.script.name
             )?;
         }
-        for part in [Part::Wire, Part::Shelf, Part::Sink] {
-            self.fail_part(rt, alloc, &whole, part)?;
+        for part in &PARTS {
+            self.fail_part(rt, alloc, whole, *part)?;
         }
         Ok(())
     }
@@ -84,7 +96,7 @@ impl Tally {
         whole: &Whole<'_>,
         fault: Fault,
     ) -> Result<bool, RowsStopped> {
-        if fault.part != Part::Sink {
+        if !matches!(fault.part, Part::Sink) {
             self.compare_run(rt, alloc, whole, fault, false)?;
         }
         self.compare_run(rt, alloc, whole, fault, true)
@@ -99,10 +111,8 @@ impl Tally {
         fault: Fault,
         trace: bool,
     ) -> Result<bool, RowsStopped> {
-        let outcome = run(alloc, whole.script, fault, trace)?;
-        let is_made = fault.number <= outcome.made;
-        let wanted = whole.wanted(alloc, fault, is_made, trace)?;
-        if let Some(difference) = outcome.difference(&wanted) {
+        let (is_made, difference) = whole.compare(alloc, fault, trace)?;
+        if let Some(difference) = difference {
             self.differ = self.differ.saturating_add(1);
             println!(rt;
                 "{} {} call {}: {difference}",

@@ -1,9 +1,9 @@
 //! Lists of words, one after another, and how many of them asked for something else than they must.
-use crate::words::asked::asked;
 use aio_base::Memory;
 use aio_text::next_line;
+use aio_words::{Command, command_of};
 use std::alloc::Global;
-use try_row::RowsStopped;
+use try_row::{RowsStopped, Wanted};
 
 /// The words of the list that is being read, and what came of those before it.
 #[derive(Drop)]
@@ -36,10 +36,10 @@ impl Lists {
                 break;
             };
             rest = more;
-            match line {
-                [b'w', b'o', b'r', b'd', b' ', word @ ..] => self.take(alloc, word)?,
-                [b'a', b's', b'k', b's', b' ', wanted @ ..] => self.end(rt, alloc, wanted)?,
-                _ => {}
+            if let Some(word) = line.strip_prefix(b"word ") {
+                self.take(alloc, word)?;
+            } else if let Some(wanted) = line.strip_prefix(b"asks ") {
+                self.end(rt, wanted)?;
             }
         }
         Ok(())
@@ -53,14 +53,67 @@ impl Lists {
     }
 
     /// Compares what the list asks for, and prints a line where it is something else.
-    fn end<R: Print>(&mut self, rt: &R, alloc: Global, wanted: &[u8]) -> Result<(), RowsStopped> {
+    fn end<R: Print>(&mut self, rt: &R, wanted: &[u8]) -> Result<(), RowsStopped> {
         self.count = self.count.saturating_add(1);
-        let found = asked(alloc, self.words.as_slice())?;
-        self.words = Vec::new(alloc);
-        if found.as_str().as_bytes() != wanted {
+        let right = is_asked(self.words.as_slice(), wanted);
+        self.words.clear();
+        if !right {
             self.differ = self.differ.saturating_add(1);
-            println!(rt; "list {}: asks {found}", self.count)?;
+            println!(rt; "list {}: asks something else", self.count)?;
         }
         Ok(())
     }
+}
+
+/// Whether words ask for this command, with its names and its options: `replay s j trace 5`. A run without a record has `-` in
+/// its place; words that are refused ask for `nothing`.
+fn is_asked(words: &[String], wanted: &[u8]) -> bool {
+    let mut wanted = Wanted::new(wanted);
+    match command_of(words) {
+        None => wanted.say(b"nothing"),
+        Some(Command::Check { script }) => say_names("check ", script, "", &mut wanted),
+        Some(
+            Command::Replay {
+                script,
+                journal,
+                trace,
+                turns,
+            },
+        ) => {
+            say_names("replay ", script, journal, &mut wanted);
+            say_pace(trace, turns, &mut wanted);
+        }
+        Some(
+            Command::Run {
+                script,
+                recorded,
+                trace,
+                turns,
+            },
+        ) => {
+            say_names("run ", script, recorded.unwrap_or("-"), &mut wanted);
+            say_pace(trace, turns, &mut wanted);
+        }
+        Some(Command::Work { seed }) => {
+            wanted.say(b"work ");
+            wanted.say_number(seed);
+        }
+    }
+    wanted.is_told()
+}
+
+/// A verb and one or two names.
+fn say_names(verb: &str, first: &str, second: &str, wanted: &mut Wanted<'_>) {
+    wanted.say(verb.as_bytes());
+    wanted.say(first.as_bytes());
+    if !second.is_empty() {
+        wanted.say(b" ");
+        wanted.say(second.as_bytes());
+    }
+}
+
+fn say_pace(trace: bool, turns: u64, wanted: &mut Wanted<'_>) {
+    let pace = if trace { " trace " } else { " plain " };
+    wanted.say(pace.as_bytes());
+    wanted.say_number(turns);
 }
