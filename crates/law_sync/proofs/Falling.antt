@@ -24,14 +24,14 @@ use Rattle.law_sync.proofs.Holding.{EventHolds, Holds, LockHolds, QueueHolds, ho
 use Rattle.law_sync.proofs.Comes.{AnswerHolds, Comes, acquired_comes, getting_comes, putting_comes, waited_comes}
 
 -- nothing is asked of futures or of values
-abbrev Any : {A : Type 0} → A → Type 0
+abbrev pub Any : {A : Type 0} → A → Type 0
 Any x = Unit {0}
 
-any_each : {A : Type 0} (xs : List A) → Each Any xs
+pub any_each : {A : Type 0} (xs : List A) → Each Any xs
 any_each [] = tt
 any_each (x ∷ xs) = (tt, any_each xs)
 
-any_holds : (kept : Synced) → Holds Any Any kept
+pub any_holds : (kept : Synced) → Holds Any Any kept
 any_holds kept = holds_from Any Any kept (any_each (sync_keeps kept).own) (any_each (sync_keeps kept).values)
 
 -- it waits on the next future, which it made, under this key, or it waits no more

@@ -1,0 +1,9 @@
+mod Rising
+mod Resolved
+mod Entries
+mod Same
+mod Lifting
+mod Seeing
+mod Answering
+mod Asking
+mod Again

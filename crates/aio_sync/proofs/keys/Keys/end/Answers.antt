@@ -1,0 +1,18 @@
+use Rattle.std.proofs.Common.{ℕ, ◌<◌, sym, subst}
+use Rattle.std.specs.BTreeMap.{is_at}
+use Rattle.std.specs.List.{AllByRecursion as Each}
+use Rattle.std.specs.Ordering.{nat_cmp}
+use Rattle.aio_sync.proofs.Entries.{ended}
+use Rattle.aio_sync.proofs.Rising.{each_removed}
+use Rattle.aio_sync.proofs.keys.Keys.end.Goals as goal
+
+pub invariant_of-self : goal.invariant_of-self
+invariant_of-self c = (
+  c.remove.ensures.ordered,
+  subst (Each (λ entry. entry.0 < c.self.inside.drawn)) (sym c.remove.ensures.entries)
+      (each_removed c.self.inside.drawn (is_at (nat_cmp c.args.place)) c.self.inside.waiting.entries c.self.invariant.1),
+)
+
+pub returns : goal.returns
+returns c =
+    ended c.args.place c.self.inside.drawn c.self.inside.waiting.entries c.args.self.now c.self.view_is c.remove.new.self.entries c.remove.ensures.entries

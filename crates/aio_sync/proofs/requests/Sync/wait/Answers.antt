@@ -1,0 +1,41 @@
+use Rattle.std.proofs.Common.{◌≡◌, Some, None, length, refl, sym, ap, ◌∙◌, w64}
+use Rattle.std.proofs.lemmas.Int.{to_z-of_z}
+use Rattle.std.proofs.lemmas.Option.{slice_get_read}
+use Rattle.aio_sync.specs.Numbers.{nat_in}
+use Rattle.aio_sync.specs.Seen.{kept_of}
+use Rattle.aio_sync.proofs.Answering.{wait_through, wait_waits}
+use Rattle.aio_sync.proofs.Seeing.{event_free}
+use Rattle.aio_sync.proofs.requests.Sync.wait.Goals as goal
+
+pub see-requires-clause-free : goal.see-requires-clause-free
+see-requires-clause-free c =
+    let a = c.args in
+    let items = a.self.now.events.items in
+    let held = c.in-Some-get_mut.event.now in
+    let read = c.in-Some-get_mut.ensures.item in
+    event_free a.parts.now.futures (kept_of a.self.now) c.requires.free c.in-Some.place held
+    (slice_get_read items (length items) c.in-Some.place held refl read.3.0 read.1)
+
+pub returns-in-None : goal.returns-in-None
+returns-in-None c =
+    let a = c.args in
+    let items = a.self.now.events.items in
+    let place = c.in-Some.place in
+    let is : nat_in a.number ≡ Some place = sym (c.place_in.ensures ∙ ap nat_in (to_z-of_z w64 a.number c.ranges.number)) ∙ c.in-Some.is in
+    let held = c.in-Some-get_mut.event.now in
+    let read = c.in-Some-get_mut.ensures.item in
+    let there = slice_get_read items (length items) place held refl read.3.0 read.1 in
+    wait_through (kept_of a.self.now) a.number place is (kept_of c.answer.new.self) a.parts.now c.see.new.parts held c.see.new.self there
+    c.in_ok-see.field-0 c.in-None.is c.in_ok-see.ensures c.answer.ensures.after c.answer.result c.bool.result c.answer.ensures.answer c.bool.ensures
+
+pub returns-in-Some-2 : goal.returns-in-Some-2
+returns-in-Some-2 c =
+    let a = c.args in
+    let items = a.self.now.events.items in
+    let place = c.in-Some.place in
+    let is : nat_in a.number ≡ Some place = sym (c.place_in.ensures ∙ ap nat_in (to_z-of_z w64 a.number c.ranges.number)) ∙ c.in-Some.is in
+    let held = c.in-Some-get_mut.event.now in
+    let read = c.in-Some-get_mut.ensures.item in
+    let there = slice_get_read items (length items) place held refl read.3.0 read.1 in
+    wait_waits (kept_of a.self.now) a.number place is (kept_of c.wait_on.new.self) a.parts.now c.see.new.parts held c.see.new.self there
+    c.in_ok-see.field-0 c.in-Some-2.on c.in-Some-2.is c.in_ok-see.ensures c.wait_on.result c.wait_on.ensures.answer c.wait_on.ensures.after

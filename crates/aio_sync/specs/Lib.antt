@@ -1,0 +1,10 @@
+pub mod Woken
+pub mod Tried
+pub mod Got
+pub mod Drawn
+pub mod Code
+pub mod Keeps
+pub mod Numbers
+pub mod Wants
+pub mod Seen
+pub mod Added
