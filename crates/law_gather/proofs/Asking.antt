@@ -361,10 +361,10 @@ module _ (running : Option ℕ) (s : State Gathered) (may : MayCall gather_means
       key = λ key e. key_new running s may wait_more (omega arith) key e;
     }
 
-  wait_said : (mode : ℤ) (delay : Option ℤ) (arguments : List Argument) → Each IsArgument arguments
+  wait_said : (mode : Option WaitMode) (delay : Option ℤ) (arguments : List Argument) → Each IsArgument arguments
       → IsSaidAllowed gather_means None (wait mode delay arguments s.loop.parts s.extra) s
   wait_said mode delay [] those = at_once_said (Raises empty_set) (λ t e. tt) tt
-  wait_said mode delay (it ∷ others) those = at (mode_of mode)
+  wait_said mode delay (it ∷ others) those = at mode
     where
       at : (o : Option WaitMode) → IsSaidAllowed gather_means None (elim o [
         | None ↦ at_once (Raises bad_mode) s.extra
@@ -533,20 +533,20 @@ module _ (running : Option ℕ) (s : State Gathered) (may : MayCall gather_means
   wait_there mode delay x made = listed (as_list x) refl
     where
       shaped : (items : List Value) (ids : List ℕ) → Each IsArgument (paired items ids) → (a : Option ℤ) (b : Option (Option ℤ))
-          → IfRequest (both (λ number time. OfWait number time (paired items ids)) a b)
+          → IfRequest (both (λ number time. OfWait (mode_of number) time (paired items ids)) a b)
       shaped items ids is None b = tt
       shaped items ids is (Some number) None = tt
       shaped items ids is (Some number) (Some time) = is
 
       awaited : (items : List Value) → list_all (names_made (next_task s.loop.parts)) items ≡ true → (o : Option (List ℕ))
           → AreThere gather_means running s may o
-          → IfRequest (option_and_then (λ ids. both (λ number time. OfWait number time (paired items ids)) (as_int mode) (as_delay delay)) o)
+          → IfRequest (option_and_then (λ ids. both (λ number time. OfWait (mode_of number) time (paired items ids)) (as_int mode) (as_delay delay)) o)
       awaited items all None there = tt
       awaited items all (Some ids) there = shaped items ids (pairs_there items ids all there) (as_int mode) (as_delay delay)
 
       listed : (o : Option (List Value)) → as_list x ≡ o
           → IfRequest (option_and_then (λ items.
-          option_and_then (λ ids. both (λ number time. OfWait number time (paired items ids)) (as_int mode) (as_delay delay)) (as_all_awaited s items)) o)
+          option_and_then (λ ids. both (λ number time. OfWait (mode_of number) time (paired items ids)) (as_int mode) (as_delay delay)) (as_all_awaited s items)) o)
       listed None e = tt
       listed (Some items) e =
           let all = items_made x items e made in

@@ -9,9 +9,9 @@ use Rattle.model_machine.specs.Extra.{Extra, ExtraCall, ExtraSaid, unknown_code}
 use Rattle.model_loop.specs.Parts.{Parts}
 use Rattle.model_machine.specs.State.{State}
 use Rattle.model_reach.specs.Part.{only_says, passes, place_of, refuses, stays}
-use Rattle.model_gather.specs.Gathered.{Argument, Drawn, Gathered, Gathers, Waits, Shields, WaitsFor, Tells, Rings, as_all_awaited, gather_keeps, gather_part, paired}
+use Rattle.model_gather.specs.Gathered.{Argument, Drawn, Gathered, Gathers, WaitMode, Waits, Shields, WaitsFor, Tells, Rings, as_all_awaited, gather_keeps, gather_part, paired}
 use Rattle.model_gather.specs.Gather.{gather, gather_told}
-use Rattle.model_gather.specs.Wait.{wait, wait_told, wait_rings, wait_woken}
+use Rattle.model_gather.specs.Wait.{mode_of, wait, wait_told, wait_rings, wait_woken}
 use Rattle.model_gather.specs.Shield.{shield, shield_told}
 use Rattle.model_gather.specs.WaitFor.{wait_for, wait_for_rings, wait_for_woken}
 
@@ -34,7 +34,7 @@ wanted_of (negsuc before) = None
 -- a request with its arguments
 pub data Request : Type 0 where
   OfGather : (as_items : Bool) (awaited : List ℕ) → Request
-  OfWait : (mode : ℤ) (delay : Option ℤ) (arguments : List Argument) → Request
+  OfWait : (over : Option WaitMode) (delay : Option ℤ) (arguments : List Argument) → Request
   OfShield : (inner : ℕ) → Request
   OfWaitFor : (on : ℕ) (delay : Option ℤ) → Request
 
@@ -46,7 +46,7 @@ both make _ _ = None
 abbrev pub requested : {S : Type 0} → State S → Wanted → List Value → Option Request
 requested s (Gather as_items) xs = option_map (OfGather as_items) (as_all_awaited s xs)
 requested s Wait (mode ∷ delay ∷ xs ∷ []) =
-    option_and_then (λ items. option_and_then (λ awaited. both (λ number time. OfWait number time (paired items awaited)) (as_int mode) (as_delay delay))
+    option_and_then (λ items. option_and_then (λ awaited. both (λ number time. OfWait (mode_of number) time (paired items awaited)) (as_int mode) (as_delay delay))
     (as_all_awaited s items)) (as_list xs)
 requested s Shield (x ∷ []) = option_map OfShield (as_awaited s x)
 requested s WaitFor (x ∷ delay ∷ []) = both OfWaitFor (as_awaited s x) (as_delay delay)
@@ -57,7 +57,7 @@ requested s WaitFor _ = None
 -- of this task
 abbrev pub serve : Request → (task : ℕ) → Parts → Gathered → ExtraSaid Gathered
 serve (OfGather as_items awaited) task p kept = gather as_items awaited p kept
-serve (OfWait mode delay arguments) task p kept = wait mode delay arguments p kept
+serve (OfWait over delay arguments) task p kept = wait over delay arguments p kept
 serve (OfShield inner) task p kept = shield inner p kept
 serve (OfWaitFor on delay) task p kept = wait_for task on delay p kept
 
