@@ -1,0 +1,12 @@
+mod Same
+mod Growing
+mod CountingOn
+mod Registering
+mod Timers
+mod Seeing
+mod Acted
+mod Lifting
+mod Asked
+mod Ran
+mod Asks
+mod Drawing
