@@ -17,16 +17,16 @@ OPERATORS = {ast.Add: "+", ast.Sub: "-", ast.Mult: "*", ast.FloorDiv: "//", ast.
 COMPARES = {ast.Eq: "==", ast.NotEq: "!=", ast.Lt: "<", ast.LtE: "<=", ast.Gt: ">", ast.GtE: ">="}
 LOCALS = ("127.0.0.1", "localhost")
 ROWS = {
-    "asyncio.gather": "gather",
-    "asyncio.wait": "wait, as_completed",
-    "asyncio.as_completed": "wait, as_completed",
+    "asyncio.gather": "gather(a, b), with return_exceptions=True",
+    "asyncio.wait": "wait(xs, timeout=0.05, return_when=..)",
+    "asyncio.as_completed": "as_completed(xs)",
     "asyncio.wait_for": "wait_for(x, 0.05)",
     "asyncio.shield": "shield(x)",
     "asyncio.Queue": "Queue",
     "asyncio.Event": "Event",
     "asyncio.Lock": "Lock",
-    "asyncio.Semaphore": "Semaphore, Condition, Barrier, PriorityQueue",
-    "asyncio.Condition": "Semaphore, Condition, Barrier, PriorityQueue",
+    "asyncio.Semaphore": "Semaphore, Condition",
+    "asyncio.Condition": "Semaphore, Condition",
     "asyncio.to_thread": "to_thread, run_in_executor, call_soon_threadsafe",
 }
 
