@@ -1,9 +1,9 @@
 """The shapes of programs that bench/replay measures: a script for each, in three sizes, and the journal that it asks for.
 
-A script is `scripts/NAME.aio` with a main that gives its `bench` the size, and `asyncio/NAME.py` is the same program for
-CPython. The journal of tasks alone is a list of times, as long as the run asks. A task's sleep takes two turns, the one in
-which its timer falls due and the one in which the task goes on; a `yield`, a task's first step and a wakeup take one, and
-main's end one. Journals of connections and children are told in journals.py, and what a number makes in made.py.
+A script is `scripts/NAME.aio` with a main that gives its `bench`, or another coroutine, the size, and `asyncio/NAME.py` is the
+same program for CPython. The journal of tasks alone is a list of times, as long as the run asks. A task's sleep takes two turns,
+the one in which its timer falls due and the one in which the task goes on; a `yield`, a task's first step and a wakeup take one,
+and main's end one. Journals of connections and children are told in journals.py, and what a number makes in made.py.
 """
 
 import os
@@ -31,11 +31,13 @@ class Shape(NamedTuple):
     status: int = 0
     # the name of the script and of the program for CPython, where it isn't the shape's own
     program: Optional[str] = None
+    # the coroutine of the script that takes the size
+    bench: str = "bench"
 
     def script(self, n):
         if self.name == "work":
             return made.script(n)
-        main = f"\ndef main()\n  yield from bench({n})\nend\n"
+        main = f"\ndef main()\n  yield from {self.bench}({n})\nend\n"
         path = os.path.join(HERE, "scripts", f"{self.program or self.name}.aio")
         if not os.path.exists(path):
             return variables(n) + main
@@ -203,6 +205,53 @@ SHAPES = [
         "programs",
         (20, 60, 200),
         journals.programs,
+    ),
+    # Members end in the turn of their second step; then they are counted, and then main goes on.
+    Shape("gather_members", "a gather of tasks", "tasks", (100, 1_000, 10_000), lambda n: still(6)),
+    # The tasks' turn, the one in which they are counted, and the one in which main goes on.
+    Shape("gather_pairs", "gathers of two tasks, one by one", "gathers", (100, 1_000, 10_000), lambda n: still(3 * n + 2)),
+    Shape("gathers_nested", "gathers in gathers, each of one task", "gathers", (100, 300, 1_000), lambda n: still(3 * n + 2)),
+    Shape("locks", "a lock acquired and released", "times", THOUSANDS, lambda n: still(n // 1_000 + 2)),
+    Shape(
+        "lock_passes",
+        "tasks that wait for a lock, which goes through them",
+        "tasks",
+        THOUSANDS,
+        lambda n: still(n + n // 1_000 + 3),
+    ),
+    Shape(
+        "lock_cancels",
+        "tasks that wait for a lock, cancelled in order",
+        "tasks",
+        THOUSANDS,
+        lambda n: still(n // 500 + 2),
+        bench="in_order",
+    ),
+    Shape(
+        "lock_cancels_reversed",
+        "tasks that wait for a lock, cancelled in reverse",
+        "tasks",
+        THOUSANDS,
+        lambda n: still(n // 500 + 2),
+        program="lock_cancels",
+        bench="in_reverse",
+    ),
+    Shape(
+        "lock_cancels_mixed",
+        "tasks that wait for a lock, cancelled in another order",
+        "tasks",
+        THOUSANDS,
+        lambda n: still(n // 500 + 2),
+        program="lock_cancels",
+        bench="in_mixed_order",
+    ),
+    # Each puts ten and waits, and then the other gets them and waits.
+    Shape(
+        "queue_values",
+        "values that go through a queue of 10",
+        "values",
+        (10_000, 100_000, 1_000_000),
+        lambda n: still(n // 5 + 2),
     ),
     Shape("work", "the work that a number from 0 to 9 makes", "tasks", tuple(range(10)), made.journal, made.group_size),
 ]
