@@ -8,6 +8,7 @@ was told so far stands, and nothing is told of what follows. docs/MACHINE.md has
 import sys
 
 from . import values as V
+from .extras import Extras
 from .loop import Loop, exception, input_of
 from .requests import Waits, request
 from .streams import MOST_ACCEPTS, Connection
@@ -43,6 +44,7 @@ class Run:
         self.coroutines = script.coroutines(V)
         self.lines, self.task, self.statements, self.main_done = [], None, 0, False
         self.servers, self.connections, self.children, self.opened, self.futures = [], [], [], [], []
+        self.extras = Extras(self)
         notes.run = self
         sys.setrecursionlimit(20000)
 
@@ -191,6 +193,9 @@ class Run:
 
     def do_sleepdone(self, task, future):
         self.loop.settle(future, "value", None)
+
+    def do_extra(self, key):
+        self.extras.act(key)
 
     def do_groupdone(self, group, task):
         self.loop.child_done(group, task)

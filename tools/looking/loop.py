@@ -18,10 +18,19 @@ def exception(kind, text=""):
 
 
 class Future:
-    """`kind` is plain or task; `outcome` is None while it is pending, else ("value", v), ("failed", e) or ("cancelled",)."""
+    """Plain, a task's, or one that stands for several, its `members`; `outcome` is None while it is pending, else ("value", v),
+    ("failed", e) or ("cancelled",). `asked`: a cancel came to it, and to one of its members."""
 
-    def __init__(self, task=None):
-        self.task, self.outcome, self.callbacks = task, None, []
+    def __init__(self, task=None, members=None):
+        self.task, self.members, self.outcome, self.callbacks, self.asked = task, members, None, [], False
+
+    def passes(self):
+        """What it waits for while it is pending."""
+        if self.outcome is not None:
+            return []
+        if self.members is not None:
+            return self.members
+        return [self.task.waiter] if self.task and self.task.waiter else []
 
 
 class Task:
@@ -129,11 +138,16 @@ class Loop:
 
     def cycle(self, task, future):
         """Whether an await leads back to the task."""
-        first = future
-        while future is not None and future.task is not None:
-            if future.task is task:
-                return "itself" if future is first else "a task that waits for it"
-            future = future.task.waiter
+        if future is task.future:
+            return "itself"
+        seen, ways = set(), [future]
+        while ways:
+            one = ways.pop()
+            if id(one) not in seen:
+                seen.add(id(one))
+                ways += one.passes()
+            if one is task.future:
+                return "a task that waits for it"
         return None
 
     def suspend(self, task, future):
@@ -157,6 +171,10 @@ class Loop:
         if future.outcome is not None:
             return False
         task = future.task
+        if future.members is not None:
+            answers = [self.cancels(member, seen, reached) for member in future.members]
+            future.asked = future.asked or any(answers)
+            return any(answers)
         if task is None:
             self.settle(future, *CANCELLED)
             return True
@@ -287,3 +305,17 @@ def input_of(outcome):
     if outcome[0] == "value":
         return outcome[1]
     raise Raised(outcome[1] if outcome[0] == "failed" else exception("CancelledError"))
+
+
+def passed(value, thrown):
+    if thrown is not None:
+        raise Raised(thrown)
+    return value
+
+
+class Waits(Exception):
+    """The request ends the step: on a future, or None for the next step. `standing` makes of what comes what the request gives."""
+
+    def __init__(self, future, why, standing=None):
+        super().__init__(why)
+        self.future, self.why, self.standing = future, why, standing

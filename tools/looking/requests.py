@@ -1,16 +1,8 @@
 """The requests of a script, as a run that is followed answers them. docs/LANGUAGE.md, "Requests", has the table."""
 
-from .loop import CANCELLED, Future, input_of
+from .loop import CANCELLED, Future, Waits, input_of, passed
 from .streams import Child, Connection, Server, failure
 from .values import Exc, Id, Raised, shown
-
-
-class Waits(Exception):
-    """The request ends the step: on a future, or None for the next step. `standing` makes of what comes what the request gives."""
-
-    def __init__(self, future, why, standing=None):
-        super().__init__(why)
-        self.future, self.why, self.standing = future, why, standing
 
 
 class Unknown(Exception):
@@ -157,12 +149,6 @@ def ask_sleep(run, task, delay):
     raise Waits(future, f"sleeps until {when} ms", woken)
 
 
-def passed(value, thrown):
-    if thrown is not None:
-        raise Raised(thrown)
-    return value
-
-
 # ---- timeouts and groups
 def ask_enter_timeout(run, task, delay):
     timeout = run.loop.enter_timeout(task, maybe_number(delay))
@@ -224,6 +210,8 @@ def ask_create(run, task, g, coroutine, *arguments):
 def ask_extra(run, task, code, arguments):
     if type(code) is not int or type(arguments) is not tuple:
         raise bad_argument()
+    if run.extras.serves(code):
+        return run.extras.ask(task, code, arguments)
     run.notes.guessed(f"extra {code}")
     raise failure("NameError", f"extra {code}")
 

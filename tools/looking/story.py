@@ -169,9 +169,10 @@ class Notes:
     def cancelled(self, by, future, reached, answer):
         if by[0] == "end" and not reached:
             return
-        who = name_of(by[1]) if len(by) > 1 else ""
+        who = name_of(by[1]) if len(by) > 1 and by[0] != "extra" else ""
         asks = {"task": f"{who} cancels", "timeout": f"{who} is over and cancels", "group": f"{who} cancels",
-                "wait": f"{who} must cancel, and so cancels what it waits for", "end": "main is over: the run cancels"}[by[0]]
+                "wait": f"{who} must cancel, and so cancels what it waits for", "extra": "a time is over, which cancels",
+                "end": "main is over: the run cancels"}[by[0]]
         at = who
         for task in reached:
             name = f"T{task.number}"
