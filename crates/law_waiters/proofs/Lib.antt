@@ -1,0 +1,8 @@
+mod Shapes
+mod Fitting
+mod Going
+mod Reaching
+mod Running
+mod Fewer
+mod Timers
+mod Books
