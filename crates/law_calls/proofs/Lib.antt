@@ -2,4 +2,4 @@ mod Events
 mod Rows
 pub mod Serving
 pub mod Turning
-mod History
+pub mod History

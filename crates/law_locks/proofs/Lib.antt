@@ -1,0 +1,13 @@
+mod Served
+mod Named
+mod Values
+mod Sizes
+mod Refusing
+mod Runs
+mod Lines
+mod Who
+mod Held
+mod Steps
+mod Chains
+mod Heeded
+mod Numbers
