@@ -1,2 +1,4 @@
 mod Lifting
+mod Routing
 mod Parts
+mod Beginning

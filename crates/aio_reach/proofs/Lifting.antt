@@ -1,22 +1,17 @@
 -- What a call of one part comes to is what the router's does.
-use Rattle.std.proofs.Common.{◌≡◌, ℕ, ℤ, ◌<◌, ◌≤◌, ◌⊎◌, inl, inr, true, false, Bool, List, [], ◌∷◌, ◌++◌, Option, Some, None, slice_get, refl, sym, ap, subst, ◌∙◌}
+use Rattle.std.proofs.Common.{◌≡◌, ℕ, ℤ, inl, inr, List, Option, Some, None, refl, ap, arith}
 use Rattle.std.proofs.Math.Logic.{∥∥₁_map}
-use Rattle.std.specs.Prelude.{if◌then◌else◌, is_some}
-use Rattle.std.specs.List.{list_all}
-use Rattle.model_value.specs.Input.{Input}
 use Rattle.model_value.specs.Value.{Value}
-use Rattle.model_loop.specs.Futures.{next_future}
 use Rattle.model_loop.specs.Loop.{Loop}
-use Rattle.model_loop.specs.Owning.{is_plain, owner_of}
 use Rattle.model_loop.specs.Parts.{Parts}
 use Rattle.model_loop.specs.Tasks.{next_task}
 use Rattle.model_machine.specs.Extra as extra
-use Rattle.model_machine.specs.Extra.{Extra, ExtraAnswer, ExtraCall, ExtraSaid, ExtraStep, called, made_by_all, unknown_code}
-use Rattle.model_machine.specs.Sound.{AreKept, sends_made}
+use Rattle.model_machine.specs.Extra.{ExtraAnswer, ExtraCall, ExtraSaid, ExtraStep, called, made_by_all, unknown_code}
+use Rattle.model_machine.specs.Sound.{AreKept}
 use Rattle.model_machine.specs.State.{State}
 use Rattle.model_reach.specs.Part.{refuses, stays}
-use Rattle.model_reach.specs.Reach.{Part, called_by, part_as, part_of_code, part_of_key, Parted, said_by, seen_by}
-use Rattle.law_runs.specs.Allowed.{AreAllowed, IsAmong, MayCall, Owns, owns_at}
+use Rattle.model_reach.specs.Reach.{called_by, said_by, seen_by}
+use Rattle.law_runs.specs.Allowed.{AreAllowed, IsAmong, Owns}
 use Rattle.law_runs.proofs.Steps.{all_after}
 use Rattle.aio_task.specs.Keeps.{Extends, NameMap}
 use Rattle.aio_task.specs.View.{View}
@@ -24,8 +19,6 @@ use Rattle.aio_extra.specs.Added.{Added, GoesBeside, IsNamed}
 use Rattle.aio_extra.specs.Called.{AnswersAs, CallsAs, IsAskedOf, IsServed, MayAsk, MayServe, SaysAs}
 use Rattle.aio_extra.specs.declared.asked.Asked.{Asked}
 use Rattle.aio_extra.specs.declared.asked.Asked.TheVariants.{Answer, Raise, Wait, Outside}
-use Rattle.aio_reach.specs.declared.reach.Four.{Four}
-use Rattle.aio_reach.specs.Fours.{AreKeyed, four_added}
 
 -- ---- what steps leave to the others
 beside : (owned : ℕ → Type 0) (own : Owns) (t : NameMap) (steps : List ExtraStep) (l : Loop) → AreAllowed own steps l → (u : NameMap)
@@ -55,7 +48,7 @@ pub record Holds {R X : Type 0} (whole : Added R) (a : Added X) : Type 0 where
   pub own_put : (it : a.Kept) (kept : whole.Kept) (id : ℕ) → IsAmong (a.meaning.keeps it).own id
       → IsAmong (whole.meaning.keeps (back it kept)).own id
 
-module _ {R X : Type 0} (whole : Added R) (a : Added X) (holds : Holds whole a) where
+module _ {R X : Type 0} {whole : Added R} {a : Added X} (holds : Holds whole a) where
   module _ (running : Option ℕ) (t : NameMap) (s : State whole.Kept) (x : R) (v : View) (h : IsServed whole running t s x v) where
     pub served : IsServed a running t (seen_by (holds.part s.extra) s) (holds.get x) v
     served = record {
@@ -166,108 +159,3 @@ nobody_calls whole running t s x v h = record {
   called = refl;
   running = refl;
 }
-
--- ---- a part of four
-module _ {X Y Z W : Type 0} (a : Added X) (b : Added Y) (c : Added Z) (d : Added W) (keyed : AreKeyed a b c d) where
-  abbrev four : Added (Four X Y Z W)
-  four = four_added a b c d keyed
-
-  abbrev in_part : Part → Extra (Parted a.Kept b.Kept c.Kept d.Kept)
-  in_part = part_as a.meaning b.meaning c.meaning d.meaning
-
-  module _ {V : Type 0} (e : Added V) (this : Part) (holds : Holds (four_added a b c d keyed) e) where
-    -- it means what the whole does in its place
-    pub record IsPart : Type 0 where
-      pub ask : (task : ℕ) (code : ℤ) (items : List Value) (s : State (Parted a.Kept b.Kept c.Kept d.Kept))
-          → said_by (λ it. holds.back it s.extra) (e.meaning.ask task code items (seen_by (holds.part s.extra) s)) ≡ (in_part this).ask task code items s
-      pub wake : (key : ℕ) (input : Input) (s : State (Parted a.Kept b.Kept c.Kept d.Kept))
-          → said_by (λ it. holds.back it s.extra) (e.meaning.wake key input (seen_by (holds.part s.extra) s)) ≡ (in_part this).wake key input s
-      pub act : (key : ℕ) (s : State (Parted a.Kept b.Kept c.Kept d.Kept))
-          → called_by (λ it. holds.back it s.extra) (e.meaning.act key (seen_by (holds.part s.extra) s)) ≡ (in_part this).act key s
-      pub item : (code : ℤ) (bytes : List ℕ) (s : State (Parted a.Kept b.Kept c.Kept d.Kept))
-          → called_by (λ it. holds.back it s.extra) (e.meaning.item code bytes (seen_by (holds.part s.extra) s)) ≡ (in_part this).item code bytes s
-      pub keys : (kept : Parted a.Kept b.Kept c.Kept d.Kept) (key : ℕ)
-          → ((in_part this).keeps kept).has_key key ≡ (e.meaning.keeps (holds.part kept)).has_key key
-
-    module _ (is : IsPart) where
-      pub acts : (t : NameMap) (s : State (Parted a.Kept b.Kept c.Kept d.Kept)) (x : Four X Y Z W) (v : View) → IsServed four None t s x v
-          → (key : ℕ) → part_of_key key ≡ this → (y : V) (w : View)
-          → CallsAs e t (seen_by (holds.part s.extra) s) v w y (e.meaning.act key (seen_by (holds.part s.extra) s))
-          → CallsAs four t s v w (holds.put y x) (four.meaning.act key s)
-      acts t s x v h key mine y w c =
-          subst (λ part. CallsAs four t s v w (holds.put y x) ((in_part part).act key s)) (sym mine)
-          (subst (CallsAs four t s v w (holds.put y x)) (is.act key s)
-          (calls four e holds None t s x v h (owns_at (e.meaning.keeps (holds.part s.extra)) s.loop.parts) y w
-          (e.meaning.act key (seen_by (holds.part s.extra) s))
-          (e.allowed.act key (seen_by (holds.part s.extra) s) (served four e holds None t s x v h).may).steps c))
-
-      pub knows : (s : State (Parted a.Kept b.Kept c.Kept d.Kept)) (key : ℕ) → part_of_key key ≡ this
-          → (four.meaning.keeps s.extra).has_key key ≡ true → (e.meaning.keeps (holds.part s.extra)).has_key key ≡ true
-      knows s key mine known = sym (is.keys s.extra key) ∙ sym (ap (λ part. ((in_part part).keeps s.extra).has_key key) mine) ∙ known
-
-      wake_allowed : (running : Option ℕ) → is_some running ≡ true → (key : ℕ) (input : Input) (s : State e.Kept)
-          → MayCall e.meaning running s → (e.meaning.keeps s.extra).has_key key ≡ true → sends_made (next_task s.loop.parts) input ≡ true
-          → AreAllowed (owns_at (e.meaning.keeps s.extra) s.loop.parts) (e.meaning.wake key input s).call.steps s.loop
-      wake_allowed None runs key input s may known made = absurd (cc)
-      wake_allowed (Some task) runs key input s may known made = (e.allowed.wake task key input s may known made).call.steps
-
-      pub wakes : (running : Option ℕ) → is_some running ≡ true → (t : NameMap) (s : State (Parted a.Kept b.Kept c.Kept d.Kept)) (x : Four X Y Z W)
-          (v : View) → IsServed four running t s x v → (key : ℕ) → part_of_key key ≡ this → (four.meaning.keeps s.extra).has_key key ≡ true
-          → (input : Input) → sends_made (next_task s.loop.parts) input ≡ true → (y : V) (w : View) (asked : Asked)
-          → SaysAs e t (seen_by (holds.part s.extra) s) v w y asked (e.meaning.wake key input (seen_by (holds.part s.extra) s))
-          → SaysAs four t s v w (holds.put y x) asked (four.meaning.wake key input s)
-      wakes running runs t s x v h key mine known input made y w asked c =
-          subst (λ part. SaysAs four t s v w (holds.put y x) asked ((in_part part).wake key input s)) (sym mine)
-          (subst (SaysAs four t s v w (holds.put y x) asked) (is.wake key input s)
-          (says four e holds running t s x v h (owns_at (e.meaning.keeps (holds.part s.extra)) s.loop.parts) y w asked
-          (e.meaning.wake key input (seen_by (holds.part s.extra) s))
-          (wake_allowed running runs key input (seen_by (holds.part s.extra) s) (served four e holds running t s x v h).may (knows s key mine known) made) c))
-
-      abbrev asked_at : (task : ℕ) (code : ℤ) (items : List Value) (s : State (Parted a.Kept b.Kept c.Kept d.Kept)) → Option Part
-          → ExtraSaid (Parted a.Kept b.Kept c.Kept d.Kept)
-      asked_at task code items s o = elim o [ None ↦ refuses (unknown_code code) s.extra | Some part ↦ (in_part part).ask task code items s ]
-
-      pub asks : (task : ℕ) (t : NameMap) (s : State (Parted a.Kept b.Kept c.Kept d.Kept)) (futures : List ℕ) (arguments : Value) (items : List Value)
-          (x : Four X Y Z W) (v : View) → IsAskedOf four task t s futures arguments items x v → (code : ℤ) → part_of_code code ≡ Some this
-          → (y : V) (w : View) (asked : Asked) (heard : ℤ) → heard ≡ code
-          → SaysAs e t (seen_by (holds.part s.extra) s) v w y asked (e.meaning.ask task heard items (seen_by (holds.part s.extra) s))
-          → SaysAs four t s v w (holds.put y x) asked (four.meaning.ask task code items s)
-      asks task t s futures arguments items x v h code mine y w asked heard same c =
-          subst (λ o. SaysAs four t s v w (holds.put y x) asked (asked_at task code items s o)) (sym mine)
-          (subst (SaysAs four t s v w (holds.put y x) asked) (is.ask task code items s)
-          (says four e holds (Some task) t s x v h.served (owns_at (e.meaning.keeps (holds.part s.extra)) s.loop.parts) y w asked
-          (e.meaning.ask task code items (seen_by (holds.part s.extra) s))
-          (e.allowed.ask task code items (seen_by (holds.part s.extra) s) (served four e holds (Some task) t s x v h.served).may h.made).call.steps
-          (subst (λ n. SaysAs e t (seen_by (holds.part s.extra) s) v w y asked (e.meaning.ask task n items (seen_by (holds.part s.extra) s))) same c)))
-
-      abbrev told_at : (code : ℤ) (bytes : List ℕ) (s : State (Parted a.Kept b.Kept c.Kept d.Kept)) → Option Part
-          → ExtraCall (Parted a.Kept b.Kept c.Kept d.Kept)
-      told_at code bytes s o = elim o [ None ↦ stays s.extra | Some part ↦ (in_part part).item code bytes s ]
-
-      pub tells : (t : NameMap) (s : State (Parted a.Kept b.Kept c.Kept d.Kept)) (x : Four X Y Z W) (v : View) → IsServed four None t s x v
-          → (code : ℤ) (bytes : List ℕ) → part_of_code code ≡ Some this → (y : V) (w : View) (heard : ℤ) → heard ≡ code
-          → CallsAs e t (seen_by (holds.part s.extra) s) v w y (e.meaning.item heard bytes (seen_by (holds.part s.extra) s))
-          → CallsAs four t s v w (holds.put y x) (four.meaning.item code bytes s)
-      tells t s x v h code bytes mine y w heard same c =
-          subst (λ o. CallsAs four t s v w (holds.put y x) (told_at code bytes s o)) (sym mine)
-          (subst (CallsAs four t s v w (holds.put y x)) (is.item code bytes s)
-          (calls four e holds None t s x v h (owns_at (e.meaning.keeps (holds.part s.extra)) s.loop.parts) y w
-          (e.meaning.item code bytes (seen_by (holds.part s.extra) s))
-          (e.allowed.item code bytes (seen_by (holds.part s.extra) s) (served four e holds None t s x v h).may).steps
-          (subst (λ n. CallsAs e t (seen_by (holds.part s.extra) s) v w y (e.meaning.item n bytes (seen_by (holds.part s.extra) s))) same c)))
-
-  -- ---- nobody's code
-  pub nobody_asks : (task : ℕ) (t : NameMap) (s : State (Parted a.Kept b.Kept c.Kept d.Kept)) (futures : List ℕ) (arguments : Value)
-      (items : List Value) (x : Four X Y Z W) (v : View) → IsAskedOf four task t s futures arguments items x v → (code : ℤ) → part_of_code code ≡ None
-      → (asked : Asked) → asked ≡ Raise (unknown_code code) → SaysAs four t s v v x asked (four.meaning.ask task code items s)
-  nobody_asks task t s futures arguments items x v h code none asked is =
-      subst (λ it. SaysAs four t s v v x it (four.meaning.ask task code items s)) (sym is)
-      (subst (λ o. SaysAs four t s v v x (Raise (unknown_code code))
-      (elim o [ None ↦ refuses (unknown_code code) s.extra | Some part ↦ (in_part part).ask task code items s ])) (sym none)
-      (nobody_says four (Some task) t s x v h.served code))
-
-  pub nobody_tells : (t : NameMap) (s : State (Parted a.Kept b.Kept c.Kept d.Kept)) (x : Four X Y Z W) (v : View) → IsServed four None t s x v
-      → (code : ℤ) (bytes : List ℕ) → part_of_code code ≡ None → CallsAs four t s v v x (four.meaning.item code bytes s)
-  nobody_tells t s x v h code bytes none =
-      subst (λ o. CallsAs four t s v v x (elim o [ None ↦ stays s.extra | Some part ↦ (in_part part).item code bytes s ])) (sym none)
-      (nobody_calls four None t s x v h)

@@ -1,31 +1,30 @@
--- Each of the four parts in the whole.
-use Rattle.std.proofs.Common.{◌≡◌, ℕ, ℤ, ◌⊎◌, inl, inr, true, false, List, [], ◌∷◌, ◌++◌, Option, Some, None, refl, sym, ap, subst, ◌∙◌}
-use Rattle.std.specs.Prelude.{◌%◌, ◌==◌, Bool, if◌then◌else◌}
-use Rattle.std.proofs.lemmas.Bool.{eq-eqb, ne_eqb}
+-- Each of the four parts in the whole, and which of them it is.
+use Rattle.std.proofs.Common.{◌≡◌, ℕ, List, Some, None, refl, ap, ◌∙◌}
+use Rattle.std.specs.Prelude.{◌%◌, ◌==◌, if◌then◌else◌}
+use Rattle.std.proofs.lemmas.Bool.{ne_eqb}
 use Rattle.model_loop.specs.Parts.{Parts}
 use Rattle.model_machine.specs.Sound.{AreKept}
-use Rattle.model_reach.specs.Reach.{Part, OfGather, OfSync, OfExec, OfDgram, Parted, part_of_hundred, part_of_key}
-use Rattle.law_runs.specs.Allowed.{IsAmong}
+use Rattle.model_reach.specs.Reach.{Part, OfGather, OfSync, OfExec, OfDgram, part_of_hundred, part_of_key}
 use Rattle.law_parted.proofs.Lists.{in_first, in_fourth, in_second, in_third}
 use Rattle.law_parted.proofs.Together.{AllKept, apart}
-use Rattle.aio_task.specs.Keeps.{NameMap}
-use Rattle.aio_extra.specs.Added.{Added, GoesBeside}
-use Rattle.aio_reach.specs.declared.reach.Four.{Four}
-use Rattle.aio_reach.specs.Fours.{AreKeyed, four_added, go_on}
-use Rattle.aio_reach.proofs.Lifting.{Holds, IsPart}
+use Rattle.aio_extra.specs.Added.{Added}
+use Rattle.aio_reach.specs.declared.four.Four.{Four}
+use Rattle.aio_reach.specs.Fours.{AreKeyed, FourKept, four_added, go_on}
+use Rattle.aio_reach.proofs.Lifting.{Holds}
+use Rattle.aio_reach.proofs.Routing.{IsPart}
 
 module _ {X Y Z W : Type 0} (a : Added X) (b : Added Y) (c : Added Z) (d : Added W) (keyed : AreKeyed a b c d) where
   abbrev four : Added (Four X Y Z W)
   four = four_added a b c d keyed
 
-  all_of : (kept : Parted a.Kept b.Kept c.Kept d.Kept) (futures : List ℕ) (p : Parts) → AreKept (four.meaning.keeps kept) futures p
+  pub all_of : (kept : FourKept a b c d) (futures : List ℕ) (p : Parts) → AreKept (four.meaning.keeps kept) futures p
       → AllKept (a.meaning.keeps kept.gather) (b.meaning.keeps kept.sync) (c.meaning.keeps kept.exec) (d.meaning.keeps kept.dgram)
       (four.meaning.keeps kept).has_key futures p
   all_of kept futures p is =
       apart (a.meaning.keeps kept.gather) (b.meaning.keeps kept.sync) (c.meaning.keeps kept.exec) (d.meaning.keeps kept.dgram)
       (four.meaning.keeps kept).has_key futures p is
 
-  pub gather_holds : Holds (four_added a b c d keyed) a
+  abbrev pub gather_holds : Holds (four_added a b c d keyed) a
   gather_holds = record {
     get = λ x. x.gather;
     put = λ y x. record x { gather = y };
@@ -33,7 +32,8 @@ module _ {X Y Z W : Type 0} (a : Added X) (b : Added Y) (c : Added Z) (d : Added
     back = λ it kept. record kept { gather = it };
     stands = λ t p x kept h. h.gather;
     kept = λ kept futures p is. (all_of kept futures p is).first;
-    stands_put = λ t u p q x kept y it h beside now. record (go_on a b c d t u p q x kept h beside) { gather = now };
+    stands_put = λ t u p q x kept y it h beside now.
+        let on = go_on a b c d t u p q x kept h beside in record { gather = now; sync = on.sync; exec = on.exec; dgram = on.dgram };
     own_put = λ it kept id own.
         in_first (a.meaning.keeps it).own (b.meaning.keeps kept.sync).own (c.meaning.keeps kept.exec).own (d.meaning.keeps kept.dgram).own id own;
   }
@@ -47,7 +47,7 @@ module _ {X Y Z W : Type 0} (a : Added X) (b : Added Y) (c : Added Z) (d : Added
     keys = λ kept key. refl;
   }
 
-  pub sync_holds : Holds (four_added a b c d keyed) b
+  abbrev pub sync_holds : Holds (four_added a b c d keyed) b
   sync_holds = record {
     get = λ x. x.sync;
     put = λ y x. record x { sync = y };
@@ -55,7 +55,8 @@ module _ {X Y Z W : Type 0} (a : Added X) (b : Added Y) (c : Added Z) (d : Added
     back = λ it kept. record kept { sync = it };
     stands = λ t p x kept h. h.sync;
     kept = λ kept futures p is. (all_of kept futures p is).second;
-    stands_put = λ t u p q x kept y it h beside now. record (go_on a b c d t u p q x kept h beside) { sync = now };
+    stands_put = λ t u p q x kept y it h beside now.
+        let on = go_on a b c d t u p q x kept h beside in record { gather = on.gather; sync = now; exec = on.exec; dgram = on.dgram };
     own_put = λ it kept id own.
         in_second (a.meaning.keeps kept.gather).own (b.meaning.keeps it).own (c.meaning.keeps kept.exec).own (d.meaning.keeps kept.dgram).own id own;
   }
@@ -69,7 +70,7 @@ module _ {X Y Z W : Type 0} (a : Added X) (b : Added Y) (c : Added Z) (d : Added
     keys = λ kept key. refl;
   }
 
-  pub exec_holds : Holds (four_added a b c d keyed) c
+  abbrev pub exec_holds : Holds (four_added a b c d keyed) c
   exec_holds = record {
     get = λ x. x.exec;
     put = λ y x. record x { exec = y };
@@ -77,7 +78,8 @@ module _ {X Y Z W : Type 0} (a : Added X) (b : Added Y) (c : Added Z) (d : Added
     back = λ it kept. record kept { exec = it };
     stands = λ t p x kept h. h.exec;
     kept = λ kept futures p is. (all_of kept futures p is).third;
-    stands_put = λ t u p q x kept y it h beside now. record (go_on a b c d t u p q x kept h beside) { exec = now };
+    stands_put = λ t u p q x kept y it h beside now.
+        let on = go_on a b c d t u p q x kept h beside in record { gather = on.gather; sync = on.sync; exec = now; dgram = on.dgram };
     own_put = λ it kept id own.
         in_third (a.meaning.keeps kept.gather).own (b.meaning.keeps kept.sync).own (c.meaning.keeps it).own (d.meaning.keeps kept.dgram).own id own;
   }
@@ -91,7 +93,7 @@ module _ {X Y Z W : Type 0} (a : Added X) (b : Added Y) (c : Added Z) (d : Added
     keys = λ kept key. refl;
   }
 
-  pub dgram_holds : Holds (four_added a b c d keyed) d
+  abbrev pub dgram_holds : Holds (four_added a b c d keyed) d
   dgram_holds = record {
     get = λ x. x.dgram;
     put = λ y x. record x { dgram = y };
@@ -99,7 +101,8 @@ module _ {X Y Z W : Type 0} (a : Added X) (b : Added Y) (c : Added Z) (d : Added
     back = λ it kept. record kept { dgram = it };
     stands = λ t p x kept h. h.dgram;
     kept = λ kept futures p is. (all_of kept futures p is).fourth;
-    stands_put = λ t u p q x kept y it h beside now. record (go_on a b c d t u p q x kept h beside) { dgram = now };
+    stands_put = λ t u p q x kept y it h beside now.
+        let on = go_on a b c d t u p q x kept h beside in record { gather = on.gather; sync = on.sync; exec = on.exec; dgram = now };
     own_put = λ it kept id own.
         in_fourth (a.meaning.keeps kept.gather).own (b.meaning.keeps kept.sync).own (c.meaning.keeps kept.exec).own (d.meaning.keeps it).own id own;
   }

@@ -9,7 +9,7 @@ use Rattle.law_parted.proofs.Lists.{in_first, in_fourth, in_second, in_third}
 use Rattle.law_parted.proofs.Reaching.{reach_allowed, reach_falls}
 use Rattle.aio_task.specs.Keeps.{NameMap}
 use Rattle.aio_extra.specs.Added.{Added, GoesBeside}
-use Rattle.aio_reach.specs.declared.reach.Four.{Four}
+use Rattle.aio_reach.specs.declared.four.Four.{Four}
 
 -- of fewer futures
 pub less : (t u : NameMap) (p q : Parts) (owned fewer : ℕ → Type 0) → ((id : ℕ) → fewer id → owned id) → GoesBeside owned t p u q → GoesBeside fewer t p u q

@@ -2,6 +2,8 @@
 //! drew.
 #![tactic(auto)]
 
+mod four;
 mod reach;
 
-pub use reach::{Four, Reach};
+pub use four::Four;
+pub use reach::Reach;
