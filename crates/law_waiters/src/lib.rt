@@ -3,3 +3,4 @@
 #![tactic(auto)]
 
 pub mod cancels;
+pub mod timed;
