@@ -1,42 +1,24 @@
 -- What is so of all wait_fors stays so, whatever is called.
-use Rattle.std.proofs.Common.{◌≡◌, ◌<◌, ◌≤◌, ◌+◌, ◌-◌, ◌==◌, ◌&&◌, ◌⊎◌, inl, inr, ℕ, ℤ, zero, suc, Bool, true, false, List, [], ◌∷◌, ◌++◌, Option, Some, None, Ok, Err}
-use Rattle.std.proofs.Common.{if◌then◌else◌, length, length-append, map, filter, not, slice_get, slice_set, refl, sym, ap, subst, ◌∙◌, arith}
-use Rattle.std.proofs.Math.ListN.{length-set}
+use Rattle.std.proofs.Common.{◌≡◌, ◌<◌, ◌≤◌, ◌+◌, ◌-◌, ◌==◌, ◌⊎◌, inl, inr, ℕ, ℤ, zero, suc, true, false, List, [], ◌∷◌, ◌++◌, Option, Some, None}
+use Rattle.std.proofs.Common.{length, length-append, map, slice_get, refl, sym, ap, subst, ◌∙◌, arith}
 use Rattle.std.specs.List.{AllByRecursion as Each}
-use Rattle.std.proofs.lemmas.Bool.{cases_lt, false≢true, ne_eqb}
+use Rattle.std.proofs.lemmas.Bool.{cases_lt, ne_eqb}
 use Rattle.std.proofs.lemmas.Option.{none-some, same_Some, slice_get_past}
-use Rattle.model_value.specs.declared.action.Action.TheVariants as action
-use Rattle.model_value.specs.Input.{Input}
-use Rattle.model_value.specs.declared.input.Input.TheVariants.{Send, Throw}
-use Rattle.model_value.specs.Value.{Items, Outcome, Value, no_values}
-use Rattle.model_says.specs.Operations.{out_of_range}
-use Rattle.model_loop.specs.Futures.{future_outcome, is_pending, next_future}
+use Rattle.model_value.specs.Value.{Outcome}
 use Rattle.model_loop.specs.Loop.{Loop}
-use Rattle.model_loop.specs.Parts.{Handle, Parts}
-use Rattle.model_loop.specs.Tasks.{cancelling, future_of}
+use Rattle.model_loop.specs.Parts.{Parts}
 use Rattle.model_machine.specs.Extra as extra
 use Rattle.model_machine.specs.Extra.{Answers, Cancels, ExtraAnswer, ExtraCall, ExtraSaid, ExtraStep, MakesMany, MakesPlain, Raises, Revokes, Uncancels, made_by_all}
-use Rattle.model_machine.specs.Outcomes.{input_of}
 use Rattle.model_machine.specs.Sound.{StandsUnder}
-use Rattle.model_machine.specs.State.{Generator, State}
-use Rattle.model_reach.specs.Part.{can_draw, key_at, passes, refuses}
-use Rattle.model_gather.specs.Gathered.{Argument, Answered, Drawn, Expired, Expiring, Finished, Gathered, Gathering, Gathers, Rings, Shields, Tells, Timed}
-use Rattle.model_gather.specs.Gathered.{TimedState, TimedWait, WaitMode, Waiting, Waits, WaitsFor, at_once, distinct, distinct_arguments, drawn_after, drawn_at}
-use Rattle.model_gather.specs.Gathered.{draws, futures_of, gather_part, next_key, registered_from, resolved, settled_as}
-use Rattle.model_gather.specs.Gather.{count, count_all, gather, gather_all, gather_told, was_asked}
-use Rattle.model_gather.specs.Serving.{OfGather, OfShield, OfWait, OfWaitFor, Request, Wanted, acted, asked, gather_means, requested, rung, serve, served, told}
-use Rattle.model_gather.specs.Serving.{wanted_of, woken}
-use Rattle.model_gather.specs.Shield.{shield, shield_open, shield_told}
-use Rattle.model_gather.specs.Wait.{bad_mode, empty_set, handle_if_some, one_if_some, revoked, rings_after, rings_at, sorted, tag_if_some, wait, wait_all}
-use Rattle.model_gather.specs.Wait.{wait_rings, wait_told, wait_woken}
-use Rattle.model_gather.specs.WaitFor.{bad_timeout, cancels_in, may_time, wait_for, wait_for_all, wait_for_says, wait_for_woken}
-use Rattle.law_cancel.proofs.Lookups.{get-set_kept, get-set_other, get-set_same}
-use Rattle.law_changes.specs.Changes.{LeavesPending}
-use Rattle.law_waiters.proofs.Books.{BooksNot, asks_no_take, asks_once, asks_same, takes_no_ask, takes_once, takes_same}
-use Rattle.law_waiters.proofs.Fewer.{StepFor, change_fewer, step_fewer}
-use Rattle.law_waiters.proofs.Fitting.{each_append}
-use Rattle.law_waiters.proofs.Right.{Right, changed_right, goes_right, grown_right, is_waiting, same_right, still_right, the_key}
-use Rattle.law_waiters.proofs.Timers.{TimerFits, later_fits, revoked_fits, taken_fits, timer_on}
+use Rattle.model_machine.specs.State.{Generator}
+use Rattle.model_gather.specs.Gathered.{Drawn, Gathered, Rings, Tells, Timed}
+use Rattle.model_gather.specs.Gathered.{TimedWait, WaitsFor, drawn_after}
+use Rattle.model_gather.specs.Gathered.{gather_part, next_key, registered_from, settled_as}
+use Rattle.model_gather.specs.Wait.{handle_if_some, revoked, rings_after}
+use Rattle.law_waiters.proofs.Books.{BooksNot}
+use Rattle.law_waiters.proofs.Fewer.{StepFor}
+use Rattle.law_waiters.proofs.Right.{Right, grown_right, is_waiting, same_right, the_key}
+use Rattle.law_waiters.proofs.Timers.{TimerFits}
 
 -- ---- what is kept, as wait_fors see it
 abbrev pub timed_in : Option Drawn → Option TimedWait
@@ -302,12 +284,11 @@ module _ (kept : Gathered) (l : Loop) (gs : List Generator) (r : KeepsRight kept
     where
       ready : IsReady (next_key kept) (drawn_after (entry ∷ tail) kept) gs
       ready k e =
-          let here : n ≡ k = omega (arith, e) in
-          (
+          let here : n ≡ k = omega (arith, e) in (
             λ task h. absurd (let w = (r.stood task k h).0 in omega (arith, w, here)),
             let z = length-append kept.drawn (entry ∷ tail) in omega (arith, z, here),
             λ it f.
-            let at : n - n ≡ 0 = omega arith in
-            let first = append_new kept.drawn (entry ∷ tail) n (omega arith) ∙ ap (slice_get (entry ∷ tail)) at in
-            ap is_waiting (fit.begins 0 it (sym (ap timed_in first) ∙ ap (timed_at (drawn_after (entry ∷ tail) kept)) here ∙ f)).1,
+                let at : n - n ≡ 0 = omega arith in
+                let first = append_new kept.drawn (entry ∷ tail) n (omega arith) ∙ ap (slice_get (entry ∷ tail)) at in
+                ap is_waiting (fit.begins 0 it (sym (ap timed_in first) ∙ ap (timed_at (drawn_after (entry ∷ tail) kept)) here ∙ f)).1,
           )

@@ -19,7 +19,7 @@ use Rattle.model_machine.specs.Extra.{Answers, Raises, CallsLater, CallsSoon, Ca
 use Rattle.model_machine.specs.Extra.{Registers, Releases, Revokes, Settles, Uncancels, made_by_all, unknown_code}
 use Rattle.model_machine.specs.Sound.{StandsUnder}
 use Rattle.model_machine.specs.State.{Asked, Generator, Serving, State, start}
-use Rattle.model_reach.specs.Part.{key_at, place_of, refuses, stays}
+use Rattle.model_reach.specs.Part.{place_of, refuses, stays}
 use Rattle.model_reach.specs.Reach.{OfDgram, OfExec, OfGather, OfSync, Part, Parted, part_as, part_of_code, part_of_key, reach, seen_by}
 use Rattle.model_gather.specs.Gathered.{Drawn, Gathered, TimedWait, WaitsFor, gather_part}
 use Rattle.model_gather.specs.Serving.{gather_means}
@@ -30,7 +30,7 @@ use Rattle.law_waiters.specs.Timed.{AsksOnce, IsStepOf, KeepsToKeys, WaitsAsPart
 use Rattle.law_waiters.proofs.Books.{BooksNot, asks_of, row_same, takes_of}
 use Rattle.law_waiters.proofs.Drawing.{IsFreeFor, IsReady, KeepsRight, timed_at, timed_in}
 use Rattle.law_waiters.proofs.Fewer.{StepFor, change_fewer, is_key, row_fewer}
-use Rattle.law_waiters.proofs.Right.{Right, asked_in, goes_right, is_waiting, still_right, the_key, took_in}
+use Rattle.law_waiters.proofs.Right.{asked_in, goes_right, is_waiting, still_right, the_key, took_in}
 use Rattle.law_waiters.proofs.Timing.{acted_right, asked_right, woken_right}
 
 -- ---- keys of this part
@@ -174,11 +174,10 @@ module _ {B C D : Type 0} (sync : Extra B) (exec : Extra C) (dgram : Extra D) (o
       → ((other : ℕ) → StandsUnder t.generators task other → ⊥) → Holds s → IsReady key s.extra.gather t.generators
   stood_ready task key s t at here none r k e =
       let stands = subst (StandsUnder s.generators task) e at in
-      let it = r.stood task k stands in
-      (
+      let it = r.stood task k stands in (
         λ other h.
-        none (the_key k)
-        (subst (λ x. StandsUnder t.generators x (the_key k)) (r.once other task k (here.stands other (the_key k) h) stands) h),
+            none (the_key k)
+            (subst (λ x. StandsUnder t.generators x (the_key k)) (r.once other task k (here.stands other (the_key k) h) stands) h),
         it.0,
         it.1,
       )
@@ -221,7 +220,7 @@ module _ {B C D : Type 0} (sync : Extra B) (exec : Extra C) (dgram : Extra D) (o
 
   abbrev item_at : Option Part → (code : ℤ) → List ℕ → State All → ExtraCall All
   item_at o code bytes s =
-      elim o [ | None ↦ stays s.extra | Some part ↦ (part_as gather_means sync exec dgram part).item code bytes s ]
+      elim o [ None ↦ stays s.extra | Some part ↦ (part_as gather_means sync exec dgram part).item code bytes s ]
 
   asked_part : (o : Option Part) (task : ℕ) (code : ℤ) (arguments : List Value) (s : State All) → Holds s → SaidIs s (ask_at o task code arguments s)
   asked_part None task code arguments s r = (r, tt)

@@ -10,3 +10,4 @@ mod Right
 mod Drawing
 mod Timing
 mod Keeping
+mod Counting

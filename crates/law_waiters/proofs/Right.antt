@@ -1,5 +1,5 @@
 -- What is so of all wait_fors, between calls: their timers' handles, the tasks that stand at them, and what the ledger says.
-use Rattle.std.proofs.Common.{◌≡◌, ◌<◌, ◌≤◌, ◌+◌, ◌⊎◌, inl, inr, ℕ, zero, suc, Bool, true, false, List, Option, Some, None, refl, sym, ap, subst, ◌∙◌, arith}
+use Rattle.std.proofs.Common.{◌≡◌, ◌<◌, ◌≤◌, ◌+◌, ◌⊎◌, inl, inr, ℕ, suc, Bool, true, false, List, Option, Some, None, refl, sym, ap, subst, ◌∙◌, arith}
 use Rattle.std.specs.List.{AllByRecursion as Each, count_by}
 use Rattle.std.proofs.lemmas.Bool.{cases_eq, cases_lt}
 use Rattle.std.proofs.lemmas.Option.{none-some, same_Some}
@@ -167,7 +167,7 @@ module _ {timed : ℕ → Option TimedWait} {ring : ℕ → Option ℕ} {drawn :
       (past : (k : ℕ) → drawn + more ≤ k → (timed' k ≡ None) × (ring' k ≡ None))
       (begins : (k : ℕ) (it : TimedWait) → drawn ≤ k → timed' k ≡ Some it → (k ≡ drawn) × (it.state ≡ Timed))
       (timer : (it : TimedWait) → timed' drawn ≡ Some it → ring' (suc drawn) ≡ Some drawn
-          → TimerFits (the_key (suc drawn)) it.timer (made_by_all steps l).parts)
+      → TimerFits (the_key (suc drawn)) it.timer (made_by_all steps l).parts)
       (rings_new : (other k : ℕ) → drawn ≤ other → ring' other ≡ Some k → (k ≡ drawn) × (drawn < other))
       (ringed_new : (other : ℕ) (it : TimedWait) → ring' other ≡ Some drawn → timed' drawn ≡ Some it → other ≡ suc drawn)
       (untouched : (k : ℕ) → (k < drawn) ⊎ (drawn + more ≤ k) → Each (StepFor (the_key k)) steps)

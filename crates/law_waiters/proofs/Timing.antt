@@ -1,5 +1,5 @@
 -- What is so of all wait_fors stays so, whatever is called.
-use Rattle.std.proofs.Common.{◌≡◌, ◌<◌, ◌≤◌, ◌+◌, ◌-◌, ◌&&◌, ◌⊎◌, inl, inr, ℕ, ℤ, zero, suc, Bool, true, false, List, [], ◌∷◌, ◌++◌, Option, Some, None, Ok, Err}
+use Rattle.std.proofs.Common.{◌≡◌, ◌<◌, ◌≤◌, ◌+◌, ◌-◌, ◌&&◌, ◌⊎◌, inl, inr, ℕ, ℤ, suc, Bool, true, false, List, [], ◌∷◌, ◌++◌, Option, Some, None, Ok, Err}
 use Rattle.std.proofs.Common.{if◌then◌else◌, length, map, filter, nat_le, not, slice_get, slice_set, refl, sym, ap, subst, ◌∙◌, arith}
 use Rattle.std.proofs.Math.ListN.{length-set}
 use Rattle.std.specs.List.{AllByRecursion as Each}
@@ -19,8 +19,7 @@ use Rattle.model_loop.specs.Parts.{Handle, Parts}
 use Rattle.model_loop.specs.Tasks.{cancelling, future_of}
 use Rattle.model_loop.specs.Timeouts.{timeout_exception}
 use Rattle.model_loop.specs.Ways.{one_if}
-use Rattle.model_machine.specs.Extra as extra
-use Rattle.model_machine.specs.Extra.{Answers, Cancels, ExtraAnswer, ExtraCall, ExtraSaid, ExtraStep, MakesMany, MakesPlain, Raises, Revokes, Uncancels, made_by}
+use Rattle.model_machine.specs.Extra.{Answers, Cancels, ExtraAnswer, ExtraSaid, ExtraStep, MakesMany, MakesPlain, Raises, Revokes, Uncancels, made_by}
 use Rattle.model_machine.specs.Extra.{made_by_all}
 use Rattle.model_machine.specs.Outcomes.{input_of}
 use Rattle.model_machine.specs.Sound.{StandsUnder}
@@ -28,20 +27,20 @@ use Rattle.model_machine.specs.State.{Generator, State}
 use Rattle.model_reach.specs.Part.{can_draw, key_at, passes, refuses}
 use Rattle.model_gather.specs.Gathered.{Argument, Answered, Drawn, Expired, Expiring, Finished, Gathered, Gathering, Gathers, Rings, Shields, Tells, Timed}
 use Rattle.model_gather.specs.Gathered.{TimedState, TimedWait, WaitMode, Waiting, Waits, WaitsFor, at_once, distinct, distinct_arguments, drawn_after, drawn_at}
-use Rattle.model_gather.specs.Gathered.{draws, futures_of, gather_part, next_key, registered_from, resolved, settled_as, values_of}
-use Rattle.model_gather.specs.Gather.{count, count_all, gather, gather_all, gather_told, was_asked}
+use Rattle.model_gather.specs.Gathered.{draws, futures_of, gather_part, registered_from, resolved, settled_as, values_of}
+use Rattle.model_gather.specs.Gather.{count, count_all, gather, gather_all, was_asked}
 use Rattle.model_gather.specs.Serving.{OfGather, OfShield, OfWait, OfWaitFor, Request, Wanted, acted, asked, gather_means, requested, rung, serve, served, told}
 use Rattle.model_gather.specs.Serving.{wanted_of, woken}
-use Rattle.model_gather.specs.Shield.{shield, shield_open, shield_told}
+use Rattle.model_gather.specs.Shield.{shield, shield_open}
 use Rattle.model_gather.specs.Wait.{bad_mode, empty_set, handle_if_some, is_over, one_if_some, revoked, rings_after, rings_at, sorted, tag_if_some, wait, wait_all}
-use Rattle.model_gather.specs.Wait.{wait_rings, wait_told, wait_woken}
-use Rattle.model_gather.specs.WaitFor.{bad_timeout, cancels_in, may_time, wait_for, wait_for_all, wait_for_rings, wait_for_says, wait_for_woken}
+use Rattle.model_gather.specs.Wait.{wait_woken}
+use Rattle.model_gather.specs.WaitFor.{bad_timeout, cancels_in, may_time, wait_for, wait_for_all, wait_for_says, wait_for_woken}
 use Rattle.law_cancel.proofs.Lookups.{get-set_kept, get-set_other, get-set_same}
 use Rattle.law_changes.specs.Changes.{LeavesPending}
 use Rattle.law_waiters.specs.Timed.{went_on_after, was_expiring}
 use Rattle.law_waiters.proofs.Books.{BooksNot, asks_no_take, asks_once, asks_same, takes_no_ask, takes_once, takes_same}
-use Rattle.law_waiters.proofs.Drawing.{CallRight, IsFreeFor, IsReady, IsTail, KeepsRight, SaidRight, keys_apart, length_tells, more_right, plain_fits}
-use Rattle.law_waiters.proofs.Drawing.{registered_apart, registered_books, revoked_apart, revoked_books, ring_at, ring_in, rings_apart, rings_books}
+use Rattle.law_waiters.proofs.Drawing.{CallRight, IsFreeFor, IsReady, KeepsRight, SaidRight, keys_apart, length_tells, more_right, plain_fits}
+use Rattle.law_waiters.proofs.Drawing.{registered_apart, registered_books, revoked_apart, revoked_books, ring_at, ring_in, rings_books}
 use Rattle.law_waiters.proofs.Drawing.{settled_apart, settled_books, tells_tail, timed_alone, timed_at, timed_in, timed_tail, timed_with, waits_right}
 use Rattle.law_waiters.proofs.Fewer.{Fewer, StepFor, change_fewer, step_fewer}
 use Rattle.law_waiters.proofs.Fitting.{each_append}
@@ -91,10 +90,16 @@ module _ (kept : Gathered) (l : Loop) (gs : List Generator) (r : KeepsRight kept
       (waits_right kept l gs r (next_future l.parts) (Gathers counted.now) (map (Tells n) open_) (MakesMany members ∷ handles ++ settled)
       (plain_fits n (Gathers counted.now) (map (Tells n) open_) (made_by_all (MakesMany members ∷ handles ++ settled) l).parts refl refl
       (tells_tail n open_))
-      (λ k h. (tt, each_append (StepFor (the_key k)) handles settled (registered_apart k (suc n) open_ (past k (length open_) _ size h))
-      (settled_apart (the_key k) counted.outcome (next_future l.parts))))
-      (λ k. (tt, each_append (BooksNot (the_key k)) handles settled (registered_books (the_key k) (suc n) open_)
-      (settled_books (the_key k) counted.outcome (next_future l.parts)))))
+      (λ k h. (
+        tt,
+        each_append (StepFor (the_key k)) handles settled (registered_apart k (suc n) open_ (past k (length open_) _ size h))
+            (settled_apart (the_key k) counted.outcome (next_future l.parts)),
+      ))
+      (λ k. (
+        tt,
+        each_append (BooksNot (the_key k)) handles settled (registered_books (the_key k) (suc n) open_)
+            (settled_books (the_key k) counted.outcome (next_future l.parts)),
+      )))
     where
       past : (k size : ℕ) (tail : ℕ) → tail ≡ size → (k < n) ⊎ (n + suc tail ≤ k) → (k < suc n) ⊎ (suc n + size ≤ k)
       past k size tail same (inl h) = inl (omega (arith, h))
@@ -117,8 +122,11 @@ module _ (kept : Gathered) (l : Loop) (gs : List Generator) (r : KeepsRight kept
       waits_right kept l gs r (next_future l.parts) (Waits it) (map (Tells n) members ++ handle_if_some delay n) steps
       (plain_fits n (Waits it) (map (Tells n) members ++ handle_if_some delay n) (made_by_all steps l).parts refl refl (timed_tail n members delay))
       (λ k h. (tt, apart k members delay h))
-      (λ k. (tt, each_append (BooksNot (the_key k)) handles timer (registered_books (the_key k) (suc n) members)
-      (rings_books (the_key k) (key_at gather_part (suc n + length members)) delay l.parts)))
+      (λ k. (
+        tt,
+        each_append (BooksNot (the_key k)) handles timer (registered_books (the_key k) (suc n) members)
+            (rings_books (the_key k) (key_at gather_part (suc n + length members)) delay l.parts),
+      ))
     where
       tail_size : (ids : List ℕ) (o : Option ℤ) → length (map (Tells n) ids ++ handle_if_some o n) ≡ length ids + one_if_some o
       tail_size [] None = refl
@@ -336,13 +344,12 @@ module _ (kept : Gathered) (l : Loop) (gs : List Generator) (r : KeepsRight kept
 
     goes_on : (state : TimedState) (timer : Option ℕ) → Goes state timer
     goes_on Expiring None found waiting =
-        let step = Uncancels (the_key place) it.task in
-        (
+        let step = Uncancels (the_key place) it.task in (
           went_right place (as_is it Expiring None) (as_is it Expired None) step found free refl (λ k. tt) (λ k apart. keys_apart place k apart)
-            (λ ring. timer_on (the_key (suc place)) None l.parts (made_by step l).parts (step_fewer (the_key (suc place)) step l tt)
-            (handle_now Expiring None found ring))
-            (takes_no_ask (the_key place) it.task l ∙ asked_now Expiring None found)
-            (let a = takes_once (the_key place) it.task l in let b = took_now Expiring None found in omega (arith, a, b)),
+              (λ ring. timer_on (the_key (suc place)) None l.parts (made_by step l).parts (step_fewer (the_key (suc place)) step l tt)
+              (handle_now Expiring None found ring))
+              (takes_no_ask (the_key place) it.task l ∙ asked_now Expiring None found)
+              (let a = takes_once (the_key place) it.task l in let b = took_now Expiring None found in omega (arith, a, b)),
           says_free input (as_is it Expiring None) _,
         )
     goes_on Expiring (Some tag) found waiting =
@@ -362,8 +369,8 @@ module _ (kept : Gathered) (l : Loop) (gs : List Generator) (r : KeepsRight kept
     )
     goes_on Timed (Some tag) found waiting = (
       went_right place (as_is it Timed (Some tag)) (as_is it Finished None) (Revokes tag) found free refl (λ k. tt) (λ k apart. tt)
-        (λ ring. revoked_fits (the_key (suc place)) tag l.parts (handle_now Timed (Some tag) found ring)) (asked_now Timed (Some tag) found)
-        (took_now Timed (Some tag) found),
+          (λ ring. revoked_fits (the_key (suc place)) tag l.parts (handle_now Timed (Some tag) found ring)) (asked_now Timed (Some tag) found)
+          (took_now Timed (Some tag) found),
       passes_free input _ gs,
     )
     goes_on Expired timer found waiting = absurd (false≢true waiting)

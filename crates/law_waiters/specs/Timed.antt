@@ -1,6 +1,6 @@
 -- What a wait_for asks of its task: its cancel once, where its time was over before its task went on; and it takes that back once,
 -- where its task went on after that.
-use Rattle.std.specs.Prelude.{◌≡◌, ◌==◌, ℕ, ℤ, Bool, true, false, List, Option, Some, None, slice_get}
+use Rattle.std.specs.Prelude.{◌≡◌, ◌==◌, ℕ, ℤ, Bool, true, false, List, Option, Some, slice_get}
 use Rattle.std.specs.List.{AllByRecursion as Each, count_by}
 use Rattle.model_value.specs.Input.{Input}
 use Rattle.model_value.specs.Value.{Value}
