@@ -1,11 +1,11 @@
 -- What the ledger books in the name of a key of what is added, of each change.
-use Rattle.std.proofs.Common.{◌≡◌, ◌+◌, ◌==◌, ℕ, Bool, true, false, cond, List, [], ◌∷◌, ◌++◌, map, nat_lt, refl, sym, ap, ◌∙◌, arith}
+use Rattle.std.proofs.Common.{◌≡◌, ◌+◌, ◌==◌, ℕ, Bool, false, cond, List, [], ◌∷◌, ◌++◌, map, nat_lt, refl, sym, ap, ◌∙◌, arith}
 use Rattle.std.specs.List.{AllByRecursion as Each, count_by}
 use Rattle.std.proofs.lemmas.Bool.{eq-eqb, false≢true}
 use Rattle.std.proofs.lemmas.List.Sums.{sum_by-append, sum_by-cons}
 use Rattle.model_loop.specs.Balance.{asks, takes}
 use Rattle.model_loop.specs.Cancel.{cancel}
-use Rattle.model_loop.specs.Ledger.{Asked, Began, ByAbort, ByEnd, ByExtra, ByGroup, ByScript, ByTimeout, ByWait, LedgerEntry, Origin, Raised, Took, raised_among}
+use Rattle.model_loop.specs.Ledger.{Asked, Began, ByExtra, LedgerEntry, Origin, Raised, Took, raised_among}
 use Rattle.model_loop.specs.Loop.{Loop, take_one_back}
 use Rattle.model_loop.specs.Tasks.{cancelling}
 use Rattle.model_machine.specs.Extra.{ExtraStep, MakesPlain, MakesMany, Settles, Releases, Registers, CallsSoon, CallsLater, Revokes, Cancels, Uncancels, made_by}

@@ -1,5 +1,5 @@
 -- No other change makes a handle of what is added, of a key that is registered on no future.
-use Rattle.std.proofs.Common.{◌≡◌, ◌≤◌, ◌+◌, ◌-◌, ◌==◌, ◌⊎◌, inl, inr, ℕ, zero, suc, Bool, true, false, cond, not, ◌&&◌, List, [], ◌∷◌, ◌++◌, Option, Some, None, length}
+use Rattle.std.proofs.Common.{◌≡◌, ◌≤◌, ◌-◌, ◌==◌, ◌⊎◌, inl, inr, ℕ, zero, suc, Bool, true, false, cond, not, ◌&&◌, List, [], ◌∷◌, ◌++◌, Option, Some, None}
 use Rattle.std.proofs.Common.{slice_get, slice_set, refl, sym, ap, ◌∙◌, arith}
 use Rattle.std.specs.List.{AllByRecursion as Each, count_by}
 use Rattle.std.specs.Option.{option_map_or}
@@ -22,7 +22,7 @@ use Rattle.model_machine.specs.Extra.{CallsSoon as ExtraSoon, CallsLater as Extr
 use Rattle.model_machine.specs.Sound.{is_extra}
 use Rattle.law_cancel.proofs.Effects.{done_as, soon_all-futures}
 use Rattle.law_cancel.proofs.Lookups.{get-set_kept, get-set_other, get-set_same}
-use Rattle.law_changes.proofs.Folds.{fold, widen}
+use Rattle.law_changes.proofs.Folds.{fold}
 use Rattle.law_changes.proofs.PartsRows.{cancel_in}
 use Rattle.law_changes.specs.Blocks.{OfRequest, cancels, counts, keeps_asked, sets_must_cancel}
 use Rattle.law_changes.specs.Changes.{PartsChange, CallsSoon, CallsLater, Revokes, MakesFuture, Settles, Registers, KeepsAsked, MakesTask, WaitsFor}

@@ -1,6 +1,6 @@
 -- The future of each gather stands for its members, and those of waits and shields are plain ones, whatever is called.
 use Rattle.std.proofs.Common.{◌≡◌, ℕ, zero, suc, ℤ, Bool, true, false, List, [], ◌∷◌, ◌++◌, Option, Some, None, length, map, slice_get, slice_set, refl, sym, ap, ◌∙◌}
-use Rattle.std.specs.Prelude.{◌-◌, ◌&&◌, ◌+◌, filter, if◌then◌else◌, not}
+use Rattle.std.specs.Prelude.{◌-◌, ◌+◌, filter, if◌then◌else◌, not}
 use Rattle.std.specs.List.{AllByRecursion as Each}
 use Rattle.std.proofs.lemmas.Option.{none-some, same_Some}
 use Rattle.model_value.specs.Input.{Input}
@@ -131,8 +131,7 @@ module _ (kept : Gathered) (l : Loop) (fits : FitsAll kept l.parts) where
       let rest = registered_from gather_part (suc (length kept.drawn)) open_ ++ settled_as counted.outcome (next_future l.parts) in
       let p = (made_by_all (MakesMany members ∷ rest) l).parts in
       drawn_fits (1 + length open_) said
-      (more_fit (Gathers counted.now ∷ map (Tells (length kept.drawn)) open_) (MakesMany members ∷ rest)
-      (
+      (more_fit (Gathers counted.now ∷ map (Tells (length kept.drawn)) open_) (MakesMany members ∷ rest) (
         ap (shape_of p) same.0 ∙ many_made members rest ∙ ap (λ those. Some (Many (distinct those) false)) (sym same.1),
         tells_fit p (length kept.drawn) open_,
       ))
@@ -151,8 +150,7 @@ module _ (kept : Gathered) (l : Loop) (fits : FitsAll kept l.parts) where
         left = length members;
         timer = tag_if_some delay (l.parts.next_tag + done);
       } in
-      more_fit (Waits it ∷ map (Tells place) members ++ handle_if_some delay place) (MakesPlain ∷ rest)
-      (
+      more_fit (Waits it ∷ map (Tells place) members ++ handle_if_some delay place) (MakesPlain ∷ rest) (
         plain_made rest,
         each_append (EntryFits p) (map (Tells place) members) (handle_if_some delay place) (tells_fit p place members) (handle_fits p place delay),
       )
@@ -217,7 +215,7 @@ module _ (kept : Gathered) (l : Loop) (fits : FitsAll kept l.parts) where
 
   rung_fits : (place : ℕ) (o : Option Drawn) → CallFits l (rung o place l.parts kept)
   rung_fits place (Some (Waits it)) = still (wait_rings it kept).steps
-  rung_fits place (Some (WaitsFor it)) = 
+  rung_fits place (Some (WaitsFor it)) =
       one_fits place (WaitsFor (record it { state = Expiring; timer = None })) (wait_for_rings place it l.parts kept).steps tt
   rung_fits place _ = fits
 

@@ -1,22 +1,25 @@
 -- Where a request goes from a task that waits for a future of these, by its kind.
-use Rattle.std.proofs.Common.{◌≡◌, ◌≤◌, ◌+◌, ◌==◌, ◌⊎◌, inl, inr, ℕ, Bool, true, false, cond, not, List, [], ◌∷◌, ◌++◌, Option, Some, None, is_none, nat_eq, nat_lt}
+use Rattle.std.proofs.Common.{◌≡◌, ◌<◌, ◌≤◌, ◌+◌, ◌==◌, ◌⊎◌, inl, inr, ℕ, Bool, true, false, cond, not, List, [], ◌∷◌, ◌++◌, Option, Some, None, is_none, nat_eq, nat_lt}
 use Rattle.std.proofs.Common.{filter, slice_get, refl, sym, ap, subst, ◌∙◌, arith}
+use Rattle.std.specs.List.{All}
 use Rattle.std.specs.Option.{option_map_or}
-use Rattle.std.proofs.lemmas.Bool.{cases_eq, eq-eqb, ne_eqb}
+use Rattle.std.proofs.lemmas.Bool.{cases_eq, eq-eqb, lt-ltb, ne_eqb}
+use Rattle.std.proofs.lemmas.List.Elements.{All-head, All-tail}
 use Rattle.std.proofs.lemmas.List.Sums.{sum_by-cons}
-use Rattle.std.proofs.lemmas.Option.{none-some, same_Some}
+use Rattle.std.proofs.lemmas.Option.{none-some}
 use Rattle.model_value.specs.Value.{Outcome}
 use Rattle.model_value.specs.declared.outcome.Outcome.TheVariants.{Cancelled}
-use Rattle.model_loop.specs.Cancel.{CancelRequest, answers, cancel_each, cancel_with, keep_asked, or_must_cancel}
+use Rattle.model_loop.proofs.FutureCases.{members_at, members_in}
+use Rattle.model_loop.specs.Cancel.{CancelRequest, answers, cancel_each, cancel_with, or_must_cancel}
 use Rattle.model_loop.specs.Cancelling.{Cancels, CancelsEach, CancelsWaiter, IsPendingAs, each, many, none, plain, task as task_row, waits as waits_row}
 use Rattle.model_loop.specs.Futures.{is_pending, is_pending_at, made_before, settle}
-use Rattle.model_loop.specs.Numbered.{occurrences}
+use Rattle.model_loop.specs.Numbered.{IsNumbered, occurrences}
 use Rattle.model_loop.specs.Parts.{FutureKind, Future, Many, OfTask, Plain, Parts, Task}
-use Rattle.model_loop.specs.Tasks.{raise_count, future_of, waiter_of}
+use Rattle.model_loop.specs.Tasks.{raise_count, future_of}
 use Rattle.law_cancel.proofs.Effects.{change_task-futures, settle-futures}
 use Rattle.law_cancel.proofs.Lookups.{get-set_other}
 use Rattle.law_cancel.proofs.Meeting.{cancel_meets, only_cancel}
-use Rattle.model_gather.specs.Gathered.{Gathered, distinct}
+use Rattle.model_gather.specs.Gathered.{distinct}
 use Rattle.law_waiters.specs.Reached.{ComesFirst, GoesNoFurther, GoesToEach}
 use Rattle.law_waiters.proofs.Shapes.{shape_at, shape_in, shape_of}
 
@@ -101,8 +104,7 @@ module _ (p : Parts) (id : ℕ) (pending : is_pending p id ≡ true) where
       at : (o : Option Future) → slice_get p.futures id ≡ o → (asked : Bool) × IsPendingAs p id (Many members asked)
       at None found = absurd (none-some _ (sym (ap shape_at found) ∙ shape))
       at (Some future) found =
-          let kind = many_in future.kind members (sym (ap shape_at found) ∙ shape) in
-          (
+          let kind = many_in future.kind members (sym (ap shape_at found) ∙ shape) in (
             kind.0,
             record { future = future; found = found; pending = pends future.outcome (sym (ap is_pending_at found) ∙ pending); kind_is = kind.1 },
           )
@@ -118,6 +120,23 @@ module _ (p : Parts) (id : ℕ) (pending : is_pending p id ≡ true) where
         pending = pends future.outcome (sym (ap is_pending_at found) ∙ pending);
         kind_is = plain_in future.kind (sym (ap shape_at found) ∙ shape);
       }
+
+-- ---- members that were made before
+all_before : (outer : ℕ) (xs : List ℕ) → All (λ member. member < outer) xs → made_before outer xs ≡ xs
+all_before outer [] all = refl
+all_before outer (x ∷ xs) all =
+    ap (λ b. cond b (x ∷ made_before outer xs) (made_before outer xs)) (lt-ltb x outer (All-head (λ member. member < outer) x xs all))
+    ∙ ap (λ ys. x ∷ ys) (all_before outer xs (All-tail (λ member. member < outer) x xs all))
+
+pub members_whole : (p : Parts) (outer : ℕ) (awaited : List ℕ) → shape_of p outer ≡ Some (Many (distinct awaited) false) → IsNumbered p
+    → made_before outer (distinct awaited) ≡ distinct awaited
+members_whole p outer awaited shape is =
+    all_before outer (distinct awaited) (subst (All (λ member. member < outer)) (at (slice_get p.futures outer) refl) (is.members outer))
+  where
+    at : (o : Option Future) → slice_get p.futures outer ≡ o → members_at (slice_get p.futures outer) ≡ distinct awaited
+    at None found = absurd (none-some (Many (distinct awaited) false) (sym (ap shape_at found) ∙ shape))
+    at (Some future) found =
+        ap members_at found ∙ ap members_in (many_in future.kind (distinct awaited) (sym (ap shape_at found) ∙ shape)).1
 
 -- ---- from a task
 each_meets : (ids seen : List ℕ) (p : Parts) → CancelsEach ids seen p (cancel_each cancel_with ids seen p)

@@ -6,3 +6,8 @@ mod Running
 mod Fewer
 mod Timers
 mod Books
+mod Right
+mod Drawing
+mod Timing
+mod Keeping
+mod Counting

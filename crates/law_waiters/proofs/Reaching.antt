@@ -1,5 +1,5 @@
 -- So a cancel goes on as it should from each task that waits, in every state of every run.
-use Rattle.std.proofs.Common.{◌≡◌, ℕ, ℤ, Bool, true, false, cond, List, Option, Some, None, length, slice_get, refl, sym, subst}
+use Rattle.std.proofs.Common.{◌≡◌, ℕ, ℤ, Bool, true, false, cond, List, Option, Some, None, length, slice_get, sym, subst}
 use Rattle.std.proofs.lemmas.Option.{none-some}
 use Rattle.model_value.specs.Input.{Input}
 use Rattle.model_value.specs.Value.{Value}
@@ -13,7 +13,7 @@ use Rattle.model_gather.specs.Serving.{gather_means}
 use Rattle.law_kept.specs.Walks.{Beside, Walks, runs}
 use Rattle.law_waiters.specs.Reached.{CancelsGoOn, entry_under}
 use Rattle.law_waiters.proofs.Fitting.{EntryFits, FitsAll, acted_fits, asked_fits, each_at, fits_stay, woken_fits}
-use Rattle.law_waiters.proofs.Going.{goes_no_further, goes_to_each}
+use Rattle.law_waiters.proofs.Going.{goes_no_further, goes_to_each, members_whole}
 use Rattle.law_waiters.proofs.Shapes.{row_stays, steps_stay}
 
 -- ---- alone
@@ -85,7 +85,7 @@ module _ {B C D : Type 0} (sync : Extra B) (exec : Extra C) (dgram : Extra D) wh
 
   abbrev item_at : Option Part → (code : ℤ) → List ℕ → State All → ExtraCall All
   item_at o code bytes s =
-      elim o [ | None ↦ stays s.extra | Some part ↦ (part_as gather_means sync exec dgram part).item code bytes s ]
+      elim o [ None ↦ stays s.extra | Some part ↦ (part_as gather_means sync exec dgram part).item code bytes s ]
 
   asked_part : (o : Option Part) (task : ℕ) (code : ℤ) (arguments : List Value) (s : State All) → PartFits s
       → Called s (ask_at o task code arguments s).call
@@ -143,10 +143,11 @@ under false o it e = absurd (none-some it e)
 pub cancels_go_on : (kept : Gathered) (p : Parts) → FitsAll kept p → CancelsGoOn kept p
 cancels_go_on kept p fits = record {
   gathers = λ key it e task seen comes. goes_to_each p task it.outer seen comes it.awaited (here key (Gathers it) e);
+  members = λ key it e is. members_whole p it.outer it.awaited (here key (Gathers it) e) is;
   waits = λ key it e task seen comes. goes_no_further p task it.on seen comes (here key (Waits it) e);
   shields = λ key on e task seen comes. goes_no_further p task on seen comes (here key (Shields on) e);
 }
   where
     here : (key : ℕ) (it : Drawn) → entry_under kept key ≡ Some it → EntryFits p it
-    here key it e = each_at (EntryFits p) kept.drawn (place_of gather_part key) it 
+    here key it e = each_at (EntryFits p) kept.drawn (place_of gather_part key) it
         (under (was_drawn gather_part (length kept.drawn) key) (slice_get kept.drawn (place_of gather_part key)) it e) fits

@@ -1,8 +1,7 @@
 -- The handle of a timer, told by its key: there is one at most, with the tag that is kept, and none where none is kept.
-use Rattle.std.proofs.Common.{◌≡◌, ◌≤◌, ◌+◌, ◌==◌, ℕ, Bool, true, false, cond, not, ◌&&◌, List, [], ◌∷◌, Option, Some, None, map, filter, refl, sym, ap, ◌∙◌, arith}
+use Rattle.std.proofs.Common.{◌≡◌, ◌≤◌, ◌+◌, ◌==◌, ℕ, Bool, true, false, cond, not, ◌&&◌, List, [], ◌∷◌, Option, Some, None, refl, ap, ◌∙◌, arith}
 use Rattle.std.proofs.lemmas.Bool.{eq-eqb}
 use Rattle.std.proofs.lemmas.List.Sums.{sum_by-cons}
-use Rattle.std.proofs.lemmas.Option.{none-some, same_Some}
 use Rattle.model_value.specs.Action.{Action}
 use Rattle.model_value.specs.declared.action.Action.TheVariants as action
 use Rattle.model_loop.specs.Entries.{entries, handles_where, timers_where}
@@ -34,7 +33,7 @@ timer_on key (Some tag) p q fewer it = (
   fewer.none it.0,
   let a = fewer.few it.0 (any_of key) (λ tag action e. e) in let b = it.1 in omega (arith, a, b),
   let a = fewer.few it.0 (apart_of key tag) (λ other action e. ap (λ b. not (other == tag) && b) e ∙ off (not (other == tag))) in
-  let b = it.2 in omega (arith, a, b),
+      let b = it.2 in omega (arith, a, b),
 )
 
 -- ---- it is given up
@@ -73,10 +72,10 @@ module _ (key tag : ℕ) where
   revoked_fits p it = (
     λ on. it.0 on,
     let a = entries-revoke (any_of key) tag p in
-    let b = handles_split p.pending in
-    let c = timers_split p.timers in
-    let d = it.2 in
-    omega (arith, a, b, c, d),
+        let b = handles_split p.pending in
+        let c = timers_split p.timers in
+        let d = it.2 in
+        omega (arith, a, b, c, d),
   )
 
 -- ---- it is made
@@ -87,14 +86,14 @@ pub later_fits : (key when : ℕ) (p : Parts) → TimerFits key None p → Timer
 later_fits key when p it = (
   λ on. it.0 on,
   let a = entries-later (any_of key) when (action.Extra key) p in
-  let b = it.1 in
-  let c : ◌≡◌ {A = ℕ} (cond (key == key) 1 0) 1 = ap (λ b. cond b 1 0) (eq-eqb key key refl) in
-  omega (arith, a, b, c),
+      let b = it.1 in
+      let c : ◌≡◌ {A = ℕ} (cond (key == key) 1 0) 1 = ap (λ b. cond b 1 0) (eq-eqb key key refl) in
+      omega (arith, a, b, c),
   let a = entries-later (apart_of key p.next_tag) when (action.Extra key) p in
-  let b = it.1 in
-  let c : ◌≡◌ {A = ℕ} (cond (not (p.next_tag == p.next_tag) && (key == key)) 1 0) 0 = ap (λ b. cond b 1 0) (same_tag p.next_tag (key == key)) in
-  let d = apart_fewer p in
-  omega (arith, a, b, c, d),
+      let b = it.1 in
+      let c : ◌≡◌ {A = ℕ} (cond (not (p.next_tag == p.next_tag) && (key == key)) 1 0) 0 = ap (λ b. cond b 1 0) (same_tag p.next_tag (key == key)) in
+      let d = apart_fewer p in
+      omega (arith, a, b, c, d),
 )
   where
     apart_fewer : (p : Parts) → entries (apart_of key p.next_tag) p ≤ entries (any_of key) p

@@ -1,10 +1,10 @@
 -- What a cancel request does at a task that waits in a gather, in a wait or in a shield.
-use Rattle.std.specs.Prelude.{◌≡◌, ◌≤◌, ◌&&◌, ℕ, Bool, true, false, List, [], ◌∷◌, ◌++◌, Option, Some, None, cond, length, slice_get}
+use Rattle.std.specs.Prelude.{◌≡◌, ◌≤◌, ℕ, true, false, List, [], ◌∷◌, ◌++◌, Option, Some, None, cond, length, slice_get}
 use Rattle.model_value.specs.declared.outcome.Outcome.TheVariants.{Cancelled}
 use Rattle.model_loop.specs.Cancel.{CancelRequest, answers, cancel_with, has_seen, keep_asked, or_must_cancel}
 use Rattle.model_loop.specs.Cancelling.{CancelsEach, IsPendingAs}
 use Rattle.model_loop.specs.Futures.{is_pending, made_before, settle}
-use Rattle.model_loop.specs.Numbered.{occurrences}
+use Rattle.model_loop.specs.Numbered.{IsNumbered, occurrences}
 use Rattle.model_loop.specs.Parts.{OfTask, Parts}
 use Rattle.model_loop.specs.Tasks.{future_of, raise_count, waiter_of}
 use Rattle.model_reach.specs.Part.{place_of, was_drawn}
@@ -43,6 +43,9 @@ pub record CancelsGoOn (kept : Gathered) (p : Parts) : Type 0 where
   pub gathers : (key : ℕ) (it : Gathering) → entry_under kept key ≡ Some (Gathers it)
       → (task : ℕ) (seen : List ℕ) → ComesFirst p task it.outer seen
       → GoesToEach (made_before it.outer (distinct it.awaited)) it.outer task seen p
+  -- where futures are numbered in order of making, as in every sound state, these are all of its members
+  pub members : (key : ℕ) (it : Gathering) → entry_under kept key ≡ Some (Gathers it) → IsNumbered p
+      → made_before it.outer (distinct it.awaited) ≡ distinct it.awaited
   pub waits : (key : ℕ) (it : Waiting) → entry_under kept key ≡ Some (Waits it)
       → (task : ℕ) (seen : List ℕ) → ComesFirst p task it.on seen → GoesNoFurther it.on task seen p
   pub shields : (key on : ℕ) → entry_under kept key ≡ Some (Shields on)
