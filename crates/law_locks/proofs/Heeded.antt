@@ -1,23 +1,21 @@
 -- Where the loop heeds those who wait, what is so of a lock stays so through all tries.
-use Rattle.std.proofs.Common.{◌≡◌, ◌⊎◌, inl, inr, ℕ, zero, suc, ℤ, ◌+◌, ◌≤◌, Bool, true, false, List, [], ◌∷◌, ◌++◌, Option, Some, None, map, slice_get, refl, sym, ap, subst, ◌∙◌}
-use Rattle.std.proofs.Common.{arith, le_refl}
+use Rattle.std.proofs.Common.{◌≡◌, ℕ, zero, suc, Bool, true, false, List, [], ◌∷◌, ◌++◌, Option, Some, None}
+use Rattle.std.proofs.Common.{slice_get, refl, sym, ap, subst, ◌∙◌}
+use Rattle.std.proofs.Common.{le_refl}
 use Rattle.std.specs.Prelude.{if◌then◌else◌, is_some}
 use Rattle.std.specs.List.{AllByRecursion as Each}
-use Rattle.model_value.specs.Input.{Input}
-use Rattle.model_value.specs.Value.{Value}
 use Rattle.model_loop.specs.Futures.{future_outcome, next_future}
-use Rattle.model_loop.specs.Loop.{Loop}
 use Rattle.model_loop.specs.Parts.{Parts}
 use Rattle.model_machine.specs.Extra.{ExtraSaid, made_by_all}
 use Rattle.model_says.specs.Operations.{out_of_range}
 use Rattle.model_reach.specs.Part.{can_draw, place_of, refuses}
 use Rattle.model_sync.specs.Serving.{Wanted, asked_for, served, wanted_of, woken}
 use Rattle.model_sync.specs.Synced.{Lock, Synced, Waiting, none_synced, sync_part, waiting_at}
-use Rattle.law_locks.specs.Locks.{Hears, IsHeeded, IsWakeupKept, LeavesWaiters, LocksKeep, StaysOrIsCancelled}
+use Rattle.law_locks.specs.Locks.{Hears, IsHeeded, LeavesWaiters, LocksKeep, StaysOrIsCancelled}
 use Rattle.law_locks.specs.Tries.{Asks, GoesOn, Reply, Try, asked_reply, kept_after, loop_of, replies, reply_to, said_of, wanted_by, woken_reply}
 use Rattle.law_locks.proofs.Served.{serves_is}
 use Rattle.law_locks.proofs.Named.{AreMade, resumes_is, try_made, waiting_made}
-use Rattle.law_locks.proofs.Lines.{First, Stays, first_on, line_on, ons}
+use Rattle.law_locks.proofs.Lines.{First, first_on, line_on, ons}
 use Rattle.law_locks.proofs.Who.{apart_on, who}
 use Rattle.law_locks.proofs.Held.{Chain, Held, StepTo, ends, locked_at, other_later, waiters_at}
 use Rattle.law_locks.proofs.Steps.{resumes_to, serves_to}

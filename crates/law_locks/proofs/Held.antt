@@ -1,28 +1,30 @@
 -- What is so of a lock and those who wait for it, through each try.
-use Rattle.std.proofs.Common.{◌≡◌, ◌⊎◌, inl, inr, ℕ, zero, suc, pos, ◌+◌, ◌<◌, ◌≤◌, Bool, true, false, List, [], ◌∷◌, ◌++◌, Option, Some, None, length, map, slice_get}
+use Rattle.std.proofs.Common.{◌≡◌, inl, ℕ, suc, pos, ◌+◌, ◌≤◌, Bool, true, false, List, [], ◌∷◌, ◌++◌, Option, Some, None}
+use Rattle.std.proofs.Common.{slice_get}
 use Rattle.std.proofs.Common.{slice_set, refl, sym, ap, subst, ◌∙◌, arith, le_refl}
-use Rattle.std.specs.Prelude.{not, ◌&&◌, ◌==◌, if◌then◌else◌}
+use Rattle.std.specs.Prelude.{not, ◌&&◌, if◌then◌else◌}
 use Rattle.std.specs.List.{AllByRecursion as Each}
 use Rattle.std.specs.Map.{lookup, remove_entry}
-use Rattle.std.proofs.lemmas.Bool.{and_parts, cases_eq, eq-eqb, false≢true}
+use Rattle.std.proofs.lemmas.Bool.{and_parts, eq-eqb, false≢true}
 use Rattle.std.proofs.lemmas.List.{map-append}
-use Rattle.model_value.specs.Value.{Exc, Nothing, Truth, Value}
+use Rattle.model_value.specs.Value.{Exc, Nothing, Truth}
 use Rattle.model_loop.specs.Futures.{future_outcome, new_plain, next_future}
 use Rattle.model_loop.specs.Loop.{Loop}
 use Rattle.model_loop.specs.Parts.{Parts}
 use Rattle.model_loop.specs.Tasks.{is_cancelled}
-use Rattle.model_machine.specs.Extra.{Answers, ExtraStep, MakesPlain, Raises, Waits, made_by_all}
+use Rattle.model_machine.specs.Extra.{Answers, ExtraStep, Raises, Waits, made_by_all}
 use Rattle.model_sync.specs.Locks.{are_cancelled, set_lock}
 use Rattle.model_sync.specs.Queues.{got_value}
 use Rattle.model_sync.specs.Serving.{Acquire, Release}
-use Rattle.model_sync.specs.Synced.{Acquires, Lock, Synced, Waiting, draw, is_place, next_key, wait_last, wait_over, wake_first, without}
-use Rattle.law_cancel.proofs.Lookups.{get-set_other, get-set_same}
+use Rattle.model_sync.specs.Synced.{Acquires, Lock, Synced, draw, is_place, wait_last, wait_over, wake_first, without}
+use Rattle.law_cancel.proofs.Lookups.{get-set_same}
 use Rattle.law_sync.proofs.Lists.{each_append, each_on, each_removed}
 use Rattle.law_locks.specs.Locks.{has_acquired, has_released}
 use Rattle.law_locks.specs.Tries.{Reply}
-use Rattle.law_locks.proofs.Lines.{First, IsLater, Line, Stays, all_stay, first_on, first_removed, leaves_line, line_on, ons, ons_left, plain_more, sends_line}
+use Rattle.law_locks.proofs.Lines.{First, Line, Stays, all_stay, first_on, first_removed, leaves_line, line_on, ons, ons_left, plain_more}
+use Rattle.law_locks.proofs.Lines.{sends_line}
 use Rattle.law_locks.proofs.Lines.{settle_made, takes_first, takes_line, waits_first, waits_line, wakes_first_of, wakes_line, woken_first}
-use Rattle.law_locks.proofs.Who.{Apart, AreSame, IsNot, IsOther, Leaves, apart_lock, apart_on, wants_own, who, who_last, who_own}
+use Rattle.law_locks.proofs.Who.{Apart, AreSame, IsOther, Leaves, apart_lock, apart_on, wants_own, who, who_last, who_own}
 
 -- ---- answers in a row
 -- From a lock that is locked, or isn't, and a least number: no acquire answers while it is locked, nor one that asked before.

@@ -1,9 +1,10 @@
 -- Those who wait for a lock, in order: each with the place of its key, and with its future. What becomes of the line as one more
 -- waits, as one leaves it, and as the first is woken.
-use Rattle.std.proofs.Common.{◌≡◌, ◌⊎◌, inl, inr, ℕ, zero, suc, ◌+◌, ◌<◌, ◌≤◌, Bool, true, false, cond, List, [], ◌∷◌, ◌++◌, Option, Some, None, length, map, slice_get}
+use Rattle.std.proofs.Common.{◌≡◌, ◌⊎◌, inl, inr, ℕ, zero, suc, ◌+◌, ◌<◌, ◌≤◌, Bool, true, false, cond, List, [], ◌∷◌, ◌++◌, Option, Some, None}
+use Rattle.std.proofs.Common.{length, map, slice_get}
 use Rattle.std.proofs.Common.{refl, sym, ap, subst, ◌∙◌, arith, le_refl, length-append}
-use Rattle.std.specs.Prelude.{not, ◌&&◌, ◌==◌, filter, is_some}
-use Rattle.std.specs.List.{AllByRecursion as Each, list_all}
+use Rattle.std.specs.Prelude.{not, ◌&&◌, ◌==◌, is_some}
+use Rattle.std.specs.List.{AllByRecursion as Each}
 use Rattle.std.specs.Map.{lookup, remove_entry}
 use Rattle.std.proofs.lemmas.Bool.{eq-eqb, eqb-true, false≢true, true≢false}
 use Rattle.std.proofs.lemmas.Option.{slice_get_past}
@@ -280,7 +281,8 @@ module _ (p : Parts) (drawn least : ℕ) where
       let made = settle_made e.1 (Returned Nothing) p in
       record {
         rising = h.rising;
-        given = each_on (IsGiven drawn (next_future p)) (IsGiven drawn (next_future q)) (λ f g. (g.0, let b = g.1 in omega (arith, b, made))) (e ∷ line) h.given;
+        given = each_on (IsGiven drawn (next_future p)) (IsGiven drawn (next_future q)) (λ f g. (g.0, let b = g.1 in omega (arith, b, made))) (e ∷ line)
+            h.given;
         rest = each_both (Stays p q) (IsUnwoken p) (IsUnwoken q) (unwoken_on p q) line stays h.rest;
         due = (first_due e h.due.0, each_both (Stays p q) (IsStillDue p least) (IsStillDue q least) (due_on p q least) line stays h.due.1);
         reached = h.reached;

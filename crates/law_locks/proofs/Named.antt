@@ -1,19 +1,19 @@
 -- Each request that waits does so for a lock, an event or a queue that was made; so what it comes to is one of the cases.
-use Rattle.std.proofs.Common.{◌≡◌, ℕ, zero, suc, ℤ, ◌+◌, ◌<◌, ◌≤◌, Bool, true, false, List, [], ◌∷◌, ◌++◌, Option, Some, None, length, slice_get, slice_set, refl, sym, ap, subst, ◌∙◌}
+use Rattle.std.proofs.Common.{◌≡◌, ℕ, zero, suc, ◌<◌, ◌≤◌, Bool, true, false, List, [], ◌∷◌, ◌++◌, Option, Some, None, length, slice_get}
+use Rattle.std.proofs.Common.{slice_set, refl, sym, subst}
 use Rattle.std.proofs.Common.{arith, le_refl, length-append}
 use Rattle.std.proofs.Math.ListN.{length-set}
 use Rattle.std.specs.Prelude.{if◌then◌else◌}
 use Rattle.std.specs.List.{AllByRecursion as Each}
 use Rattle.std.proofs.lemmas.Option.{slice_get_within}
 use Rattle.model_value.specs.Input.{Input}
-use Rattle.model_value.specs.Value.{Value}
 use Rattle.model_loop.specs.Futures.{next_future}
-use Rattle.model_loop.specs.Loop.{Loop}
 use Rattle.model_loop.specs.Parts.{Parts}
 use Rattle.model_machine.specs.Extra.{ExtraSaid}
 use Rattle.model_says.specs.Operations.{out_of_range}
 use Rattle.model_reach.specs.Part.{can_draw, place_of, refuses}
-use Rattle.model_sync.specs.Synced.{Acquires, Awaits, Event, Gets, Lock, Puts, Queue, Synced, Waiting, draw, is_place, sync_part, wait_again, wait_last, wait_over}
+use Rattle.model_sync.specs.Synced.{Acquires, Awaits, Event, Gets, Lock, Puts, Queue, Synced, Waiting, is_place, sync_part, wait_again}
+use Rattle.model_sync.specs.Synced.{wait_over}
 use Rattle.model_sync.specs.Synced.{waiting_at}
 use Rattle.model_sync.specs.Locks.{acquired, set_lock}
 use Rattle.model_sync.specs.Events.{set_event, waited}
@@ -21,8 +21,10 @@ use Rattle.model_sync.specs.Queues.{getting, putting, set_queue}
 use Rattle.model_sync.specs.Serving.{Wanted, asked_for, named, served, wanted_of, woken}
 use Rattle.law_sync.proofs.Lists.{each_append, each_found, each_on, each_removed, each_replaced}
 use Rattle.law_locks.specs.Tries.{Asks, GoesOn, Try, said_of}
-use Rattle.law_locks.proofs.Served.{Resumes, Serves, acquired_is, clears, getting_is, gets, gets_lock, gets_now, goes_by, leaves_event, leaves_get, leaves_lock, leaves_put}
-use Rattle.law_locks.proofs.Served.{makes_event, makes_lock, makes_queue, puts, puts_now, putting_is, releases, says_no, sees_event, sees_lock, sees_set, sees_size, serves_is, sets}
+use Rattle.law_locks.proofs.Served.{Resumes, Serves, acquired_is, clears, getting_is, gets, gets_lock, gets_now, goes_by, leaves_event, leaves_get}
+use Rattle.law_locks.proofs.Served.{leaves_lock, leaves_put}
+use Rattle.law_locks.proofs.Served.{makes_event, makes_lock, makes_queue, puts, puts_now, putting_is, releases, says_no, sees_event, sees_lock}
+use Rattle.law_locks.proofs.Served.{sees_set, sees_size, serves_is, sets}
 use Rattle.law_locks.proofs.Served.{stays_set, takes_lock, waited_is, waits_event, waits_get, waits_get_again, waits_lock, waits_put, waits_put_again}
 
 -- ---- lists
@@ -162,7 +164,8 @@ module _ (p : Parts) (kept : Synced) (all : AreMade kept) where
       at None e = absurd (none_some (slice_get xs id) (found_within xs id within).0 e (found_within xs id within).1)
       at (Some x) e = each x e
 
-  pub resumes_is : (key place : ℕ) (it : Waiting) (input : Input) → WasMadeIn kept it → Resumes p kept key place it input (woken (Some it) key place input p kept)
+  pub resumes_is : (key place : ℕ) (it : Waiting) (input : Input) → WasMadeIn kept it
+      → Resumes p kept key place it input (woken (Some it) key place input p kept)
   resumes_is key place (Acquires id on) input made =
       found_is (Resumes p kept key place (Acquires id on) input) kept.locks id input (λ lock. acquired place id on input lock kept) made
       (λ lock found. acquired_is p kept key place id on input lock found)

@@ -1,27 +1,29 @@
 -- The numbers of requests: they rise as requests are asked, and one that goes on has the number under which it was asked.
-use Rattle.std.proofs.Common.{◌≡◌, ◌⊎◌, inl, inr, ℕ, zero, suc, ◌+◌, ◌≤◌, ◌<◌, Bool, true, false, cond, List, [], ◌∷◌, ◌++◌, Option, Some, None, length, slice_get}
-use Rattle.std.proofs.Common.{refl, sym, ap, subst, ◌∙◌, arith, le_refl}
+use Rattle.std.proofs.Common.{◌≡◌, ◌⊎◌, inl, inr, ℕ, suc, ◌+◌, ◌≤◌, ◌<◌, Bool, true, false, cond, List, [], ◌∷◌, ◌++◌, Option, Some, None}
+use Rattle.std.proofs.Common.{length}
+use Rattle.std.proofs.Common.{refl, sym, ap, subst, ◌∙◌, arith}
 use Rattle.std.specs.Prelude.{if◌then◌else◌}
 use Rattle.std.specs.List.{AllByRecursion as Each}
 use Rattle.std.specs.Map.{lookup, remove_entry, set_value}
 use Rattle.std.proofs.lemmas.Bool.{eqb-true, true≢false}
 use Rattle.std.proofs.lemmas.List.{append-nil, append_assoc}
 use Rattle.model_value.specs.Input.{Input}
-use Rattle.model_value.specs.Value.{Value}
 use Rattle.model_loop.specs.Futures.{next_future}
-use Rattle.model_loop.specs.Loop.{Loop}
 use Rattle.model_loop.specs.Parts.{Parts}
 use Rattle.model_machine.specs.Extra.{ExtraSaid}
 use Rattle.model_says.specs.Operations.{out_of_range}
 use Rattle.model_reach.specs.Part.{can_draw, place_of, refuses}
 use Rattle.model_sync.specs.Serving.{Wanted, asked_for, served, wanted_of, woken}
-use Rattle.model_sync.specs.Synced.{Acquires, Awaits, Gets, Puts, Synced, Waiting, is_place, none_synced, sync_part, wait_again, wait_over, waiting_at}
+use Rattle.model_sync.specs.Synced.{Acquires, Awaits, Gets, Puts, Synced, Waiting, is_place, none_synced, sync_part}
+use Rattle.model_sync.specs.Synced.{waiting_at}
 use Rattle.law_cancel.proofs.Lookups.{get-push_last, get-push_other, get_within}
 use Rattle.law_sync.proofs.Lists.{each_append, each_on, each_removed}
-use Rattle.law_locks.specs.Requests.{AreAskedBefore, AreNumberedInOrder, RequestsKeep, WasAsked}
-use Rattle.law_locks.specs.Tries.{Asks, GoesOn, Reply, Try, asked_reply, kept_after, replies, reply_to, said_of, wanted_by, woken_reply}
-use Rattle.law_locks.proofs.Served.{Resumes, Serves, clears, gets, gets_lock, gets_now, goes_by, leaves_event, leaves_get, leaves_lock, leaves_put, makes_event}
-use Rattle.law_locks.proofs.Served.{makes_lock, makes_queue, puts, puts_now, releases, says_no, sees_event, sees_lock, sees_set, sees_size, serves_is, sets}
+use Rattle.law_locks.specs.Requests.{RequestsKeep, WasAsked}
+use Rattle.law_locks.specs.Tries.{Asks, GoesOn, Reply, Try, asked_reply, replies, reply_to, said_of, wanted_by, woken_reply}
+use Rattle.law_locks.proofs.Served.{Resumes, Serves, clears, gets, gets_lock, gets_now, goes_by, leaves_event, leaves_get, leaves_lock, leaves_put}
+use Rattle.law_locks.proofs.Served.{makes_event}
+use Rattle.law_locks.proofs.Served.{makes_lock, makes_queue, puts, puts_now, releases, says_no, sees_event, sees_lock, sees_set, sees_size}
+use Rattle.law_locks.proofs.Served.{serves_is, sets}
 use Rattle.law_locks.proofs.Served.{stays_set, takes_lock, waits_event, waits_get, waits_get_again, waits_lock, waits_put, waits_put_again}
 use Rattle.law_locks.proofs.Named.{AreMade, resumes_is, try_made, waiting_made}
 

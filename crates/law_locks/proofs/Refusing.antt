@@ -1,14 +1,14 @@
 -- What can't be served is refused, and nothing changes.
-use Rattle.std.proofs.Common.{◌≡◌, ℕ, ℤ, pos, negsuc, Bool, true, false, List, Option, Some, None, length, slice_get, refl, sym, subst}
+use Rattle.std.proofs.Common.{◌≡◌, ℕ, ℤ, pos, negsuc, false, Some, None, length, slice_get, refl, sym, subst}
 use Rattle.std.specs.Prelude.{if◌then◌else◌}
 use Rattle.std.proofs.lemmas.Option.{slice_get_past}
-use Rattle.model_value.specs.Value.{Exc, Nothing, Value}
+use Rattle.model_value.specs.Value.{Exc, Nothing}
 use Rattle.model_loop.specs.Parts.{Parts}
 use Rattle.model_machine.specs.Extra.{ExtraSaid}
 use Rattle.model_sync.specs.Synced.{Event, Lock, Queue, Synced, answers, raises, wake_first}
-use Rattle.model_sync.specs.Locks.{acquire, is_locked, no_lock, not_acquired, on_lock, release, set_lock}
-use Rattle.model_sync.specs.Events.{clear, is_set, no_event, on_event, set, wait}
-use Rattle.model_sync.specs.Queues.{get, no_queue, on_queue, put, size}
+use Rattle.model_sync.specs.Locks.{no_lock, not_acquired, on_lock, release, set_lock}
+use Rattle.model_sync.specs.Events.{no_event, on_event}
+use Rattle.model_sync.specs.Queues.{no_queue, on_queue}
 use Rattle.law_locks.specs.Refused.{IsRefused, WasNeverMade}
 
 module _ (p : Parts) (kept : Synced) where

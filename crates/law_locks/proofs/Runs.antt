@@ -1,12 +1,11 @@
 -- What is kept of locks, events and queues is what their tries come to; and what holds of all tries holds of every run.
-use Rattle.std.proofs.Common.{◌≡◌, inl, inr, ℕ, zero, suc, ℤ, Bool, true, false, List, [], ◌∷◌, ◌++◌, Option, Some, None, refl, sym, ap, subst, ◌∙◌}
+use Rattle.std.proofs.Common.{◌≡◌, inl, inr, ℕ, zero, suc, ℤ, List, [], ◌∷◌, ◌++◌, Option, Some, None, refl, sym, ap, subst, ◌∙◌}
 use Rattle.std.specs.Prelude.{if◌then◌else◌}
 use Rattle.model_value.specs.Input.{Input}
 use Rattle.model_value.specs.Value.{Value}
 use Rattle.model_tree.specs.Syntax.{Program}
 use Rattle.model_wire.specs.Event.{Event}
 use Rattle.model_wire.specs.Journal.{Entry}
-use Rattle.model_loop.specs.Loop.{Loop}
 use Rattle.model_machine.specs.Extra.{Extra, ExtraCall, ExtraSaid, unknown_code}
 use Rattle.model_machine.specs.Mids.{mids}
 use Rattle.model_machine.specs.Replies.{input_by}
@@ -18,7 +17,7 @@ use Rattle.model_reach.specs.Reach.{OfDgram, OfExec, OfGather, OfSync, Part, Par
 use Rattle.model_sync.specs.Synced.{Synced, none_synced}
 use Rattle.model_sync.specs.Serving.{sync_means}
 use Rattle.law_changes.specs.Reaches.{goes, stays}
-use Rattle.law_calls.specs.Tells.{AfterTurn, AreAllIn, In, IsRunIn}
+use Rattle.law_calls.specs.Tells.{AfterTurn, AreAllIn, IsRunIn}
 use Rattle.law_calls.specs.Told as told
 use Rattle.law_calls.specs.Told.{Acts, Happening, HasHappened, HasNews, Hears, IsHistory, MayHappen, Told, Wakes, first_told, happens}
 use Rattle.law_calls.proofs.History.{first_happened, history_tells}

@@ -1,5 +1,5 @@
 -- What each try comes to, by cases: a law about all of them is proved of each case.
-use Rattle.std.proofs.Common.{◌≡◌, ℕ, ℤ, pos, negsuc, ◌+◌, Bool, true, false, List, [], ◌∷◌, ◌++◌, Option, Some, None, length, map, slice_get, refl}
+use Rattle.std.proofs.Common.{◌≡◌, ℕ, ℤ, pos, negsuc, Bool, true, false, List, [], ◌∷◌, ◌++◌, Option, Some, None, length, map, slice_get, refl}
 use Rattle.std.specs.Prelude.{not, ◌&&◌, nat_lt, if◌then◌else◌}
 use Rattle.model_value.specs.Input.{Input}
 use Rattle.model_value.specs.Value.{Exc, Int, Nothing, Truth, Value}
@@ -7,13 +7,16 @@ use Rattle.model_value.specs.declared.input.Input.TheVariants.{Send, Throw}
 use Rattle.model_loop.specs.Futures.{future_outcome, next_future}
 use Rattle.model_loop.specs.Parts.{Parts}
 use Rattle.model_loop.specs.Tasks.{is_cancelled}
-use Rattle.model_machine.specs.Extra.{Answers, ExtraSaid, ExtraStep, MakesPlain, Raises, Waits}
-use Rattle.model_sync.specs.Synced.{Acquires, Awaits, Event, Gets, Lock, Puts, Queue, Synced, Waiting, answers, draw, next_key, number_of, numbered, raises, says}
+use Rattle.model_machine.specs.Extra.{Answers, ExtraSaid, MakesPlain, Raises, Waits}
+use Rattle.model_sync.specs.Synced.{Acquires, Awaits, Event, Gets, Lock, Puts, Queue, Synced, Waiting, answers, draw, next_key}
+use Rattle.model_sync.specs.Synced.{raises, says}
 use Rattle.model_sync.specs.Synced.{tried_again, tried_first, wait_again, wait_last, wait_over, wake_first, wakes, without}
 use Rattle.model_sync.specs.Locks.{acquire, acquired, are_cancelled, is_locked, make_lock, no_lock, not_acquired, on_lock, release, set_lock}
 use Rattle.model_sync.specs.Events.{clear, is_set, make_event, no_event, on_event, set, set_event, wait, waited}
-use Rattle.model_sync.specs.Queues.{get, getting, got_value, is_full, make_queue, next_if, no_queue, on_queue, put, putting, set_queue, size, wake_next}
-use Rattle.model_sync.specs.Serving.{Acquire, Clear, Get, IsLocked, IsSet, MakesEvent, MakesLock, MakesQueue, Put, Release, Set, Size, Wait, Wanted, served}
+use Rattle.model_sync.specs.Queues.{get, getting, got_value, is_full, make_queue, next_if, no_queue, on_queue, put, putting, set_queue, size}
+use Rattle.model_sync.specs.Queues.{wake_next}
+use Rattle.model_sync.specs.Serving.{Acquire, Clear, Get, IsLocked, IsSet, MakesEvent, MakesLock, MakesQueue, Put, Release, Set, Size, Wait, Wanted}
+use Rattle.model_sync.specs.Serving.{served}
 
 -- ---- as it is asked
 pub data Serves (p : Parts) (kept : Synced) : Wanted → ExtraSaid Synced → Type 0 where

@@ -1,34 +1,37 @@
 -- Each try keeps what is so of a lock and those who wait for it.
-use Rattle.std.proofs.Common.{◌≡◌, ◌⊎◌, inl, inr, ℕ, zero, suc, pos, ◌+◌, ◌<◌, ◌≤◌, Bool, true, false, List, [], ◌∷◌, ◌++◌, Option, Some, None, length, map, slice_get}
+use Rattle.std.proofs.Common.{◌≡◌, ◌⊎◌, inl, inr, ℕ, zero, suc, pos, ◌≤◌, Bool, true, false, List, [], ◌∷◌, ◌++◌, Some}
+use Rattle.std.proofs.Common.{length, slice_get}
 use Rattle.std.proofs.Common.{slice_set, refl, sym, ap, subst, ◌∙◌, arith, le_refl}
 use Rattle.std.specs.Prelude.{not, ◌&&◌, ◌==◌, nat_lt, if◌then◌else◌}
 use Rattle.std.specs.List.{AllByRecursion as Each}
 use Rattle.std.proofs.lemmas.Bool.{cases_eq, eqb-true}
 use Rattle.std.proofs.lemmas.List.{append-nil}
 use Rattle.model_value.specs.Input.{Input}
-use Rattle.model_value.specs.Value.{Exc, Int, Nothing, Truth, Value}
-use Rattle.model_value.specs.declared.input.Input.TheVariants.{Send, Throw}
+use Rattle.model_value.specs.Value.{Exc, Nothing, Truth}
 use Rattle.model_loop.specs.Futures.{future_outcome, new_plain, next_future}
 use Rattle.model_loop.specs.Loop.{Loop}
-use Rattle.model_loop.specs.Parts.{Parts}
 use Rattle.model_loop.specs.Tasks.{is_cancelled}
 use Rattle.model_machine.specs.Extra.{Answers, ExtraAnswer, ExtraSaid, ExtraStep, MakesPlain, Raises, Waits, made_by_all}
 use Rattle.model_sync.specs.Locks.{set_lock}
 use Rattle.model_sync.specs.Queues.{got_value, is_full, next_if, wake_next}
 use Rattle.model_sync.specs.Serving.{Acquire, Clear, Get, IsLocked, IsSet, MakesEvent, MakesLock, MakesQueue, Put, Release, Set, Size, Wait, Wanted}
-use Rattle.model_sync.specs.Synced.{Acquires, Awaits, Event, Gets, Lock, Puts, Queue, Synced, Waiting, draw, is_place, next_key, wait_last, wait_over, waiting_at}
+use Rattle.model_sync.specs.Synced.{Acquires, Awaits, Event, Gets, Lock, Puts, Queue, Synced, Waiting, draw, is_place, next_key, wait_last}
+use Rattle.model_sync.specs.Synced.{wait_over, waiting_at}
 use Rattle.model_sync.specs.Synced.{wake_first, without}
 use Rattle.law_cancel.proofs.Lookups.{get-set_other}
 use Rattle.law_sync.proofs.Lists.{each_append, each_at, each_filter, each_on}
 use Rattle.law_locks.specs.Locks.{HearsOf, acquired_by, has_acquired, has_released, released_by}
 use Rattle.law_locks.specs.Tries.{Reply, wanted_by}
-use Rattle.law_locks.proofs.Served.{Resumes, Serves, clears, gets, gets_lock, gets_now, goes_by, leaves_event, leaves_get, leaves_lock, leaves_put, makes_event}
+use Rattle.law_locks.proofs.Served.{Resumes, Serves, clears, gets, gets_lock, gets_now, goes_by, leaves_event, leaves_get, leaves_lock, leaves_put}
+use Rattle.law_locks.proofs.Served.{makes_event}
 use Rattle.law_locks.proofs.Served.{makes_lock, makes_queue, puts, puts_now, releases, says_no, sees_event, sees_lock, sees_set, sees_size, sets}
 use Rattle.law_locks.proofs.Served.{stays_set, takes_lock, waits_event, waits_get, waits_get_again, waits_lock, waits_put, waits_put_again}
 use Rattle.law_locks.proofs.Lines.{IsGiven, plain_more}
-use Rattle.law_locks.proofs.Who.{Apart, EventApart, IsOther, LeavesLine, QueueApart, all_wake, apart_event, apart_lock, apart_more, apart_on, apart_queue, apart_same}
+use Rattle.law_locks.proofs.Who.{Apart, EventApart, IsOther, LeavesLine, QueueApart, all_wake, apart_event, apart_lock, apart_more, apart_on}
+use Rattle.law_locks.proofs.Who.{apart_queue, apart_same}
 use Rattle.law_locks.proofs.Who.{first_wakes, next_if_wakes, next_wakes, steps_leave, wants_it, wants_other, who, who_again, who_last, who_over}
-use Rattle.law_locks.proofs.Held.{Held, StepTo, gets_own, leaves_own, locked_at, other_later, passes_to, releases_own, takes_own, waiters_at, waits_own}
+use Rattle.law_locks.proofs.Held.{Held, StepTo, gets_own, leaves_own, locked_at, other_later, passes_to, releases_own, takes_own, waiters_at}
+use Rattle.law_locks.proofs.Held.{waits_own}
 
 -- ---- answers that are none of the lock
 no_raise_acquires : (n : ℕ) (wanted : Wanted) (exception : Exc) → acquired_by n wanted (Raises exception) ≡ false

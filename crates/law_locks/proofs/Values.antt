@@ -1,25 +1,28 @@
 -- The values of a queue: each try hands them on in order.
-use Rattle.std.proofs.Common.{◌≡◌, ℕ, zero, suc, ℤ, pos, negsuc, Bool, true, false, List, [], ◌∷◌, ◌++◌, Option, Some, None, slice_get, slice_set, refl, sym, ap, subst, ◌∙◌}
+use Rattle.std.proofs.Common.{◌≡◌, ℕ, zero, suc, ℤ, Bool, true, false, List, [], ◌∷◌, ◌++◌, Option, Some, None, slice_get, slice_set}
+use Rattle.std.proofs.Common.{refl, sym, ap, subst, ◌∙◌}
 use Rattle.std.specs.Prelude.{◌==◌, if◌then◌else◌}
 use Rattle.std.proofs.lemmas.Bool.{eq-eqb, eqb-true, true≢false}
 use Rattle.std.proofs.lemmas.Grind.{flat_map-append}
 use Rattle.std.proofs.lemmas.List.{append-nil, append_assoc}
 use Rattle.model_value.specs.Input.{Input}
 use Rattle.model_value.specs.Value.{Exc, Value}
-use Rattle.model_loop.specs.Loop.{Loop}
 use Rattle.model_loop.specs.Parts.{Parts}
 use Rattle.model_machine.specs.Extra as extra
 use Rattle.model_machine.specs.Extra.{ExtraAnswer, ExtraSaid}
 use Rattle.model_says.specs.Operations.{out_of_range}
 use Rattle.model_reach.specs.Part.{can_draw, place_of, refuses}
 use Rattle.model_sync.specs.Synced.{Queue, Synced, Waiting, none_synced, sync_part, waiting_at}
-use Rattle.model_sync.specs.Serving.{Acquire, Clear, Get, IsLocked, IsSet, MakesEvent, MakesLock, MakesQueue, Put, Release, Set, Size, Wait, Wanted, asked_for}
+use Rattle.model_sync.specs.Serving.{Get, Put, Wanted}
+use Rattle.model_sync.specs.Serving.{asked_for}
 use Rattle.model_sync.specs.Serving.{served, wanted_of, woken}
 use Rattle.law_cancel.proofs.Lookups.{get-set_other, get-set_same}
-use Rattle.law_locks.specs.Queues.{HandsOnInOrder, got_by, got_from, held_by, is_number, once_in, put_by, put_into, value_in, values_of}
+use Rattle.law_locks.specs.Queues.{HandsOnInOrder, got_by, got_from, held_by, is_number, put_by, put_into, values_of}
 use Rattle.law_locks.specs.Tries.{Asks, GoesOn, Reply, Try, asked_reply, kept_after, replies, reply_to, said_of, wanted_by, woken_reply}
-use Rattle.law_locks.proofs.Served.{Resumes, Serves, clears, gets, gets_lock, gets_now, goes_by, leaves_event, leaves_get, leaves_lock, leaves_put, makes_event}
-use Rattle.law_locks.proofs.Served.{makes_lock, makes_queue, puts, puts_now, releases, says_no, sees_event, sees_lock, sees_set, sees_size, serves_is, sets}
+use Rattle.law_locks.proofs.Served.{Resumes, Serves, clears, gets, gets_lock, gets_now, goes_by, leaves_event, leaves_get, leaves_lock, leaves_put}
+use Rattle.law_locks.proofs.Served.{makes_event}
+use Rattle.law_locks.proofs.Served.{makes_lock, makes_queue, puts, puts_now, releases, says_no, sees_event, sees_lock, sees_set, sees_size}
+use Rattle.law_locks.proofs.Served.{serves_is, sets}
 use Rattle.law_locks.proofs.Served.{stays_set, takes_lock, waits_event, waits_get, waits_get_again, waits_lock, waits_put, waits_put_again}
 use Rattle.law_locks.proofs.Named.{AreMade, resumes_is, try_made, waiting_made}
 
@@ -185,7 +188,8 @@ module _ (queue : ℕ) where
   all_hand : (tries : List Try) (kept : Synced) → AreMade kept → Hands (replies tries kept) kept (kept_after tries kept)
   all_hand [] kept all = still kept
   all_hand (it ∷ tries) kept all =
-      hands_then (reply_to it kept) (replies tries (said_of it kept).call.state) kept (said_of it kept).call.state (kept_after tries (said_of it kept).call.state)
+      hands_then (reply_to it kept) (replies tries (said_of it kept).call.state) kept (said_of it kept).call.state
+      (kept_after tries (said_of it kept).call.state)
       (try_hands it kept all) (all_hand tries (said_of it kept).call.state (try_made it kept all))
 
 none_held : (queue : ℕ) → held_by queue none_synced ≡ []

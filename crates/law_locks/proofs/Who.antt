@@ -1,5 +1,6 @@
 -- Who waits for a lock: of the requests that wait, those that want it, in order of asking.
-use Rattle.std.proofs.Common.{◌≡◌, ◌⊎◌, inl, inr, ℕ, zero, suc, ◌+◌, ◌<◌, ◌≤◌, Bool, true, false, cond, List, [], ◌∷◌, ◌++◌, Option, Some, None, length, map, slice_get, slice_set}
+use Rattle.std.proofs.Common.{◌≡◌, ◌⊎◌, inl, inr, ℕ, ◌<◌, ◌≤◌, Bool, true, false, cond, List, [], ◌∷◌, ◌++◌, Some}
+use Rattle.std.proofs.Common.{length, map, slice_get, slice_set}
 use Rattle.std.proofs.Common.{refl, sym, ap, subst, ◌∙◌, arith, le_refl}
 use Rattle.std.specs.Prelude.{◌==◌, if◌then◌else◌}
 use Rattle.std.specs.List.{AllByRecursion as Each, flat_map}
@@ -7,17 +8,16 @@ use Rattle.std.specs.Map.{lookup, remove_entry, set_value}
 use Rattle.std.proofs.lemmas.Bool.{cases_eq, eq-eqb, eqb-true}
 use Rattle.std.proofs.lemmas.Grind.{flat_map-append}
 use Rattle.std.proofs.lemmas.List.{append-nil}
-use Rattle.model_value.specs.Value.{Nothing, Outcome, Value}
 use Rattle.model_loop.specs.Futures.{future_outcome, is_pending, next_future, settle}
 use Rattle.model_loop.specs.Loop.{Loop}
 use Rattle.model_loop.specs.Parts.{Parts}
-use Rattle.model_machine.specs.Extra.{CallsLater, CallsSoon, Cancels, ExtraStep, MakesMany, MakesPlain, Registers, Releases, Revokes, Settles, Uncancels, made_by, made_by_all}
+use Rattle.model_machine.specs.Extra.{CallsLater, CallsSoon, Cancels, ExtraStep, MakesMany, MakesPlain, Registers, Releases, Revokes, Settles}
+use Rattle.model_machine.specs.Extra.{Uncancels, made_by, made_by_all}
 use Rattle.model_sync.specs.Queues.{Woken, next_if, wake_next}
 use Rattle.model_sync.specs.Synced.{Acquires, Awaits, Event, Gets, Lock, Puts, Queue, Synced, Waiting, wake_first, wakes}
 use Rattle.law_cancel.proofs.Lookups.{get-push_last, get-push_other, get-set_other, get-set_same}
-use Rattle.law_sync.proofs.Lists.{each_append, each_on, each_set}
-use Rattle.law_locks.proofs.Lines.{Stays, plain_more, plain_outcome, settle_made, settle_others}
-use Rattle.law_locks.proofs.Values.{differ_by}
+use Rattle.law_sync.proofs.Lists.{each_on, each_set}
+use Rattle.law_locks.proofs.Lines.{plain_more, plain_outcome, settle_made, settle_others}
 
 abbrev pub entry_if : Bool → (place on : ℕ) → List (ℕ × ℕ)
 entry_if true place on = (place, on) ∷ []

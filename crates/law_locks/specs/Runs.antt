@@ -1,6 +1,6 @@
 -- The tries of a run: those of its calls of what is added that are of locks, events and queues, in order. `A`, `C` and `D` are what
 -- the other parts keep, whatever these are.
-use Rattle.std.specs.Prelude.{ℕ, ℤ, Bool, true, false, List, [], ◌∷◌, ◌++◌, Option, Some, None, if◌then◌else◌}
+use Rattle.std.specs.Prelude.{ℕ, Bool, true, false, List, [], ◌∷◌, ◌++◌, Option, Some, None, if◌then◌else◌}
 use Rattle.model_wire.specs.Event.{Event}
 use Rattle.model_machine.specs.Extra.{Extra, ExtraSaid}
 use Rattle.model_machine.specs.Replies.{input_by}
