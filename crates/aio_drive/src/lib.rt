@@ -9,7 +9,7 @@ mod lines;
 mod recording;
 mod writing;
 
-pub use aio_extra::{Extra, NoExtra};
+pub use aio_extra::Extra;
 pub use cut::Cut;
 pub use driver::{Manner, drive, drive_recorded};
 pub use halt::Halt;

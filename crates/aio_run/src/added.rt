@@ -2,13 +2,14 @@
 //! it.
 ghost use Rattle.model_program.specs.Added.{first_added};
 ghost use Rattle.aio_drive.specs.Added.{KeepsNothing};
-ghost use Rattle.aio_drive.specs.Nothing.{nothing_added};
+ghost use Rattle.aio_reach.specs.Routed.{routed};
 
-use aio_drive::NoExtra;
+use aio_reach::Reach;
+use std::alloc::Global;
 
-/// What is added, as a run begins: nothing.
-pub fn added() -> NoExtra
-    ensures { KeepsNothing nothing_added result first_added }
+/// What is added, as a run begins: nothing was asked of it.
+pub fn added(alloc: Global) -> Reach
+    ensures { KeepsNothing routed result first_added }
 {
-    NoExtra
+    Reach::new(alloc)
 }

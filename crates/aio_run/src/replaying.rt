@@ -56,7 +56,7 @@ fn replay_program<F: Shelf, K: Sink>(
     drive(
         alloc,
         program,
-        added(),
+        added(alloc),
         manner,
         &End::ShelfFault,
         &mut wire,

@@ -67,7 +67,7 @@ fn run_program<F: Shelf, W: Wire, K: Sink>(
     match drive_recorded(
         alloc,
         program,
-        added(),
+        added(alloc),
         manner,
         &End::WireFault,
         wire,

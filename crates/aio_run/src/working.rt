@@ -55,7 +55,7 @@ fn tally_over<F: Shelf>(alloc: Global, program: &Program, shelf: &mut F) -> Resu
         → TalliesOver program.now text tally) }
 {
     let mut wire = JournalWire::answering(alloc, shelf, "journal");
-    match tally_run(alloc, program, added(), MOST_TURNS, &mut wire) {
+    match tally_run(alloc, program, added(alloc), MOST_TURNS, &mut wire) {
         Ok(tally) => Ok(tally),
         // A shelf in memory doesn't fail where it has the file.
         Err(_) => Err(Memory),

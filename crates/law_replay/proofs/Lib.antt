@@ -1,4 +1,6 @@
 mod Added
+mod Gathering
 mod Reading
 mod Replying
+mod Routing
 mod Turning

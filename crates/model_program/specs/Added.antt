@@ -1,14 +1,20 @@
 -- What is added to the loop's own requests where the program runs a script, and what it keeps as a run begins. No other
 -- definition names it.
 use Rattle.model_machine.specs.Extra.{Extra, no_extra}
+use Rattle.model_reach.specs.Reach.{Parted, reach}
+use Rattle.model_gather.specs.Gathered.{Gathered, none_gathered}
+use Rattle.model_gather.specs.Serving.{gather_means}
+use Rattle.model_sync.specs.Synced.{Synced, none_synced}
+use Rattle.model_sync.specs.Serving.{sync_means}
 
 -- what is kept of it
 abbrev pub AddedState : Type 0
-AddedState = Unit {0}
+AddedState = Parted Gathered Synced (Unit {0}) (Unit {0})
 
--- nothing is added
+-- Waits for several futures; locks, events and queues. The other two parts aren't there.
 abbrev pub added : Extra AddedState
-added = no_extra
+added = reach gather_means sync_means no_extra no_extra
 
+-- nothing was asked
 abbrev pub first_added : AddedState
-first_added = tt
+first_added = record { gather = none_gathered; sync = none_synced; exec = tt; dgram = tt }

@@ -14,8 +14,8 @@ use Rattle.model_wire.specs.Journal.{Entry, Answered}
 use Rattle.model_wire.specs.Trace.{End}
 use Rattle.model_machine.specs.Replies.{most_ids, shown_all}
 use Rattle.model_loop.specs.Ledger.{LedgerEntry}
-use Rattle.model_machine.specs.Extra.{no_extra}
 use Rattle.model_machine.specs.Run.{Run, run_on}
+use Rattle.model_program.specs.Added.{AddedState, added, first_added}
 use Rattle.model_program.specs.Runs.{run}
 use Rattle.model_machine.specs.State.{start}
 use Rattle.model_machine.specs.Turn.{turn}
@@ -73,13 +73,13 @@ seen text times = seen_of (run (program_of text) (at times) 1000)
 
 -- the same where a step may begin so many statements
 abbrev pub seen_within : ℕ → List ℕ → List ℕ → Seen
-seen_within limit text times = seen_of (run_on limit no_extra 1000 1000 (start most_ids tt (program_of text) (at times)))
+seen_within limit text times = seen_of (run_on limit added 1000 1000 (start most_ids first_added (program_of text) (at times)))
 
 -- the state after so many turns, or as the run ends
-abbrev pub turns : ℕ → Went (Unit {0}) → Went (Unit {0})
+abbrev pub turns : ℕ → Went AddedState → Went AddedState
 turns zero went = went
-turns (suc more) went = turns more (went_on (turn step_limit no_extra) went)
+turns (suc more) went = turns more (went_on (turn step_limit added) went)
 
 -- what was booked by then
 abbrev pub ledger_after : ℕ → List ℕ → List ℕ → List LedgerEntry
-ledger_after count text times = (state_of (turns count (Goes (start most_ids tt (program_of text) (at times))))).loop.ledger
+ledger_after count text times = (state_of (turns count (Goes (start most_ids first_added (program_of text) (at times))))).loop.ledger

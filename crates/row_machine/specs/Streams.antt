@@ -14,9 +14,9 @@ use Rattle.model_wire.specs.Event.{Event}
 use Rattle.model_wire.specs.Journal.{Answered}
 use Rattle.model_wire.specs.Trace.{End}
 use Rattle.model_says.specs.Says.{step_limit}
-use Rattle.model_machine.specs.Extra.{no_extra}
 use Rattle.model_machine.specs.Run.{Run, run_on}
 use Rattle.model_machine.specs.State.{start}
+use Rattle.model_program.specs.Added.{added, first_added}
 use Rattle.model_program.specs.Runs.{run}
 use Rattle.row_machine.specs.Reading.{PrintedLine, lines_of, prints, program_of, text}
 
@@ -41,7 +41,7 @@ over text answers = outcome_of (run (program_of text) (map Answered answers) 100
 abbrev pub over_few : ℕ → List ℕ → List Answer → Outcome
 over_few most text answers =
     outcome_of
-    (run_on step_limit no_extra 1000 1000 (start most tt (program_of text) (map Answered answers)))
+    (run_on step_limit added 1000 1000 (start most first_added (program_of text) (map Answered answers)))
 
 -- A listener accepts a connection, whose handler reads a line and closes it; then the listener is closed.
 abbrev pub listener_text : List ℕ
