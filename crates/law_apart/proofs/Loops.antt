@@ -37,7 +37,8 @@ use Rattle.model_stream.specs.Kept.{OneIs}
 use Rattle.law_cancel.proofs.SuspendCases.{suspend_unless}
 use Rattle.law_changes.specs.Blocks.{OfRequest, OfSchedule, cancels, counts, fires_later, fires_soon, gives_up, keeps_asked, sets_must_cancel, tags}
 use Rattle.law_changes.specs.Changes.{AsksCancel, BeginsExit, CallsSoon, ChangesGroup, ChangesTimeout, ClearsMustCancel, FallsDue, LoopChange, MakesFuture}
-use Rattle.law_changes.specs.Changes.{MakesGroup, MakesTask, MakesTimeout, OfParts, PartsChange, Passes, Registers, Revokes, Settles, TakesBack, Uncounts, WaitsFor}
+use Rattle.law_changes.specs.Changes.{MakesGroup, MakesTask, MakesTimeout, OfParts, PartsChange, Passes, Registers, Revokes, Settles, TakesBack}
+use Rattle.law_changes.specs.Changes.{Uncounts, WaitsFor}
 use Rattle.law_changes.specs.Changes.{made_of_loop, made_of_parts}
 use Rattle.law_changes.specs.Reaches.{Reaches, goes, stays}
 use Rattle.law_changes.proofs.BlockRows.{as_ledger, each_in, schedule_in, without_in}

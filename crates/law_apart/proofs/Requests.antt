@@ -1,6 +1,7 @@
 -- A request that isn't for what is added, and what a task makes of its input where it stands at none of its requests, leave the futures
 -- that the loop of itself doesn't hold, but for cancels.
-use Rattle.std.proofs.Common.{◌≡◌, inl, inr, ℕ, suc, ◌+◌, ◌<◌, ◌≤◌, ◌&&◌, not, arith, length-append, ap, subst, ◌∙◌, le_refl, ℤ, pos, negsuc, Bool, true, false, List, [], ◌∷◌, ◌++◌, Option, Some, None, nat_lt, refl, sym}
+use Rattle.std.proofs.Common.{◌≡◌, inl, inr, ℕ, suc, ◌+◌, ◌<◌, ◌≤◌, ◌&&◌, not, arith, length-append, ap, subst, ◌∙◌, le_refl, ℤ, pos, negsuc, Bool, true}
+use Rattle.std.proofs.Common.{false, List, [], ◌∷◌, ◌++◌, Option, Some, None, nat_lt, refl, sym}
 use Rattle.std.specs.List.{AllByRecursion as Each}
 use Rattle.std.proofs.lemmas.Bool.{and_from, and_parts, false≢true, lt-ltb, ltb-true}
 use Rattle.model_value.specs.Action.{Action}
@@ -55,7 +56,8 @@ use Rattle.model_machine.specs.Went.{answered_so, ask_so, fitted_so}
 use Rattle.law_cases.specs.Cases.{Replies, raises, leaves_none, exits_none, tells, names_itself, hands_on, pauses_on, alarms, awaits as awaits_it, prints}
 use Rattle.law_cases.specs.Cases.{makes, sets, fails, cancels, uncancels, spawns_it, enters, leaves, moves, enters_one, exits, creates_it, serves_it}
 use Rattle.law_cases.specs.Closed.{is_to_streams}
-use Rattle.law_cases.specs.Trees.{AllWaits, AnswersStreams, ConnectsStreams, DrainWaits, ExitWaits, Keeping, KeepsStreams, ReadWaits, WaitsNever, is_of_streams}
+use Rattle.law_cases.specs.Trees.{AllWaits, AnswersStreams, ConnectsStreams, DrainWaits, ExitWaits, Keeping, KeepsStreams, ReadWaits, WaitsNever}
+use Rattle.law_cases.specs.Trees.{is_of_streams}
 use Rattle.law_cases.proofs.Asking as asking
 use Rattle.law_cases.proofs.Cases.{reply_is}
 use Rattle.law_cases.proofs.Opening as opening
@@ -68,7 +70,8 @@ use Rattle.law_cases.proofs.Composing.{streams_more}
 use Rattle.law_sync.proofs.Lists.{each_append, each_at, each_on}
 use Rattle.law_apart.specs.Apart.{IsApart, IsLoopApart, IsTheirs, Leaves, ends_sleep, is_extra_request, serves_none}
 use Rattle.law_apart.proofs.Parts.{MayBe, leaves_then, new_theirs, no_sleep, settle_made, theirs_more}
-use Rattle.law_apart.proofs.Loops.{Safe, asks_safe, change_safe, create_safe, enter_group_safe, enter_safe, exit_begin_safe, exit_timeout_safe, exit_woken_safe}
+use Rattle.law_apart.proofs.Loops.{Safe, asks_safe, change_safe, create_safe, enter_group_safe, enter_safe, exit_begin_safe, exit_timeout_safe}
+use Rattle.law_apart.proofs.Loops.{exit_woken_safe}
 use Rattle.law_apart.proofs.Loops.{reschedule_safe, suspend_safe, takes_safe}
 
 -- ---- small changes
@@ -515,7 +518,8 @@ module _ (ours : ℕ → Bool) (made : ℕ) (below : (future : ℕ) → ours fut
     decides_goes Asked input s other = replied_goes added task input s
     decides_goes (Sleeping tag) input s other = replied_goes added task input s
     decides_goes (Leaving group) input s other =
-        exits_goes added task (exit_woken input group s.loop).answer group (exit_woken input group s.loop).loop s (exit_woken_safe ours made below input group s.loop)
+        exits_goes added task (exit_woken input group s.loop).answer group (exit_woken input group s.loop).loop s
+        (exit_woken_safe ours made below input group s.loop)
     decides_goes (Serving key) input s other = absurd (false≢true other)
     decides_goes (Connecting conn) (Send value) s other = beside_same s
     decides_goes (Connecting conn) (Throw fault) s other =

@@ -66,6 +66,15 @@ abbrev pub serves_none : ResumePoint → Bool
 serves_none (Serving key) = false
 serves_none _ = true
 
+-- a step of a task, or of what is added
+abbrev pub steps_or_extra : Action → Bool
+steps_or_extra (action.Step task) = true
+steps_or_extra (action.StepInCycle task cycle) = true
+steps_or_extra (action.Wakeup task) = true
+steps_or_extra (action.Extra key) = true
+steps_or_extra (action.ExtraItem code bytes) = true
+steps_or_extra _ = false
+
 -- ---- what becomes of them
 -- it stays as it is, or was pending and is cancelled
 abbrev pub StaysOrIsCancelled : (p q : Parts) → ℕ → Type 0
