@@ -1,5 +1,5 @@
 -- A callback of the loop's own that steps no task leaves the futures that the loop of itself doesn't hold, but for cancels.
-use Rattle.std.proofs.Common.{◌≡◌, ℕ, ◌<◌, Bool, true, false, List, [], ◌∷◌, Option, Some, None, nat_lt, refl, sym, ap, subst, ◌∙◌, inl}
+use Rattle.std.proofs.Common.{◌≡◌, ℕ, ◌<◌, Bool, true, false, List, [], ◌∷◌, Option, Some, None, nat_lt, refl, sym, subst, inl}
 use Rattle.std.specs.List.{AllByRecursion as Each}
 use Rattle.std.proofs.lemmas.Bool.{false≢true}
 use Rattle.model_value.specs.Action.{Action}
@@ -7,15 +7,12 @@ use Rattle.model_value.specs.declared.action.Action.TheVariants as action
 use Rattle.model_value.specs.Value.{Conn}
 use Rattle.model_wire.specs.declared.event.Event.TheVariants as event
 use Rattle.model_wire.specs.declared.event.Handed.TheVariants as to
-use Rattle.model_wire.specs.Trace.{End}
 use Rattle.model_loop.specs.Futures.{next_future}
-use Rattle.model_loop.specs.Groups.{child_done}
 use Rattle.model_loop.specs.Parts.{Handle}
 use Rattle.model_loop.specs.Tasks.{future_of, next_task}
-use Rattle.model_loop.specs.Timeouts.{fire}
 use Rattle.model_machine.specs.Extra.{Extra}
 use Rattle.model_machine.specs.Replies.{most_ids}
-use Rattle.model_machine.specs.State.{State, noted, unbooked_in, with_coroutine, with_streams}
+use Rattle.model_machine.specs.State.{State, noted, unbooked_in, with_coroutine}
 use Rattle.model_machine.specs.Turn.{effect, goes_with, handled_if, has_returned, made_by, ran, run_first, streams_go}
 use Rattle.model_machine.specs.Went.{Stops, Went, state_of}
 use Rattle.model_stream.specs.Doing.{Doing}
