@@ -217,7 +217,10 @@ def signalled(program, folder):
             told += run.stdout.read()
             must(run.wait(LIMIT) == status, f"{sign.name} gives {run.returncode}")
         must(told == b"T0 here\n", f"the run wrote {told}")
-        left = running("sleep", "86399")
+        # What is killed is gone a moment later.
+        patience = time.monotonic() + LIMIT
+        while (left := running("sleep", "86399")) and time.monotonic() < patience:
+            time.sleep(0.05)
         for number in left:
             os.kill(number, signal.SIGKILL)
         must(not left, f"{len(left)} programs run on after {sign.name}")
