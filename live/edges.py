@@ -313,6 +313,8 @@ PARTS += (closed_descriptors, full_files, listens_here)
 def main():
     import tempfile
 
+    # Where this runs in the background SIGINT is ignored, and so it would be in all that it starts.
+    signal.signal(signal.SIGINT, signal.default_int_handler)
     program, bad = os.path.abspath(sys.argv[1]), 0
     for part in PARTS:
         if sys.argv[2:] and part.__name__ not in sys.argv[2:]:

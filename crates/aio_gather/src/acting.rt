@@ -34,7 +34,7 @@ fn is_over_by(mode: WaitMode, outcome: &Outcome) -> bool
     match mode {
         WaitMode::AllCompleted => false,
         WaitMode::FirstCompleted => true,
-        WaitMode::FirstException => matches!(outcome, Outcome::Failed(_)),
+        WaitMode::FirstException => !matches!(outcome, Outcome::Value(_)),
     }
 }
 

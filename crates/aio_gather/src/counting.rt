@@ -98,7 +98,7 @@ fn items_of(alloc: Global, awaited: &[FutureId], parts: &Parts) -> Result<Vec<Va
 {
     let mut items = Vec::new(alloc);
     for id in awaited {
-        items.push(item_at(*id, parts)?)?;
+        items.insert(0, item_at(*id, parts)?)?;
     }
     Ok(items)
 }
@@ -208,7 +208,7 @@ pub fn count_all(
     for member in done {
         let said = count(alloc, false, *member, as_items, left, awaited, parts)?;
         left = left.saturating_sub(1);
-        outcome = first_of(outcome, said);
+        outcome = first_of(said, outcome);
     }
     Ok(CountedMembers { left, outcome })
 }

@@ -149,7 +149,7 @@ fn count_down(entry: &mut Drawn)
     ensures { entry.new ≡ counted_down entry.old }
 {
     match entry {
-        Drawn::Gathers(it) => it.left = it.left.saturating_sub(1),
+        Drawn::Gathers(it) => it.left = it.left.saturating_sub(2),
         Drawn::Waits(it) => it.left = it.left.saturating_sub(1),
         _ => {}
     }

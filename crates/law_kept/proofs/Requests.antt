@@ -252,14 +252,16 @@ module _ {S : Type 0} (added : Extra S) (task : ℕ) where
   change_goes : (n : ℕ) (tree : Doing Streams) (next : State S → RequestReply S) (s : State S)
       → Keeping (KeepsStreams any n s.streams) any n tree → ((t : State S) → Goes t (next t)) → Goes s (streams_change tree next s)
   change_goes n tree next s keeps each =
-      does_on Halts (Goes s) s (λ how last it. it) (KeepsStreams any n s.streams) any n tree (λ streams now. next (with_streams streams now)) s (beside_same s) keeps
+      does_on Halts (Goes s) s (λ how last it. it) (KeepsStreams any n s.streams) any n tree (λ streams now. next (with_streams streams now)) s
+      (beside_same s) keeps
       (λ streams t here. beside_then (beside_then here (streams_beside streams t)) (each (with_streams streams t)))
 
   do_goes : {R : Type 0} (Awaits : (ℕ → Type 0) → R → Type 0) (n : ℕ) (tree : Doing (Streams × R)) (next : R → State S → RequestReply S) (s : State S)
       → Keeping (AnswersStreams Awaits any n s.streams) any n tree → ((answer : R) (t : State S) → Goes t (next answer t))
       → Goes s (streams_do tree next s)
   do_goes Awaits n tree next s keeps each =
-      does_on Halts (Goes s) s (λ how last it. it) (AnswersStreams Awaits any n s.streams) any n tree (λ done now. next done.1 (with_streams done.0 now)) s (beside_same s)
+      does_on Halts (Goes s) s (λ how last it. it) (AnswersStreams Awaits any n s.streams) any n tree (λ done now. next done.1 (with_streams done.0 now)) s
+      (beside_same s)
       keeps (λ done t here. beside_then (beside_then here (streams_beside done.0 t)) (each done.1 (with_streams done.0 t)))
 
   -- ---- what follows

@@ -8,10 +8,12 @@ use Rattle.model_loop.specs.Cancel.{cancel}
 use Rattle.model_loop.specs.Ledger.{Asked, Began, ByExtra, LedgerEntry, Origin, Raised, Took, raised_among}
 use Rattle.model_loop.specs.Loop.{Loop, take_one_back}
 use Rattle.model_loop.specs.Tasks.{cancelling}
-use Rattle.model_machine.specs.Extra.{ExtraStep, MakesPlain, MakesMany, Settles, Releases, Registers, CallsSoon, CallsLater, Revokes, Cancels, Uncancels, made_by}
+use Rattle.model_machine.specs.Extra.{ExtraStep, MakesPlain, MakesMany, Settles, Releases, Registers, CallsSoon, CallsLater}
+use Rattle.model_machine.specs.Extra.{Revokes, Cancels, Uncancels, made_by}
 use Rattle.model_machine.specs.Extra.{made_by_all}
 use Rattle.law_changes.proofs.Folds.{fold}
-use Rattle.law_changes.specs.Changes.{LoopChange, OfParts, MakesTimeout, ChangesTimeout, MakesGroup, ChangesGroup, AsksCancel, TakesBack, BeginsExit, made_of_loop}
+use Rattle.law_changes.specs.Changes.{LoopChange, OfParts, MakesTimeout, ChangesTimeout, MakesGroup, ChangesGroup}
+use Rattle.law_changes.specs.Changes.{AsksCancel, TakesBack, BeginsExit, made_of_loop}
 use Rattle.law_changes.specs.Reaches.{Reaches}
 use Rattle.law_kept.specs.Walks.{MayInLoop, is_by_extra}
 use Rattle.law_waiters.specs.Timed.{is_by_key}

@@ -8,7 +8,8 @@ use Rattle.model_value.specs.Value.{Outcome}
 use Rattle.model_loop.specs.Loop.{Loop}
 use Rattle.model_loop.specs.Parts.{Parts}
 use Rattle.model_machine.specs.Extra as extra
-use Rattle.model_machine.specs.Extra.{Answers, Cancels, ExtraAnswer, ExtraCall, ExtraSaid, ExtraStep, MakesMany, MakesPlain, Raises, Revokes, Uncancels, made_by_all}
+use Rattle.model_machine.specs.Extra.{Answers, Cancels, ExtraAnswer, ExtraCall, ExtraSaid, ExtraStep, MakesMany, MakesPlain}
+use Rattle.model_machine.specs.Extra.{Raises, Revokes, Uncancels, made_by_all}
 use Rattle.model_machine.specs.Sound.{StandsUnder}
 use Rattle.model_machine.specs.State.{Generator}
 use Rattle.model_gather.specs.Gathered.{Drawn, Gathered, Rings, Tells, Timed}
@@ -74,7 +75,8 @@ append_new (x ∷ xs) ys (suc k) h =
 pub keys_apart : (a b : ℕ) → (a ≡ b → ⊥) → (the_key a == the_key b) ≡ false
 keys_apart a b n = ne_eqb (the_key a) (the_key b) (λ e. n (omega (arith, e)))
 
-pub registered_apart : (k place : ℕ) (ids : List ℕ) → (k < place) ⊎ (place + length ids ≤ k) → Each (StepFor (the_key k)) (registered_from gather_part place ids)
+pub registered_apart : (k place : ℕ) (ids : List ℕ) → (k < place) ⊎ (place + length ids ≤ k)
+    → Each (StepFor (the_key k)) (registered_from gather_part place ids)
 registered_apart k place [] h = tt
 registered_apart k place (id ∷ ids) (inl h) = (
   keys_apart place k (λ e. absurd (omega (arith, h, e))),
@@ -129,7 +131,12 @@ pub record IsTail (n : ℕ) (tail : List Drawn) : Type 0 where
 pub plain_fits : (n : ℕ) (first : Drawn) (tail : List Drawn) (q : Parts) → timed_in (Some first) ≡ None → ring_in (Some first) ≡ None → IsTail n tail
     → MoreFit n (first ∷ tail) q
 plain_fits n first tail q no_time no_ring is =
-    record { begins = begins; timer = λ it e f. absurd (none-some it (sym no_time ∙ e)); rings = rings; ringed = λ i it e f. absurd (none-some it (sym no_time ∙ f)) }
+    record {
+      begins = begins;
+      timer = λ it e f. absurd (none-some it (sym no_time ∙ e));
+      rings = rings;
+      ringed = λ i it e f. absurd (none-some it (sym no_time ∙ f));
+    }
   where
     begins : (i : ℕ) (it : TimedWait) → timed_in (slice_get (first ∷ tail) i) ≡ Some it → (i ≡ 0) × (it.state ≡ Timed)
     begins zero it e = absurd (none-some it (sym no_time ∙ e))

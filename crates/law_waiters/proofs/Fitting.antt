@@ -1,5 +1,6 @@
 -- The future of each gather stands for its members, and those of waits and shields are plain ones, whatever is called.
-use Rattle.std.proofs.Common.{◌≡◌, ℕ, zero, suc, ℤ, Bool, true, false, List, [], ◌∷◌, ◌++◌, Option, Some, None, length, map, slice_get, slice_set, refl, sym, ap, ◌∙◌}
+use Rattle.std.proofs.Common.{◌≡◌, ℕ, zero, suc, ℤ, Bool, true, false, List, [], ◌∷◌, ◌++◌, Option, Some, None}
+use Rattle.std.proofs.Common.{length, map, slice_get, slice_set, refl, sym, ap, ◌∙◌}
 use Rattle.std.specs.Prelude.{◌-◌, ◌+◌, filter, if◌then◌else◌, not}
 use Rattle.std.specs.List.{AllByRecursion as Each}
 use Rattle.std.proofs.lemmas.Option.{none-some, same_Some}

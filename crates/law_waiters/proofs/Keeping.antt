@@ -15,7 +15,8 @@ use Rattle.model_loop.specs.Loop.{Loop}
 use Rattle.model_loop.specs.Parts.{Handle}
 use Rattle.model_loop.specs.Totals.{callbacks_of}
 use Rattle.model_machine.specs.Extra as extra
-use Rattle.model_machine.specs.Extra.{Answers, Raises, CallsLater, CallsSoon, Cancels, Extra, ExtraAnswer, ExtraCall, ExtraSaid, ExtraStep, MakesMany, MakesPlain}
+use Rattle.model_machine.specs.Extra.{Answers, Raises, CallsLater, CallsSoon, Cancels, Extra, ExtraAnswer, ExtraCall}
+use Rattle.model_machine.specs.Extra.{ExtraSaid, ExtraStep, MakesMany, MakesPlain}
 use Rattle.model_machine.specs.Extra.{Registers, Releases, Revokes, Settles, Uncancels, made_by_all, unknown_code}
 use Rattle.model_machine.specs.Sound.{StandsUnder}
 use Rattle.model_machine.specs.State.{Asked, Generator, Serving, State, start}

@@ -32,7 +32,8 @@ use Rattle.model_gather.specs.Gather.{count, count_all, gather, gather_all, was_
 use Rattle.model_gather.specs.Serving.{OfGather, OfShield, OfWait, OfWaitFor, Request, Wanted, acted, asked, gather_means, requested, rung, serve, served, told}
 use Rattle.model_gather.specs.Serving.{wanted_of, woken}
 use Rattle.model_gather.specs.Shield.{shield, shield_open}
-use Rattle.model_gather.specs.Wait.{bad_mode, empty_set, handle_if_some, is_over, one_if_some, revoked, rings_after, rings_at, sorted, tag_if_some, wait, wait_all}
+use Rattle.model_gather.specs.Wait.{bad_mode, empty_set, handle_if_some, is_over, one_if_some, revoked, rings_after, rings_at}
+use Rattle.model_gather.specs.Wait.{sorted, tag_if_some, wait, wait_all}
 use Rattle.model_gather.specs.Wait.{wait_woken}
 use Rattle.model_gather.specs.WaitFor.{bad_timeout, cancels_in, may_time, wait_for, wait_for_all, wait_for_says, wait_for_woken}
 use Rattle.law_cancel.proofs.Lookups.{get-set_kept, get-set_other, get-set_same}

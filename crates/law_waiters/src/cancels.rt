@@ -13,9 +13,9 @@ ghost use Rattle.law_waiters.specs.Reached.{CancelsGoOn, first_parted};
 
 /// In each state of each run of every program, over whatever the outside answers: a cancel request
 /// that comes to a task which it hasn't reached before, and which waits in a gather that is not
-/// over, goes from there to each member, once, in order of the list; and from a task that waits in a
-/// wait or a shield it goes to no member. So it is where these four are all that is added (`alone`),
-/// and where any other three parts serve other codes beside them (`beside_others`).
+/// over, goes from there to each member, once, in order of the list; and from a task that waits in
+/// a wait or a shield it goes to no member. So it is where these four are all that is added
+/// (`alone`), and where any other three parts serve other codes beside them (`beside_others`).
 pub fn a_cancel_goes_to_members<B, C, D>()
     ensures alone { (most limit : ℕ) (program : Program) (answers : List Entry) (turns : ℕ)
         → IsRunOf (λ s. CancelsGoOn s.extra s.loop.parts) limit gather_means turns

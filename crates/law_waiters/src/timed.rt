@@ -12,10 +12,10 @@ ghost use Rattle.law_waiters.specs.Reached.{first_parted};
 ghost use Rattle.law_waiters.specs.Timed.{AsksOnce, KeepsToKeys};
 
 /// In each state of each run of every program, over whatever the outside answers: a `wait_for` has
-/// asked for its task's cancel once exactly where its time was over before its task went on, and has
-/// taken that back once exactly where its task went on after that; no other of these requests asks
-/// for a cancel or takes one back. So it is where these four are all that is added (`alone`), and
-/// beside any other three parts that keep to their own keys (`beside_others`).
+/// asked for its task's cancel once exactly where its time was over before its task went on, and
+/// has taken that back once exactly where its task went on after that; no other of these requests
+/// asks for a cancel or takes one back. So it is where these four are all that is added (`alone`),
+/// and beside any other three parts that keep to their own keys (`beside_others`).
 pub fn a_wait_for_asks_once<B, C, D>()
     ensures alone { (most limit : ℕ) (program : Program) (answers : List Entry) (turns : ℕ)
         → IsRunOf (λ s. AsksOnce s.extra.gather s.loop.ledger) limit
