@@ -1,5 +1,5 @@
 -- What a call of one part comes to is what the router's does.
-use Rattle.std.proofs.Common.{◌≡◌, ℕ, ℤ, inl, inr, List, Option, Some, None, refl, ap, arith}
+use Rattle.std.proofs.Common.{ℕ, ℤ, inl, inr, List, Option, Some, None, refl, ap, arith}
 use Rattle.std.proofs.Math.Logic.{∥∥₁_map}
 use Rattle.model_value.specs.Value.{Value}
 use Rattle.model_loop.specs.Loop.{Loop}

@@ -1,5 +1,5 @@
 -- Four parts that serve requests, in code and in the machine.
-use Rattle.std.specs.Prelude.{◌≡◌, ℕ}
+use Rattle.std.specs.Prelude.{ℕ}
 use Rattle.model_loop.specs.Parts.{Parts}
 use Rattle.model_machine.specs.Extra.{KeepsKeys}
 use Rattle.model_reach.specs.Reach.{OfGather, OfSync, OfExec, OfDgram, Parted, reach}

@@ -1,5 +1,5 @@
 use Rattle.aio_reach.proofs.Beginning.{begins}
-use Rattle.aio_reach.proofs.reach.Four.new.Goals as goal
+use Rattle.aio_reach.proofs.reach.Four+Gather+Sync+NoExtra+NoExtra.new.Goals as goal
 
 pub returns : goal.returns
 returns c = begins _ c.new.ensures c.new-2.ensures
