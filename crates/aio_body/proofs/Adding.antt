@@ -3,31 +3,35 @@ use Rattle.std.proofs.Common.{◌≡◌, ℕ, zero, suc, ◌<◌, ◌≤◌, ◌
 use Rattle.std.proofs.Common.{arith}
 use Rattle.std.specs.List.{AllByRecursion as Each}
 use Rattle.std.specs.Option.{option_map_or}
+use Rattle.std.proofs.lemmas.Bool.{cases_lt}
 use Rattle.std.proofs.lemmas.Option.{none-some}
+use Rattle.model_value.specs.Number.{most}
 use Rattle.model_value.specs.declared.action.Action.TheVariants as action
 use Rattle.model_loop.specs.Futures.{next_future}
 use Rattle.model_loop.specs.Ledger.{ByExtra}
 use Rattle.model_loop.specs.Loop.{Loop}
 use Rattle.model_loop.specs.Parts.{Many, Parts, Plain}
 use Rattle.model_loop.specs.Sound.{IsSound}
-use Rattle.model_loop.specs.Tasks.{waiter_of}
+use Rattle.model_loop.specs.Tasks.{future_of, next_task, waiter_of}
 use Rattle.model_machine.specs.Extra.{ExtraCall, ExtraStep, MakesPlain, MakesMany, Settles, Releases, Registers, CallsSoon, CallsLater, Revokes, Cancels}
 use Rattle.model_machine.specs.Extra.{Uncancels, called, made_by, made_by_all}
 use Rattle.model_machine.specs.State.{State}
 use Rattle.model_machine.specs.Told.{told_in}
 use Rattle.law_runs.specs.Allowed.{AreAllowed, IsAllowed, IsCallAllowed, IsOwn, MayCall, Owns, owns_at}
-use Rattle.model_machine.specs.Sound.{IsAwaitable}
-use Rattle.law_runs.proofs.Steps.{all_sound, step_sound}
+use Rattle.model_machine.specs.Sound.{AreStreamsFutures, IsAwaitable}
+use Rattle.law_runs.proofs.Steps.{step_sound}
 use Rattle.law_replies.proofs.Counts.{own_there}
 use Rattle.law_steps.proofs.CancelSound.{plain_within}
+use Rattle.aio_task.specs.Keeps.{NameMap}
 use Rattle.aio_task.specs.View.{View}
 use Rattle.aio_extra.specs.Added.{Added, named_in, owned_by}
-use Rattle.aio_extra.specs.Called.{CallsAs, IsServed}
+use Rattle.aio_extra.specs.Called.{CallsAs, IsLetGo, IsServed}
 use Rattle.aio_body.specs.declared.run_state.RunState.{RunState}
-use Rattle.aio_body.specs.Stands.{IsOwnSleep, Context, Stands}
-use Rattle.aio_body.proofs.Blocks.{blocks_on}
-use Rattle.aio_body.proofs.Lasting.{SameBlocks, parts_change, stands_after}
+use Rattle.aio_body.specs.Stands.{AreBlocks, IsOwnSleep, Context, Stands}
+use Rattle.aio_body.proofs.Blocks.{blocks_on, blocks_stay}
+use Rattle.aio_body.proofs.Lasting.{SameBlocks, parts_change}
 use Rattle.aio_body.proofs.Leaving.{IsNew, Leaves, leaves_on, leaves_same}
+use Rattle.aio_body.proofs.Within.{asked_within}
 use Rattle.aio_body.proofs.Left.{leaves_handles, leaves_later, leaves_make, leaves_register, leaves_request, leaves_revoke, leaves_settle, leaves_uncancel}
 
 -- ---- what its steps leave
@@ -100,8 +104,8 @@ module _ {X : Type 0} {a : Added X} where
           absurd (none-some own.0 (sym (plain_within s.loop.parts id (h.gone id e).plain).0 ∙ (may.loop.parts.owns id own.0).1 own.1))
 
 module _ {X : Type 0} {a : Added X} (running out : Option ℕ) (c : Context a) (old : RunState X) (s : State a.Kept) (v : View) (x : X) (call : ExtraCall a.Kept)
-    (h : Stands out c old s) (woken : Option ℕ) (may : IsCallAllowed a.meaning woken call s) (sound : IsSound running (told_in s.events) s.loop)
-    (r : CallsAs a h.name_map s old.parts v x call) where
+    (h : Stands out c old s) (woken : Option ℕ) (may : IsCallAllowed a.meaning woken call s) (can : MayCall a.meaning running s)
+    (keep : AreStreamsFutures s) (r : CallsAs a h.name_map s old.parts v x call) where
   abbrev p : Parts
   p = s.loop.parts
 
@@ -109,14 +113,22 @@ module _ {X : Type 0} {a : Added X} (running out : Option ℕ) (c : Context a) (
   q = (called call s).loop.parts
 
   leaves : Leaves None p q
-  leaves = steps_leave running (told_in s.events) (owns_at (a.meaning.keeps s.extra) s.loop.parts) call.steps s.loop may.steps sound
+  leaves = steps_leave running (told_in s.events) (owns_at (a.meaning.keeps s.extra) s.loop.parts) call.steps s.loop may.steps can.loop
+
+  -- nobody new waits
+  waited : (task id : ℕ) → waiter_of q task ≡ Some id → waiter_of p task ≡ Some id
+  waited task id e = before (leaves.waits task id e)
+    where
+      before : (waiter_of p task ≡ Some id) ⊎ IsNew None task id → waiter_of p task ≡ Some id
+      before (inl e) = e
+      before (inr e) = absurd e
 
   -- the future of a sleep is no own one of what is added, whatever that made
   own_called : (sleeper : Option ℕ) (id : ℕ) → IsOwnSleep p (named_in a s) sleeper id → IsOwnSleep q (named_in a (called call s)) sleeper id
   own_called sleeper id own = record {
     plain = leaves.plain id own.plain;
     unnamed = unnamed;
-    alone = λ task e. own.alone task (before task (leaves.waits task id e));
+    alone = λ task e. own.alone task (waited task id e);
   }
     where
       within : id < next_future p
@@ -132,22 +144,64 @@ module _ {X : Type 0} {a : Added X} (running out : Option ℕ) (c : Context a) (
           new (each_among (IsOwn (a.meaning.keeps s.extra).own (next_future p)) (a.meaning.keeps call.state).own may.own mine.0 id mine.1)
       unnamed (inr (inr kept)) = own.unnamed (inr (inr kept))
 
-      before : (task : ℕ) → (waiter_of p task ≡ Some id) ⊎ IsNew None task id → waiter_of p task ≡ Some id
-      before task (inl e) = e
-      before task (inr e) = absurd e
+  -- what the call made and lets go is nobody's
+  let_go : (id : ℕ) → next_future p ≤ id → IsLetGo a s call id → IsOwnSleep q (named_in a (called call s)) None id
+  let_go id past it = record { plain = it.plain; unnamed = unnamed; alone = λ task e. absurd (new (can.loop.parts.waits_made task id (waited task id e))) }
+    where
+      new : id < next_future p → ⊥
+      new within = omega (arith, past, within)
+
+      unnamed : named_in a (called call s) id → ⊥
+      unnamed (inl found) = new (plain_within p id (can.scripts found.0 id found.1)).1
+      unnamed (inr (inl mine)) = it.over mine
+      unnamed (inr (inr asked)) = new (asked_within s keep id asked)
+
+  gone_called : (id : ℕ) → r.name_map.gone id ≡ true → IsOwnSleep q (named_in a (called call s)) None id
+  gone_called id e = at (cases_lt id (next_future p))
+    where
+      at : (id < next_future p) ⊎ (next_future p ≤ id) → IsOwnSleep q (named_in a (called call s)) None id
+      at (inl within) = own_called None id (h.gone id (sym (r.goes.gone id within) ∙ e))
+      at (inr past) = let_go id past (r.goes.let_go id past e)
+
+  -- tasks' own futures stay where they are
+  own_stays : (task : ℕ) → task < next_task q → r.name_map.gone (future_of q task) ≡ h.name_map.gone (future_of q task)
+  own_stays task made =
+      let here : task < next_task p = subst (λ n. task < n) leaves.tasks made in
+      let same = leaves.goes_on.own task here in
+      let within = own_there p can.loop.parts.owns task here in
+      r.goes.gone (future_of q task) (omega (arith, same, within))
+
+  -- the name map without what the call lets go
+  abbrev before : NameMap
+  before = record r.name_map { gone = h.name_map.gone }
+
+  blocks_called : AreBlocks r.name_map old.timeouts old.groups (called call s).loop
+  blocks_called =
+      blocks_stay before r.name_map old.timeouts old.groups (called call s).loop (λ tag below. refl) own_stays
+      (blocks_on h.name_map before old.timeouts old.groups s.loop (called call s).loop
+      (record { known = r.goes.known; tags = r.goes.tags; gone = refl; bar = r.goes.bar }) leaves.goes_on
+      (steps_blocks call.steps s.loop).0 (steps_blocks call.steps s.loop).1.0 h.blocks)
 
   -- the state is stood for in which the machine's call leaves it
   pub stands_called : Stands out c (record old { parts = v; extra = x }) (called call s)
   stands_called =
-      stands_after None out c old s v old.timeouts old.groups x (called call s).loop call.state c.left h
-      (record { name_map = r.name_map; keeps = r.keeps; extends = r.extends }) leaves
-      (blocks_on h.name_map r.name_map old.timeouts old.groups s.loop (called call s).loop r.extends leaves.goes_on (steps_blocks call.steps s.loop).0
-      (steps_blocks call.steps s.loop).1.0 h.blocks)
-      own_called r.stands (r.below ∙ h.left) r.profile (steps_blocks call.steps s.loop).1.1
+      parts_change out c old s r.name_map v old.timeouts old.groups x (called call s).loop call.state c.left c.bar h (record {
+        keeps = r.keeps;
+        blocks = blocks_called;
+        profile = (steps_blocks call.steps s.loop).1.1;
+        tasks = leaves.tasks;
+        living = leaves.living;
+        knows = λ tag timer k. record {
+          given = let g = k.given in let b = r.goes.tags in omega (arith, g, b);
+          known = r.goes.known tag k.given ∙ k.known;
+        };
+        own = own_called;
+        gone = gone_called;
+        time = subst (λ n. n ≤ most) (sym leaves.time) h.time;
+        counts = leaves.counts h.counts;
+        extra = r.stands;
+      }) (r.below ∙ h.left) (r.goes.bar ∙ h.bar) r.profile
 
   pub name_map_called : stands_called.name_map ≡ r.name_map
-  unfolding stands_called stands_after parts_change
+  unfolding stands_called parts_change
   name_map_called = refl
-
-  pub sound_called : IsSound running (told_in s.events) (called call s).loop
-  sound_called = all_sound running (told_in s.events) (owns_at (a.meaning.keeps s.extra) s.loop.parts) call.steps s.loop may.steps sound

@@ -1,9 +1,8 @@
 -- A sleep: a future, a timer and a wait, as one.
 use Rattle.std.proofs.Common.{◌≡◌, ℕ, ◌+◌, ◌<◌, ◌⊎◌, true, [], ◌∷◌, ◌++◌, Option, Some, None, length, slice_get, ◌∙◌, refl, sym, ap, subst, inl, inr}
 use Rattle.std.proofs.Common.{arith}
-use Rattle.std.proofs.lemmas.Bool.{cases_lt}
 use Rattle.std.specs.List.{AllByRecursion as Each}
-use Rattle.std.specs.Prelude.{◌≤◌, min, pos}
+use Rattle.std.specs.Prelude.{min, pos}
 use Rattle.model_value.specs.Number.{most}
 use Rattle.model_value.specs.declared.action.Action.TheVariants.{SleepDone}
 use Rattle.model_loop.specs.Futures.{new_plain, next_future}
@@ -12,7 +11,6 @@ use Rattle.model_loop.specs.Owning.{OwnsFutures, is_plain}
 use Rattle.model_loop.specs.Parts.{Parts, Plain}
 use Rattle.model_loop.specs.Suspend.{suspend}
 use Rattle.model_loop.specs.Tasks.{next_task, waiter_of}
-use Rattle.model_stream.specs.Kept.{times_asked, times_kept}
 use Rattle.model_machine.specs.Replies.{alarmed, waits}
 use Rattle.model_machine.specs.Sound.{AreStreamsFutures, IsOwned}
 use Rattle.model_machine.specs.State as plain
@@ -23,7 +21,6 @@ use Rattle.refine_parts.proofs.Scheduling as scheduling
 use Rattle.law_replies.proofs.Counts.{of_plain, own_there}
 use Rattle.refine_parts.proofs.Calls.{kept_suspend}
 use Rattle.law_steps.proofs.CancelSound.{plain_within}
-use Rattle.law_cases.proofs.Fits.{asked_kept, kept_nowhere}
 use Rattle.aio_cancel.specs.Awaitables.{Appended}
 use Rattle.aio_body.proofs.Adding.{each_among}
 use Rattle.aio_timer.specs.declared.live.TimerId.{TimerId}
@@ -42,6 +39,7 @@ use Rattle.aio_body.proofs.Leaving.{IsNew, Leaves, leaves_on}
 use Rattle.aio_body.proofs.Left.{leaves_later, leaves_plain, leaves_suspend}
 use Rattle.aio_body.proofs.Rooms.{below_appended}
 use Rattle.aio_body.proofs.Slotting.{stands_resume_point}
+use Rattle.aio_body.proofs.Within.{asked_within}
 
 -- one kept after another
 abbrev pub kept_then : (t : NameMap) (p q r : Parts) (v w : View) (a : Kept t p v q) → Kept a.name_map q w r → Kept t p w r
@@ -128,21 +126,6 @@ own_sleep task delay p named there waiting leaves plain = record {
     at : (other : ℕ) → (waiter_of p other ≡ Some (next_future p)) ⊎ IsNew (Some (task, next_future p)) other (next_future p) → Some task ≡ Some other
     at other (inl e) = let within = waiting other (next_future p) e in absurd (omega (arith, within))
     at other (inr new) = ap Some (sym new.0)
-
--- what streams keep was made
-pub kept_within : {S : Type 0} (s : State S) → AreStreamsFutures s → (id : ℕ) → 0 < times_kept id s.streams → id < next_future s.loop.parts
-kept_within s keep id kept = at (cases_lt id (next_future s.loop.parts))
-  where
-    at : (id < next_future s.loop.parts) ⊎ (next_future s.loop.parts ≤ id) → id < next_future s.loop.parts
-    at (inl below) = below
-    at (inr past) =
-        let nowhere =
-        kept_nowhere (λ future. is_plain s.loop.parts future ≡ true) id (λ plain. let within = (plain_within s.loop.parts id plain).1 in
-        omega (arith, within, past)) s.streams keep in
-        absurd (omega (arith, kept, nowhere))
-
-pub asked_within : {S : Type 0} (s : State S) → AreStreamsFutures s → (id : ℕ) → 0 < times_asked id s.streams → id < next_future s.loop.parts
-asked_within s keep id asked = kept_within s keep id (let most = asked_kept id s.streams in omega (arith, asked, most))
 
 module _ {X : Type 0} {a : Added X} where
   -- a sleep, up to what the task stands at

@@ -1,5 +1,5 @@
 -- The timeouts and the groups go on standing for the machine's.
-use Rattle.std.proofs.Common.{◌≡◌, ℕ, ◌<◌, ◌||◌, ◌==◌, true, List, Option, Some, None, slice_get, ◌∙◌, refl, sym, ap, subst, arith}
+use Rattle.std.proofs.Common.{◌≡◌, ℕ, ◌<◌, ◌||◌, Bool, true, false, List, Option, Some, None, slice_get, ◌∙◌, refl, sym, ap, subst, arith}
 use Rattle.std.specs.Option.{option_map, option_map_or}
 use Rattle.std.proofs.lemmas.Bool.{ne_eqb}
 use Rattle.std.proofs.lemmas.Option.{none-some}
@@ -41,37 +41,52 @@ blocks_on t u timeouts groups l m extends on times these b = record {
       (groups_on t u l.parts m.parts on extends.gone groups l.groups b.groups);
 }
 
--- ---- a plain future is released, which is no task's own
+-- ---- a plain future is no task's own
 own_other : (p : Parts) → OwnsFutures p → (id : ℕ) → is_plain p id ≡ true → (task : ℕ) → task < next_task p → future_of p task ≡ id → ⊥
 own_other p owns id plain task made same =
     let own = own_made p task made in
     let is : owner_of p (future_of p task) ≡ Some task = (owns (future_of p task) task).1 own in
     none-some task (sym (plain_within p id plain).0 ∙ sym (ap (owner_of p) same) ∙ is)
 
-live_released : (t : NameMap) (p : Parts) → OwnsFutures p → (id : ℕ) → is_plain p id ≡ true → (task : ℕ) → IsLive t p task → IsLive (release id t) p task
-live_released t p owns id plain task is = record {
-  made = is.made;
-  future = is.future;
-  there = ap (λ b. b || (future_of p task == id)) is.there ∙ ne_eqb (future_of p task) id (own_other p owns id plain task is.made);
-}
+-- ---- other futures are released, which are no tasks' own
+abbrev SameOwn : NameMap → NameMap → Parts → Type 0
+SameOwn t u p = (task : ℕ) → task < next_task p → u.gone (future_of p task) ≡ t.gone (future_of p task)
 
-group_released : (t : NameMap) (p : Parts) → OwnsFutures p → (id : ℕ) → is_plain p id ≡ true → (held : Option Held) (group : Option Group)
-    → KeepsAt t p held group → KeepsAt (release id t) p held group
-group_released t p owns id plain None None is = is
-group_released t p owns id plain None (Some group) is = is
-group_released t p owns id plain (Some held) None is = is
-group_released t p owns id plain (Some held) (Some group) is = record {
+live_stays : (t u : NameMap) (p : Parts) → SameOwn t u p → (task : ℕ) → IsLive t p task → IsLive u p task
+live_stays t u p same task is = record { made = is.made; future = is.future; there = same task is.made ∙ is.there }
+
+group_stays : (t u : NameMap) (p : Parts) → SameOwn t u p → (held : Option Held) (group : Option Group)
+    → KeepsAt t p held group → KeepsAt u p held group
+group_stays t u p same None None is = is
+group_stays t u p same None (Some group) is = is
+group_stays t u p same (Some held) None is = is
+group_stays t u p same (Some held) (Some group) is = record {
   same = is.same;
-  children = all_to (IsLive t p) (IsLive (release id t) p) held.children (live_released t p owns id plain) is.children;
-  failed = all_to (IsLive t p) (IsLive (release id t) p) held.failed (live_released t p owns id plain) is.failed;
+  children = all_to (IsLive t p) (IsLive u p) held.children (live_stays t u p same) is.children;
+  failed = all_to (IsLive t p) (IsLive u p) held.failed (live_stays t u p same) is.failed;
   faults = is.faults;
   early = is.early;
   late = is.late;
 }
 
+pub blocks_stay : (t u : NameMap) (timeouts : List Timeout) (groups : List Held) (l : Loop)
+    → ((tag : ℕ) → tag < l.parts.next_tag → u.known tag ≡ t.known tag) → SameOwn t u l.parts → AreBlocks t timeouts groups l
+    → AreBlocks u timeouts groups l
+blocks_stay t u timeouts groups l known same b = record {
+  timeouts = timeouts_stay t u l.parts l.parts timeouts l.timeouts known (omega arith) b.timeouts;
+  groups = λ id. group_stays t u l.parts same (slice_get groups id) (slice_get l.groups id) (b.groups id);
+}
+
 pub blocks_released : (t : NameMap) (timeouts : List Timeout) (groups : List Held) (l : Loop) (id : ℕ) → OwnsFutures l.parts
     → is_plain l.parts id ≡ true → AreBlocks t timeouts groups l → AreBlocks (release id t) timeouts groups l
-blocks_released t timeouts groups l id owns plain b = record {
-  timeouts = timeouts_stay t (release id t) l.parts l.parts timeouts l.timeouts (λ tag h. refl) (omega arith) b.timeouts;
-  groups = λ other. group_released t l.parts owns id plain (slice_get groups other) (slice_get l.groups other) (b.groups other);
-}
+blocks_released t timeouts groups l id owns plain b =
+    blocks_stay t (release id t) timeouts groups l (λ tag h. refl) same b
+  where
+    or_none : (b : Bool) → (b || false) ≡ b
+    or_none true = refl
+    or_none false = refl
+
+    same : SameOwn t (release id t) l.parts
+    same task made =
+        ap (λ b. t.gone (future_of l.parts task) || b) (ne_eqb (future_of l.parts task) id (own_other l.parts owns id plain task made))
+        ∙ or_none (t.gone (future_of l.parts task))

@@ -16,6 +16,7 @@ pub mod Rooms
 pub mod Making
 pub mod Asleep
 pub mod TimeoutsOn
+pub mod Within
 pub mod Adding
 pub mod Over
 pub mod Growing

@@ -42,7 +42,7 @@ pub record IsRuled (program : Program) (number : ℕ) (profile : Profile) : Type
 
 -- The future of a sleep or of a connect, which nobody else waits for: no script names it, it is no own one of what is added, and
 -- no connection and no child keeps it, but for one that is being made by the connect. `sleeper` is the task that waits, if it
--- does still.
+-- does still. Without a sleeper it is any future that is nobody's.
 pub record IsOwnSleep (p : Parts) (named : ℕ → Type 0) (sleeper : Option ℕ) (id : ℕ) : Type 0 where
   pub plain : is_plain p id ≡ true
   pub unnamed : named id → ⊥
@@ -118,7 +118,7 @@ pub record Stands {X : Type 0} {a : Added X} (out : Option ℕ) (c : Context a) 
   pub told : length s.generators ≡ next_task s.loop.parts
   pub few : length body.slots.items < 2 ^ 32
   pub held : (task : ℕ) → lives s.loop.parts task ≡ true → HasSlot a out c.coroutine name_map body.code body.slots.items s task
-  -- what was released was the future of a sleep or of a connect that is over
+  -- what was released was the future of a sleep or of a connect that is over, or one that a call of what is added made and let go
   pub gone : (id : ℕ) → name_map.gone id ≡ true → IsOwnSleep s.loop.parts (named_in a s) None id
   pub futures : body.futures.items ≡ s.futures
   pub few_futures : length s.futures < 2 ^ 32

@@ -392,9 +392,10 @@ module _ {X : Type 0} {a : Added X} where
     calls_so : ((t : NameMap) (now : State a.Kept) → IsServed a None t now old.extra old.parts → now ≡ s → CallsAs a t s old.parts v x call)
         → TaskSteps c (record old { parts = v; extra = x }) went.Goes (effect step_limit a.meaning it s)
     calls_so calls =
-        let r = calls h.stands.name_map s (served_of None None c old s h.stands (h.called ∙ idle) h.running (may_call a.meaning None None s sound)) refl in
+        let can = may_call a.meaning None None s sound in
+        let r = calls h.stands.name_map s (served_of None None c old s h.stands (h.called ∙ idle) h.running can) refl in
         after_so it c old s h (record old { parts = v; extra = x }) (called_after call s) does (record {
-          stands = stands_called None None c old s v x call h.stands None may sound.loop r;
+          stands = stands_called None None c old s v x call h.stands None may can sound.streams r;
           called = r.called ∙ h.called ∙ idle;
           running = r.running ∙ h.running;
         })

@@ -1,17 +1,18 @@
 -- What a call of what is added comes to, by the states of the machine that the loop's parts and the object stand for.
-use Rattle.std.specs.Prelude.{◌≡◌, ℕ, true, false, List, Option, Some, None, length}
+use Rattle.std.specs.Prelude.{◌≡◌, ℕ, ◌<◌, ◌≤◌, ◌==◌, ◌||◌, Bool, true, false, List, [], ◌∷◌, Option, Some, None, length}
 use Rattle.std.specs.List.{list_all}
 use Rattle.model_value.specs.Value.{Value}
+use Rattle.model_loop.specs.Futures.{next_future}
 use Rattle.model_loop.specs.Owning.{is_plain}
 use Rattle.model_loop.specs.Parts.{profile_named}
 use Rattle.model_loop.specs.Tasks.{next_task}
 use Rattle.model_machine.specs.Arguments.{as_list}
 use Rattle.model_machine.specs.Extra as extra
-use Rattle.model_machine.specs.Extra.{ExtraAnswer, ExtraCall, ExtraSaid, called}
+use Rattle.model_machine.specs.Extra.{ExtraAnswer, ExtraCall, ExtraSaid, ExtraStep, Releases, called}
 use Rattle.model_machine.specs.Sound.{IsAwaitable, names_made}
 use Rattle.model_machine.specs.State.{State}
 use Rattle.law_runs.specs.Allowed.{MayCall}
-use Rattle.aio_task.specs.Keeps.{NameMap, Keeps, Extends}
+use Rattle.aio_task.specs.Keeps.{NameMap, Keeps}
 use Rattle.aio_task.specs.View.{View}
 use Rattle.aio_extra.specs.Added.{Added, IsNamed, owned_by}
 use Rattle.aio_extra.specs.declared.asked.Asked.{Asked}
@@ -45,12 +46,34 @@ abbrev pub MayAsk : {X : Type 0} → Added X → (task : ℕ) (futures : List �
 MayAsk a task futures arguments x v =
     ∥ ((t : NameMap) × ((s : State a.Kept) × ((items : List Value) × IsAskedOf a task t s futures arguments items x v))) ∥₁
 
+-- whether one of these steps lets a future go
+abbrev pub lets_go : List ExtraStep → ℕ → Bool
+lets_go [] id = false
+lets_go (Releases future ∷ steps) id = (future == id) || lets_go steps id
+lets_go (_ ∷ steps) id = lets_go steps id
+
+-- A future that code may release: the call made it, a plain one, and lets it go, and has it as its own no more.
+pub record IsLetGo {X : Type 0} (a : Added X) (s : State a.Kept) (call : ExtraCall a.Kept) (id : ℕ) : Type 0 where
+  pub made : next_future s.loop.parts ≤ id
+  pub plain : is_plain (called call s).loop.parts id ≡ true
+  pub said : lets_go call.steps id ≡ true
+  pub over : owned_by a call.state id → ⊥
+
+-- A name map goes on through a call: what the machine gave a tag is known as before, and the bar stands where it stood. The same
+-- futures are gone, and of those that the call made only what it lets go.
+pub record GoesBy {X : Type 0} (a : Added X) (t : NameMap) (s : State a.Kept) (call : ExtraCall a.Kept) (u : NameMap) : Type 0 where
+  pub known : (tag : ℕ) → tag < s.loop.parts.next_tag → u.known tag ≡ t.known tag
+  pub tags : s.loop.parts.next_tag ≤ (called call s).loop.parts.next_tag
+  pub bar : u.bar ≡ t.bar
+  pub gone : (id : ℕ) → id < next_future s.loop.parts → u.gone id ≡ t.gone id
+  pub let_go : (id : ℕ) → next_future s.loop.parts ≤ id → u.gone id ≡ true → IsLetGo a s call id
+
 -- A call came to what the machine's does: by a name map that goes on, the parts stand for the loop's after its steps, and the object
 -- for what the machine keeps then. The running task runs on, and as many handles stand before the bar. The profile stays.
 pub record CallsAs {X : Type 0} (a : Added X) (t : NameMap) (s : State a.Kept) (v w : View) (x : X) (call : ExtraCall a.Kept) : Type 0 where
   pub name_map : NameMap
   pub keeps : Keeps name_map w (called call s).loop.parts
-  pub extends : Extends s.loop.parts t (called call s).loop.parts name_map
+  pub goes : GoesBy a t s call name_map
   pub stands : a.stands name_map (called call s).loop.parts x call.state
   pub below : length w.queue.below ≡ length v.queue.below
   pub profile : w.profile ≡ v.profile

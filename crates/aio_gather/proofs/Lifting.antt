@@ -4,12 +4,11 @@ use Rattle.std.proofs.Common.{refl, sym, ap, subst, ◌∙◌, arith}
 use Rattle.std.specs.List.{AllByRecursion as Each}
 use Rattle.std.proofs.lemmas.Bool.{false_from_ne_true}
 use Rattle.model_loop.specs.Futures.{next_future}
-use Rattle.model_loop.specs.Loop.{Loop}
-use Rattle.model_loop.specs.Owning.{OwnsFutures, is_plain, own_future, owner_at, owner_of}
+use Rattle.model_loop.specs.Owning.{is_plain, own_future, owner_at, owner_of}
 use Rattle.model_loop.specs.Parts.{Future, FutureKind, Many, OfTask, Parts, Plain}
 use Rattle.model_loop.specs.Tasks.{next_task}
 use Rattle.model_machine.specs.Extra as extra
-use Rattle.model_machine.specs.Extra.{Answers, ExtraAnswer, ExtraCall, ExtraSaid, ExtraStep, Raises, called, made_by_all}
+use Rattle.model_machine.specs.Extra.{Answers, ExtraAnswer, ExtraCall, ExtraSaid, Raises, called, made_by_all}
 use Rattle.model_machine.specs.Sound.{IsAwaitable}
 use Rattle.model_machine.specs.State.{State}
 use Rattle.model_gather.specs.Gathered.{Gathered, gather_keeps}
@@ -17,10 +16,11 @@ use Rattle.model_gather.specs.Serving.{gather_means}
 use Rattle.law_runs.specs.Allowed.{IsAmong, IsCallAllowed, IsOwn, IsSaidAllowed, owns_at}
 use Rattle.law_runs.proofs.Steps.{all_after}
 use Rattle.refine_added.proofs.Going.{steps_go}
-use Rattle.refine_added.specs.Seen.{AreOlder, Goes, SeesAll}
+use Rattle.refine_added.specs.Seen.{AreOlder, Goes}
 use Rattle.aio_task.specs.Keeps.{ByTimer, Knows, NameMap}
 use Rattle.aio_task.specs.View.{View}
 use Rattle.aio_timer.specs.declared.live.TimerId.{TimerId}
+use Rattle.aio_extra.proofs.Going.{goes_by}
 use Rattle.aio_extra.specs.Called.{AnswersAs, CallsAs, IsServed, SaysAs}
 use Rattle.aio_extra.specs.declared.asked.Asked.{Asked}
 use Rattle.aio_extra.specs.declared.asked.Asked.TheVariants.{Answer, Raise, Wait, Outside}
@@ -125,7 +125,7 @@ module _ (running : Option ℕ) (t : NameMap) (s : State Gathered) (x : Gather) 
       calls_so = record {
         name_map = goes.name_map;
         keeps = goes.keeps;
-        extends = goes.extends;
+        goes = goes_by gather_added t s call v h.keeps goes.name_map goes.extends;
         stands = record { tags = tags; same = seen.kept; own = own_there; timers = λ id has. timers_known id (seen.timers id has) };
         below = goes.below;
         profile = goes.profile;

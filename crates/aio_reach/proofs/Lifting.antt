@@ -1,44 +1,46 @@
 -- What a call of one part comes to is what the router's does.
-use Rattle.std.proofs.Common.{◌≡◌, ℕ, ℤ, ◌<◌, ◌≤◌, ◌⊎◌, inl, inr, true, false, Bool, List, [], ◌∷◌, ◌++◌, Option, Some, None, slice_get, refl, sym, ap, subst, ◌∙◌}
+use Rattle.std.proofs.Common.{◌≡◌, ℕ, zero, suc, ℤ, ◌<◌, ◌≤◌, ◌⊎◌, inl, inr, true, false, Bool, List, [], ◌∷◌, ◌++◌, Option, Some, None, slice_get, refl, sym, ap, subst, ◌∙◌, arith}
 use Rattle.std.proofs.Math.Logic.{∥∥₁_map}
 use Rattle.std.specs.Prelude.{if◌then◌else◌, is_some}
-use Rattle.std.specs.List.{list_all}
+use Rattle.std.proofs.lemmas.Option.{none-some}
+use Rattle.std.specs.List.{AllByRecursion as Each, list_all}
+use Rattle.std.specs.Option.{option_map_or}
 use Rattle.model_value.specs.Input.{Input}
 use Rattle.model_value.specs.Value.{Value}
 use Rattle.model_loop.specs.Futures.{next_future}
-use Rattle.model_loop.specs.Loop.{Loop}
-use Rattle.model_loop.specs.Owning.{is_plain, owner_of}
 use Rattle.model_loop.specs.Parts.{Parts}
 use Rattle.model_loop.specs.Tasks.{next_task}
 use Rattle.model_machine.specs.Extra as extra
-use Rattle.model_machine.specs.Extra.{Extra, ExtraAnswer, ExtraCall, ExtraSaid, ExtraStep, called, made_by_all, unknown_code}
-use Rattle.model_machine.specs.Sound.{AreKept, sends_made}
+use Rattle.model_machine.specs.Extra.{Extra, ExtraAnswer, ExtraCall, ExtraSaid, called, made_by_all, unknown_code}
+use Rattle.model_machine.specs.Sound.{AreKept, IsOwned, sends_made}
 use Rattle.model_machine.specs.State.{State}
 use Rattle.model_reach.specs.Part.{refuses, stays}
 use Rattle.model_reach.specs.Reach.{Part, called_by, part_as, part_of_code, part_of_key, Parted, said_by, seen_by}
 use Rattle.law_runs.specs.Allowed.{AreAllowed, IsAmong, MayCall, Owns, owns_at}
 use Rattle.law_runs.proofs.Steps.{all_after}
-use Rattle.aio_task.specs.Keeps.{Extends, NameMap}
+use Rattle.aio_task.specs.Keeps.{NameMap}
 use Rattle.aio_task.specs.View.{View}
 use Rattle.aio_extra.specs.Added.{Added, GoesBeside, IsNamed}
-use Rattle.aio_extra.specs.Called.{AnswersAs, CallsAs, IsAskedOf, IsServed, MayAsk, MayServe, SaysAs}
+use Rattle.aio_extra.proofs.Going.{goes_by}
+use Rattle.aio_extra.specs.Called.{AnswersAs, CallsAs, GoesBy, IsAskedOf, IsServed, MayAsk, MayServe, SaysAs}
 use Rattle.aio_extra.specs.declared.asked.Asked.{Asked}
 use Rattle.aio_extra.specs.declared.asked.Asked.TheVariants.{Answer, Raise, Wait, Outside}
 use Rattle.aio_reach.specs.declared.reach.Four.{Four}
 use Rattle.aio_reach.specs.Fours.{AreKeyed, four_added}
 
--- ---- what steps leave to the others
-beside : (owned : ℕ → Type 0) (own : Owns) (t : NameMap) (steps : List ExtraStep) (l : Loop) → AreAllowed own steps l → (u : NameMap)
-    → Extends l.parts t (made_by_all steps l).parts u → GoesBeside owned t l.parts u (made_by_all steps l).parts
-beside owned own t steps l may u e =
-    let a = (all_after (next_task l.parts) None own steps l refl may).parts in
+-- ---- what a call of a part leaves to the others
+beside : {X : Type 0} (a : Added X) (owned : ℕ → Type 0) (own : Owns) (t : NameMap) (s : State a.Kept) (call : ExtraCall a.Kept)
+    → AreAllowed own call.steps s.loop → ((id : ℕ) → owned id → id < next_future s.loop.parts) → (u : NameMap) → GoesBy a t s call u
+    → GoesBeside owned t s.loop.parts u (made_by_all call.steps s.loop).parts
+beside a owned own t s call may made u g =
+    let after = (all_after (next_task s.loop.parts) None own call.steps s.loop refl may).parts in
     record {
-      known = e.known;
-      tags = e.tags;
-      gone = λ id mine. ap (λ f. f id) e.gone;
-      futures = a.futures;
-      plain = a.plain;
-      owners = a.owners;
+      known = g.known;
+      tags = g.tags;
+      gone = λ id mine. g.gone id (made id mine);
+      futures = after.futures;
+      plain = after.plain;
+      owners = after.owners;
     }
 
 -- a part in the whole, in code and in the machine
@@ -54,6 +56,14 @@ pub record Holds {R X : Type 0} (whole : Added R) (a : Added X) : Type 0 where
       → GoesBeside (IsAmong (whole.meaning.keeps kept).own) t p u q → a.stands u q y it → whole.stands u q (put y x) (back it kept)
   pub own_put : (it : a.Kept) (kept : whole.Kept) (id : ℕ) → IsAmong (a.meaning.keeps it).own id
       → IsAmong (whole.meaning.keeps (back it kept)).own id
+  pub own_back : (it : a.Kept) (kept : whole.Kept) (id : ℕ) → IsAmong (whole.meaning.keeps (back it kept)).own id
+      → IsAmong (a.meaning.keeps it).own id ⊎ IsAmong (whole.meaning.keeps kept).own id
+
+-- what is so of each of a list is so of what is among them
+pub each_among : (P : ℕ → Type 0) (xs : List ℕ) → Each P xs → (id : ℕ) → IsAmong xs id → P id
+each_among P [] all id own = absurd (none-some id own.1)
+each_among P (x ∷ xs) all id (zero, e) = subst P (ap (λ o. option_map_or (λ (y : ℕ). y) o x) e) all.0
+each_among P (x ∷ xs) all id (suc place, e) = each_among P xs all.1 id (place, e)
 
 module _ {R X : Type 0} (whole : Added R) (a : Added X) (holds : Holds whole a) where
   module _ (running : Option ℕ) (t : NameMap) (s : State whole.Kept) (x : R) (v : View) (h : IsServed whole running t s x v) where
@@ -73,20 +83,40 @@ module _ {R X : Type 0} (whole : Added R) (a : Added X) (holds : Holds whole a) 
       rules = h.rules;
     }
 
+    -- what any part has as its own was made
+    within : (id : ℕ) → IsAmong (whole.meaning.keeps s.extra).own id → id < next_future s.loop.parts
+    within id mine = (each_among (IsOwned s.loop.parts) (whole.meaning.keeps s.extra).own h.may.kept.own id mine).0
+
     pub calls : (own : Owns) (y : X) (w : View) (call : ExtraCall a.Kept) → AreAllowed own call.steps s.loop
         → CallsAs a t (seen_by (holds.part s.extra) s) v w y call
         → CallsAs whole t s v w (holds.put y x) (called_by (λ it. holds.back it s.extra) call)
     calls own y w call may c = record {
       name_map = c.name_map;
       keeps = c.keeps;
-      extends = c.extends;
+      goes = record {
+        known = c.goes.known;
+        tags = c.goes.tags;
+        bar = c.goes.bar;
+        gone = c.goes.gone;
+        let_go = λ id past g. let it = c.goes.let_go id past g in record {
+          made = it.made;
+          plain = it.plain;
+          said = it.said;
+          over = λ mine. over id past it.over (holds.own_back call.state s.extra id mine);
+        };
+      };
       stands = holds.stands_put t c.name_map s.loop.parts (made_by_all call.steps s.loop).parts x s.extra y call.state h.stands
-          (beside (IsAmong (whole.meaning.keeps s.extra).own) own t call.steps s.loop may c.name_map c.extends) c.stands;
+          (beside a (IsAmong (whole.meaning.keeps s.extra).own) own t (seen_by (holds.part s.extra) s) call may within c.name_map c.goes) c.stands;
       below = c.below;
       profile = c.profile;
       called = c.called;
       running = c.running;
     }
+      where
+        over : (id : ℕ) → next_future s.loop.parts ≤ id → (IsAmong (a.meaning.keeps call.state).own id → ⊥)
+            → IsAmong (a.meaning.keeps call.state).own id ⊎ IsAmong (whole.meaning.keeps s.extra).own id → ⊥
+        over id past none (inl mine) = none mine
+        over id past none (inr old) = let made = within id old in omega (arith, past, made)
 
     named : (it : a.Kept) (on : ℕ) → IsNamed s.futures (IsAmong (a.meaning.keeps it).own) on
         → IsNamed s.futures (IsAmong (whole.meaning.keeps (holds.back it s.extra)).own) on
@@ -144,7 +174,8 @@ nobody_says whole running t s x v h code = record {
   calls = record {
     name_map = t;
     keeps = h.keeps;
-    extends = record { known = λ tag given. refl; tags = omega arith; gone = refl; bar = refl };
+    goes = goes_by whole t s (refuses (unknown_code code) s.extra).call v h.keeps t
+        (record { known = λ tag given. refl; tags = omega arith; gone = refl; bar = refl });
     stands = h.stands;
     below = refl;
     profile = refl;
@@ -159,7 +190,7 @@ pub nobody_calls : {R : Type 0} (whole : Added R) (running : Option ℕ) (t : Na
 nobody_calls whole running t s x v h = record {
   name_map = t;
   keeps = h.keeps;
-  extends = record { known = λ tag given. refl; tags = omega arith; gone = refl; bar = refl };
+  goes = goes_by whole t s (stays s.extra) v h.keeps t (record { known = λ tag given. refl; tags = omega arith; gone = refl; bar = refl });
   stands = h.stands;
   below = refl;
   profile = refl;

@@ -2,17 +2,72 @@
 use Rattle.std.proofs.Common.{◌≡◌, ℕ, ℤ, ◌⊎◌, inl, inr, true, false, List, [], ◌∷◌, ◌++◌, Option, Some, None, refl, sym, ap, subst, ◌∙◌}
 use Rattle.std.specs.Prelude.{◌%◌, ◌==◌, Bool, if◌then◌else◌}
 use Rattle.std.proofs.lemmas.Bool.{eq-eqb, ne_eqb}
+use Rattle.std.specs.List.{AllByRecursion as Each}
 use Rattle.model_loop.specs.Parts.{Parts}
 use Rattle.model_machine.specs.Sound.{AreKept}
 use Rattle.model_reach.specs.Reach.{Part, OfGather, OfSync, OfExec, OfDgram, Parted, part_of_hundred, part_of_key}
 use Rattle.law_runs.specs.Allowed.{IsAmong}
-use Rattle.law_parted.proofs.Lists.{in_first, in_fourth, in_second, in_third}
+use Rattle.law_parted.proofs.Lists.{each_from, in_first, in_fourth, in_second, in_third, join}
 use Rattle.law_parted.proofs.Together.{AllKept, apart}
 use Rattle.aio_task.specs.Keeps.{NameMap}
 use Rattle.aio_extra.specs.Added.{Added, GoesBeside}
 use Rattle.aio_reach.specs.declared.reach.Four.{Four}
 use Rattle.aio_reach.specs.Fours.{AreKeyed, four_added, go_on}
-use Rattle.aio_reach.proofs.Lifting.{Holds, IsPart}
+use Rattle.aio_reach.proofs.Lifting.{Holds, IsPart, each_among}
+
+-- ---- a part keeps another list as its own
+abbrev Either : (new old : List ℕ) → ℕ → Type 0
+Either new old id = IsAmong new id ⊎ IsAmong old id
+
+new_each : (new old : List ℕ) → Each (Either new old) new
+new_each new old = each_from (Either new old) new (λ place id e. inl (place, e))
+
+old_each : (new old xs : List ℕ) → ((id : ℕ) → IsAmong xs id → IsAmong old id) → Each (Either new old) xs
+old_each new old xs within = each_from (Either new old) xs (λ place id e. inr (within id (place, e)))
+
+module _ (a b c d new : List ℕ) where
+  abbrev old : List ℕ
+  old = a ++ (b ++ (c ++ d))
+
+  pub back_first : (id : ℕ) → IsAmong (new ++ (b ++ (c ++ d))) id → Either new old id
+  back_first id own =
+      each_among (Either new old) (new ++ (b ++ (c ++ d)))
+      (join (Either new old) new b c d (record {
+        first = new_each new old;
+        second = old_each new old b (in_second a b c d);
+        third = old_each new old c (in_third a b c d);
+        fourth = old_each new old d (in_fourth a b c d);
+      })) id own
+
+  pub back_second : (id : ℕ) → IsAmong (a ++ (new ++ (c ++ d))) id → Either new old id
+  back_second id own =
+      each_among (Either new old) (a ++ (new ++ (c ++ d)))
+      (join (Either new old) a new c d (record {
+        first = old_each new old a (in_first a b c d);
+        second = new_each new old;
+        third = old_each new old c (in_third a b c d);
+        fourth = old_each new old d (in_fourth a b c d);
+      })) id own
+
+  pub back_third : (id : ℕ) → IsAmong (a ++ (b ++ (new ++ d))) id → Either new old id
+  back_third id own =
+      each_among (Either new old) (a ++ (b ++ (new ++ d)))
+      (join (Either new old) a b new d (record {
+        first = old_each new old a (in_first a b c d);
+        second = old_each new old b (in_second a b c d);
+        third = new_each new old;
+        fourth = old_each new old d (in_fourth a b c d);
+      })) id own
+
+  pub back_fourth : (id : ℕ) → IsAmong (a ++ (b ++ (c ++ new))) id → Either new old id
+  back_fourth id own =
+      each_among (Either new old) (a ++ (b ++ (c ++ new)))
+      (join (Either new old) a b c new (record {
+        first = old_each new old a (in_first a b c d);
+        second = old_each new old b (in_second a b c d);
+        third = old_each new old c (in_third a b c d);
+        fourth = new_each new old;
+      })) id own
 
 module _ {X Y Z W : Type 0} (a : Added X) (b : Added Y) (c : Added Z) (d : Added W) (keyed : AreKeyed a b c d) where
   abbrev four : Added (Four X Y Z W)
@@ -33,9 +88,11 @@ module _ {X Y Z W : Type 0} (a : Added X) (b : Added Y) (c : Added Z) (d : Added
     back = λ it kept. record kept { gather = it };
     stands = λ t p x kept h. h.gather;
     kept = λ kept futures p is. (all_of kept futures p is).first;
-    stands_put = λ t u p q x kept y it h beside now. record (go_on a b c d t u p q x kept h beside) { gather = now };
+    stands_put = λ t u p q x kept y it h beside now. let on = go_on a b c d t u p q x kept h beside in record { gather = now; sync = on.sync; exec = on.exec; dgram = on.dgram };
     own_put = λ it kept id own.
         in_first (a.meaning.keeps it).own (b.meaning.keeps kept.sync).own (c.meaning.keeps kept.exec).own (d.meaning.keeps kept.dgram).own id own;
+    own_back = λ it kept. back_first (a.meaning.keeps kept.gather).own (b.meaning.keeps kept.sync).own (c.meaning.keeps kept.exec).own
+        (d.meaning.keeps kept.dgram).own (a.meaning.keeps it).own;
   }
 
   pub gather_is : IsPart a b c d keyed a OfGather gather_holds
@@ -55,9 +112,11 @@ module _ {X Y Z W : Type 0} (a : Added X) (b : Added Y) (c : Added Z) (d : Added
     back = λ it kept. record kept { sync = it };
     stands = λ t p x kept h. h.sync;
     kept = λ kept futures p is. (all_of kept futures p is).second;
-    stands_put = λ t u p q x kept y it h beside now. record (go_on a b c d t u p q x kept h beside) { sync = now };
+    stands_put = λ t u p q x kept y it h beside now. let on = go_on a b c d t u p q x kept h beside in record { gather = on.gather; sync = now; exec = on.exec; dgram = on.dgram };
     own_put = λ it kept id own.
         in_second (a.meaning.keeps kept.gather).own (b.meaning.keeps it).own (c.meaning.keeps kept.exec).own (d.meaning.keeps kept.dgram).own id own;
+    own_back = λ it kept. back_second (a.meaning.keeps kept.gather).own (b.meaning.keeps kept.sync).own (c.meaning.keeps kept.exec).own
+        (d.meaning.keeps kept.dgram).own (b.meaning.keeps it).own;
   }
 
   pub sync_is : IsPart a b c d keyed b OfSync sync_holds
@@ -77,9 +136,11 @@ module _ {X Y Z W : Type 0} (a : Added X) (b : Added Y) (c : Added Z) (d : Added
     back = λ it kept. record kept { exec = it };
     stands = λ t p x kept h. h.exec;
     kept = λ kept futures p is. (all_of kept futures p is).third;
-    stands_put = λ t u p q x kept y it h beside now. record (go_on a b c d t u p q x kept h beside) { exec = now };
+    stands_put = λ t u p q x kept y it h beside now. let on = go_on a b c d t u p q x kept h beside in record { gather = on.gather; sync = on.sync; exec = now; dgram = on.dgram };
     own_put = λ it kept id own.
         in_third (a.meaning.keeps kept.gather).own (b.meaning.keeps kept.sync).own (c.meaning.keeps it).own (d.meaning.keeps kept.dgram).own id own;
+    own_back = λ it kept. back_third (a.meaning.keeps kept.gather).own (b.meaning.keeps kept.sync).own (c.meaning.keeps kept.exec).own
+        (d.meaning.keeps kept.dgram).own (c.meaning.keeps it).own;
   }
 
   pub exec_is : IsPart a b c d keyed c OfExec exec_holds
@@ -99,9 +160,11 @@ module _ {X Y Z W : Type 0} (a : Added X) (b : Added Y) (c : Added Z) (d : Added
     back = λ it kept. record kept { dgram = it };
     stands = λ t p x kept h. h.dgram;
     kept = λ kept futures p is. (all_of kept futures p is).fourth;
-    stands_put = λ t u p q x kept y it h beside now. record (go_on a b c d t u p q x kept h beside) { dgram = now };
+    stands_put = λ t u p q x kept y it h beside now. let on = go_on a b c d t u p q x kept h beside in record { gather = on.gather; sync = on.sync; exec = on.exec; dgram = now };
     own_put = λ it kept id own.
         in_fourth (a.meaning.keeps kept.gather).own (b.meaning.keeps kept.sync).own (c.meaning.keeps kept.exec).own (d.meaning.keeps it).own id own;
+    own_back = λ it kept. back_fourth (a.meaning.keeps kept.gather).own (b.meaning.keeps kept.sync).own (c.meaning.keeps kept.exec).own
+        (d.meaning.keeps kept.dgram).own (d.meaning.keeps it).own;
   }
 
   pub dgram_is : IsPart a b c d keyed d OfDgram dgram_holds

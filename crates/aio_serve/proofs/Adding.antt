@@ -23,11 +23,13 @@ use Rattle.model_machine.specs.Outcomes.{input_of}
 use Rattle.model_machine.specs.Replies as plain
 use Rattle.model_machine.specs.Replies.{ended, input_by, serves_as, serves_until, waits, woken, woken_within}
 use Rattle.model_machine.specs.State as resume_point
-use Rattle.model_machine.specs.Sound.{AreKeysKept, IsFree, names_made, sends_made}
+use Rattle.model_machine.specs.Sound.{AreKeysKept, AreStreamsFutures, IsFree, names_made, sends_made}
 use Rattle.model_machine.specs.State.{Generator, State, stands}
-use Rattle.law_runs.specs.Allowed.{IsSaidAllowed, MayCall}
+use Rattle.law_runs.specs.Allowed.{IsSaidAllowed, MayCall, owns_at}
 use Rattle.law_runs.proofs.Called.{IsWokenFree, ended_sends, keys_called, may_call, may_on, none_free, said_free}
+use Rattle.law_runs.proofs.Steps.{all_after}
 use Rattle.law_replies.proofs.Given.{made_closed, of_all}
+use Rattle.law_replies.proofs.Keeping.{streams_kept}
 use Rattle.law_replies.proofs.Replying.{handed_on}
 use Rattle.law_replies.proofs.Counts.{get_there, lives_within}
 use Rattle.refine_parts.proofs.Telling.{outcome_kept, pending_kept}
@@ -61,7 +63,7 @@ use Rattle.aio_body.proofs.Asking.{HasCome, come_none, come_then, comes_alone, c
 use Rattle.aio_body.specs.Asking.{Comes, ReplyBegins, or_stop, serving}
 use Rattle.aio_body.proofs.Answering.{alive_come}
 use Rattle.aio_body.specs.Answers.{with_answers}
-use Rattle.aio_body.proofs.Adding.{served_of, sound_called, stands_called, name_map_called}
+use Rattle.aio_body.proofs.Adding.{served_of, stands_called, name_map_called}
 use Rattle.aio_body.proofs.Lasting.{Spares}
 use Rattle.aio_body.proofs.Left.{leaves_suspend}
 use Rattle.aio_body.proofs.May.{same_prop}
@@ -230,20 +232,25 @@ decides_run task key body m = ∥∥₁_elim m (same_prop body.parts.running (So
 
 -- ---- what comes of a call
 module _ {X : Type 0} {a : Added X} (task : ℕ) (c : Context a) (old : RunState X) (s : State a.Kept) (h : IsInStep task c old s)
-    (called_may : MayCall a.meaning (Some task) s) (keys : AreKeysKept (a.meaning.keeps s.extra).has_key s.generators) (v : View) (x : X) (asked : Asked) (woken : Option ℕ) (free : IsWokenFree s.generators woken)
+    (called_may : MayCall a.meaning (Some task) s) (keys : AreKeysKept (a.meaning.keeps s.extra).has_key s.generators) (keep : AreStreamsFutures s)
+    (v : View) (x : X) (asked : Asked) (woken : Option ℕ) (free : IsWokenFree s.generators woken)
     (said : ExtraSaid a.Kept) (may : IsSaidAllowed a.meaning woken said s) (r : SaysAs a h.stands.name_map s old.parts v x asked said) where
   pub answering_so : IsAnswering task asked said.answer c (record old { parts = v; extra = x }) (called said.call s)
   answering_so = record {
     in_step = record {
-      stands = stands_called (Some task) (Some task) c old s v x said.call h.stands woken may.call called_may.loop r.calls;
+      stands = stands_called (Some task) (Some task) c old s v x said.call h.stands woken may.call called_may keep r.calls;
       called = r.calls.called ∙ h.called;
       running = r.calls.running ∙ h.running;
     };
     may = may_on a.meaning (Some task) woken said.call s may.call called_may;
     keys = keys_called a.meaning woken said.call s free may.call keys;
+    streams =
+        streams_kept s (called said.call s) refl
+        (all_after (next_task s.loop.parts) None (owns_at (a.meaning.keeps s.extra) s.loop.parts) said.call.steps s.loop refl may.call.steps).parts.plain
+        keep;
     answers =
         subst (λ t. by_call.AnswersAs a t (called said.call s) asked said.answer)
-        (sym (name_map_called (Some task) (Some task) c old s v x said.call h.stands woken may.call called_may.loop r.calls)) r.answers;
+        (sym (name_map_called (Some task) (Some task) c old s v x said.call h.stands woken may.call called_may keep r.calls)) r.answers;
     allowed = may.answer;
     keyed = said_free a.meaning woken said s free may keys;
   }
@@ -329,7 +336,8 @@ module _ {X : Type 0} {a : Added X} (task on key : ℕ) (c : Context a) (body : 
     now = called (a.meaning.wake key input s).call s;
     it = (a.meaning.wake key input s).answer;
     answering =
-        answering_so task c body s h.in_step h.may h.keys v x asked (Some key) (alone_free s.generators key (h.keyed key refl).0) (a.meaning.wake key input s)
+        answering_so task c body s h.in_step h.may h.keys h.streams v x asked (Some key) (alone_free s.generators key (h.keyed key refl).0)
+        (a.meaning.wake key input s)
         (a.allowed.wake task key input s h.may (h.keyed key refl).1 made)
         (wakes h.in_step.stands.name_map s
         (served_of (Some task) body.parts.running c body s h.in_step.stands h.in_step.called refl
@@ -380,7 +388,8 @@ module _ {X : Type 0} (a : Added X) (task : ℕ) (body : RunState X) (code argum
   asked_so c s h =
       let may = may_call a.meaning (Some task) (Some task) s h.going.sound.others in
       let it = asked_of task c body s code arguments items are_items h in
-      answering_so task c body s h.going.in_step may h.going.sound.others.keys v x asked None (none_free s.generators) (a.meaning.ask task number items s)
+      answering_so task c body s h.going.in_step may h.going.sound.others.keys h.going.sound.others.streams v x asked None
+      (none_free s.generators) (a.meaning.ask task number items s)
       (a.allowed.ask task number items s may it.made) (asks h.going.in_step.stands.name_map s items it)
 
   pub asks_answer : Possible a (IsAskingFor task (request.Extra code arguments)) body → Possible a (HasAnswer task asked) (record body { parts = v; extra = x })
@@ -418,7 +427,8 @@ module _ {X : Type 0} {a : Added X} (task key : ℕ) (body : RunState X) (input 
   woken_so c s h =
       let may = may_call a.meaning (Some task) (Some task) s h.asked.others in
       let good : sends_made (next_task s.loop.parts) input ≡ true = subst (λ n. sends_made n input ≡ true) h.in_step.stands.made made in
-      answering_so task c body s h.in_step may h.asked.others.keys v x asked (Some key) (alone_free s.generators key h.asked.alone.0) (a.meaning.wake key input s)
+      answering_so task c body s h.in_step may h.asked.others.keys h.asked.others.streams v x asked (Some key)
+      (alone_free s.generators key h.asked.alone.0) (a.meaning.wake key input s)
       (a.allowed.wake task key input s may h.asked.alone.1 good)
       (wakes h.in_step.stands.name_map s
       (served_of (Some task) body.parts.running c body s h.in_step.stands h.in_step.called refl

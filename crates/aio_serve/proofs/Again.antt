@@ -50,6 +50,7 @@ module _ {X : Type 0} (a : Added X) (answers : List Entry) where
     in_step = in_step_again answers c body s task h.in_step;
     may = record { loop = h.may.loop; kept = h.may.kept; scripts = h.may.scripts; outcomes = h.may.outcomes };
     keys = h.keys;
+    streams = h.streams;
     answers = answers_again h.in_step.stands.name_map s asked it h.answers;
     allowed = allowed_again answers it s h.allowed;
     keyed = h.keyed;

@@ -12,7 +12,7 @@ use Rattle.model_machine.specs.Extra as extra
 use Rattle.model_machine.specs.Extra.{ExtraAnswer, called, key_of}
 use Rattle.model_machine.specs.Replies as plain
 use Rattle.model_machine.specs.Replies.{input_by, woken}
-use Rattle.model_machine.specs.Sound.{AreKeysKept}
+use Rattle.model_machine.specs.Sound.{AreKeysKept, AreStreamsFutures}
 use Rattle.model_machine.specs.State as resume_point
 use Rattle.model_machine.specs.State.{State, noted}
 use Rattle.model_machine.specs.Went.{answered_so, answers_in, fitted_so}
@@ -209,6 +209,7 @@ module _ {X W : Type 0} (a : Added X) (o : Outside W) (task : ℕ) (code : ℤ) 
       pub in_step : IsInStep task c body (got_at answer c.answers at.0)
       pub may : MayCall a.meaning (Some task) (got_at answer c.answers at.0)
       pub keys : AreKeysKept (a.meaning.keeps at.0.extra).has_key at.0.generators
+      pub streams : AreStreamsFutures at.0
       pub keyed : MayStandAt (a.meaning.keeps at.0.extra).has_key at.0.generators (resume_point.Serving key)
       pub same : answered a.meaning task at.1 at.0 ≡ wakes answer (got_at answer c.answers at.0)
 
@@ -229,6 +230,7 @@ module _ {X W : Type 0} (a : Added X) (o : Outside W) (task : ℕ) (code : ℤ) 
           };
           may = may_heard a.meaning (Some task) asks answer c.answers s h.may;
           keys = h.keys;
+          streams = h.streams;
           keyed = h.keyed key (ap key_of (sym (asks_is b s at.1 h)));
           same =
               asks_as b s at.1 h (Answered_ answer ∷ c.answers) stands.rest
@@ -272,7 +274,7 @@ module _ {X W : Type 0} (a : Added X) (o : Outside W) (task : ℕ) (code : ℤ) 
           now = called said.call t;
           it = said.answer;
           answering =
-              answering_so task c body t h.in_step h.may h.keys new.parts new.extra next (Some key) (alone_free t.generators key h.keyed.0) said
+              answering_so task c body t h.in_step h.may h.keys h.streams new.parts new.extra next (Some key) (alone_free t.generators key h.keyed.0) said
               (a.allowed.wake task key (input_by answer) t h.may h.keyed.1 (answer_sends (next_task t.loop.parts) answer))
               (woke.says h.in_step.stands.name_map t
               (served_of (Some task) body.parts.running c body t h.in_step.stands h.in_step.called refl (runs_may c at h)) h.keyed.1

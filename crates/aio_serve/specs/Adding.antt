@@ -2,7 +2,7 @@
 use Rattle.std.specs.Prelude.{◌≡◌, ℕ, true, Some}
 use Rattle.model_loop.specs.Tasks.{next_task}
 use Rattle.model_machine.specs.Extra.{Extra, ExtraAnswer, key_of}
-use Rattle.model_machine.specs.Sound.{AreKeysKept, sends_made}
+use Rattle.model_machine.specs.Sound.{AreKeysKept, AreStreamsFutures, sends_made}
 use Rattle.model_machine.specs.Replies as plain
 use Rattle.model_value.specs.Input.{Input}
 use Rattle.model_machine.specs.Replies.{decides, serves_as, woken}
@@ -31,6 +31,7 @@ pub record IsAnswering {X : Type 0} {a : Added X} (task : ℕ) (asked : Asked) (
   pub in_step : IsInStep task c body s
   pub may : MayCall a.meaning (Some task) s
   pub keys : AreKeysKept (a.meaning.keeps s.extra).has_key s.generators
+  pub streams : AreStreamsFutures s
   pub answers : called.AnswersAs a in_step.stands.name_map s asked it
   pub allowed : IsAnswerAllowed it s
   -- under the key that it keeps the task may come to stand

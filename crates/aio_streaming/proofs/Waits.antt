@@ -37,7 +37,7 @@ use Rattle.aio_body.specs.declared.reply.RequestReply.TheVariants as said
 use Rattle.aio_body.specs.Asked.{IsAskingFor, IsInStep, Says}
 use Rattle.aio_body.specs.Outcomes.{RepliesAs, reply_of}
 use Rattle.aio_body.specs.Stands.{Possible, Context}
-use Rattle.aio_body.proofs.Asleep.{asked_within}
+use Rattle.aio_body.proofs.Within.{asked_within}
 use Rattle.aio_body.proofs.May.{same_prop}
 use Rattle.aio_body.proofs.Rooms.{waits_so}
 use Rattle.aio_body.proofs.Telling.{kept_stays, named_spares}

@@ -39,6 +39,7 @@ use Rattle.aio_task.specs.Keeps.{NameMap}
 use Rattle.aio_task.specs.View.{View, parts}
 use Rattle.aio_extra.specs.declared.asked.Asked.{Asked}
 use Rattle.aio_extra.specs.declared.asked.Asked.TheVariants.{Answer, Raise, Wait as WaitFor, Outside}
+use Rattle.aio_extra.proofs.Going.{goes_by}
 use Rattle.aio_extra.specs.Called.{AnswersAs, CallsAs, IsAskedOf, IsServed, MayAsk, MayServe, SaysAs}
 use Rattle.law_runs.specs.Allowed.{owns_at}
 use Rattle.aio_sync.specs.Added.{sync_added}
@@ -169,7 +170,7 @@ module _ (running : Option ℕ) (t : NameMap) (s : State Synced) (x : Sync) (v :
     calls_so = record {
       name_map = goes.name_map;
       keeps = goes.keeps;
-      extends = goes.extends;
+      goes = goes_by sync_added t s call v h.keeps goes.name_map goes.extends;
       stands = (seen.kept, λ id mine. ap (λ f. f id) goes.extends.gone ∙ is_there id mine);
       below = goes.below;
       profile = goes.profile;

@@ -1,2 +1,3 @@
 mod Served
 mod Asking
+mod Passing

@@ -27,6 +27,7 @@ use Rattle.aio_ready.specs.Queue.{Queue}
 use Rattle.aio_future.specs.Settled as settled
 use Rattle.aio_task.specs.Keeps.{Extends, Keeps, Kept, NameMap}
 use Rattle.aio_task.specs.View.{View}
+use Rattle.aio_extra.proofs.Going.{goes_by}
 use Rattle.aio_extra.specs.Called.{AnswersAs, CallsAs, IsServed, MayAsk, MayServe, SaysAs}
 use Rattle.aio_extra.specs.declared.asked.Asked.{Asked}
 use Rattle.aio_extra.specs.declared.asked.Asked.TheVariants.{Wait}
@@ -111,7 +112,7 @@ module _ (running : Option ℕ) (t : NameMap) (s : State Waiting) (x : NextTurn)
   stays_so y made left = record {
     name_map = t;
     keeps = h.keeps;
-    extends = extends_same t p;
+    goes = goes_by next_turn t s (stays s) v h.keeps t (extends_same t p);
     stands = record { made = made ∙ h.stands.made; left = left ∙ h.stands.left; there = h.stands.there };
     below = refl;
     profile = refl;
@@ -148,7 +149,10 @@ module _ (running : Option ℕ) (t : NameMap) (s : State Waiting) (x : NextTurn)
     plain_calls = record {
       name_map = (soon_kept key (new_plain p) one w (keeps_plain t v p h.keeps) (make_name_map t Plain p) is).name_map;
       keeps = soon_keeps key (new_plain p) one w (keeps_plain t v p h.keeps) (make_name_map t Plain p) is;
-      extends = soon_extends key (new_plain p) one w (keeps_plain t v p h.keeps) (make_name_map t Plain p) is;
+      goes =
+          goes_by next_turn t s (record { state = now; steps = MakesPlain ∷ CallsSoon key ∷ [] }) v h.keeps
+          (soon_kept key (new_plain p) one w (keeps_plain t v p h.keeps) (make_name_map t Plain p) is).name_map
+          (soon_extends key (new_plain p) one w (keeps_plain t v p h.keeps) (make_name_map t Plain p) is);
       stands = record {
         made = made;
         left = left;
@@ -197,7 +201,9 @@ module _ (running : Option ℕ) (t : NameMap) (s : State Waiting) (x : NextTurn)
     several_calls = record {
       name_map = (soon_kept key both with_two w two_kept two_extends is).name_map;
       keeps = soon_keeps key both with_two w two_kept two_extends is;
-      extends = soon_extends key both with_two w two_kept two_extends is;
+      goes =
+          goes_by next_turn t s (record { state = now; steps = MakesPlain ∷ MakesMany (first ∷ []) ∷ CallsSoon key ∷ [] }) v h.keeps
+          (soon_kept key both with_two w two_kept two_extends is).name_map (soon_extends key both with_two w two_kept two_extends is);
       stands = record {
         made = made;
         left = left;
@@ -316,7 +322,7 @@ module _ (running : Option ℕ) (t : NameMap) (s : State Waiting) (x : NextTurn)
       settles = record {
         name_map = kept.name_map;
         keeps = subst (λ z. Keeps kept.name_map z (settle id outcome p)) (sym is_after) kept.keeps;
-        extends = kept.extends;
+        goes = goes_by next_turn t s call v h.keeps kept.name_map kept.extends;
         stands = record {
           made = h.stands.made;
           left = h.stands.left;

@@ -1,33 +1,47 @@
 -- What is added: `extra(5, list)` asks the outside and hands on what it hears, `extra(6, list)` asks back what it heard, once, and
--- `extra(7, list)` five times; `extra(8, list)` is answered by the list.
+-- `extra(7, list)` five times; `extra(8, list)` is answered by the list; `extra(9, list)` gives a future of its own the number 9,
+-- which is the answer, and lets it go.
 use Rattle.std.specs.Prelude.{◌≡◌, ℕ, zero, suc, ◌<◌, ◌≤◌, ℤ, pos, true, false, ◌&&◌, List, [], ◌∷◌, ◌++◌, Option, Some, None, codes, length, nat_lt, slice_get, slice_set}
 use Rattle.std.specs.Prelude.{refl, if◌then◌else◌}
 use Rattle.std.specs.List.{list_all}
 use Rattle.std.specs.Option.{option_map_or}
 use Rattle.std.specs.Ordering.{int_eq}
-use Rattle.std.proofs.Common.{sym, ap, subst, arith, length-append, length-set, ◌∙◌}
+use Rattle.std.proofs.Common.{sym, ap, subst, arith, inr, le_refl, length-append, length-set, ◌∙◌}
 use Rattle.std.proofs.lemmas.Bool.{le-ltb, lt-ltb, ltb-true}
 use Rattle.std.proofs.lemmas.Option.{none-some}
 use Rattle.model_value.specs.Input.{Input}
-use Rattle.model_value.specs.Value.{Value, Bytes, Items, Nothing as no_value, values}
+use Rattle.model_value.specs.Value.{Value, Bytes, Int, Items, Nothing as no_value, values}
 use Rattle.model_value.specs.declared.input.Input.TheVariants.{Send, Throw}
+use Rattle.model_value.specs.declared.outcome.Outcome.TheVariants.{Value as Returned}
+use Rattle.model_loop.proofs.FutureCases.{is_plain_at}
+use Rattle.model_loop.specs.Futures.{new_plain, next_future, settle}
+use Rattle.model_loop.specs.Owning.{is_plain, owner_at}
+use Rattle.model_loop.specs.Parts.{Future, Parts, Plain}
 use Rattle.model_loop.specs.Tasks.{next_task}
-use Rattle.model_machine.specs.Extra.{Extra, ExtraAnswer, Answers, Raises, Asks, ExtraSaid, Keeping, WakesFall, key_of, unknown_code}
+use Rattle.model_machine.specs.Extra.{Extra, ExtraAnswer, Answers, Raises, Asks, ExtraSaid, Keeping, MakesPlain, Releases, Settles, WakesFall, key_of}
+use Rattle.model_machine.specs.Extra.{unknown_code}
 use Rattle.model_machine.specs.Sound.{all_made, names_made}
 use Rattle.model_machine.specs.State.{State}
-use Rattle.law_cancel.proofs.Lookups.{get-set_same}
+use Rattle.algorithm_parts.specs.Released.{released}
+use Rattle.law_cancel.proofs.Lookups.{get-push_last, get-set_same}
 use Rattle.law_runs.specs.Allowed.{IsAnswerAllowed, IsCallAllowed, IsSaidAllowed, MakesAllowedSteps}
+use Rattle.law_steps.proofs.Settling.{IsSettled, settle_effect}
+use Rattle.aio_ready.specs.Queue as queue
+use Rattle.aio_future.specs.Settled as settled
+use Rattle.aio_task.specs.View.{View}
 use Rattle.aio_extra.specs.Added.{Added}
 use Rattle.aio_extra.specs.declared.asked.Asked.{Asked}
 use Rattle.aio_extra.specs.declared.asked.Asked.TheVariants.{Answer, Raise, Outside}
 use Rattle.try_loop.specs.declared.asker.Asker.{Asker}
 use Rattle.try_loop.specs.declared.asker.Question.{Question}
-use Rattle.try_loop.specs.declared.asker.Question.TheVariants.{Once, Twice, Often, Echo, Nothing}
+use Rattle.try_loop.specs.declared.asker.Question.TheVariants.{Once, Twice, Often, Echo, Passing, Nothing}
 
 abbrev pub question_by : ℤ → Question
 question_by code =
     if int_eq code (pos 5) then Once
-    else (if int_eq code (pos 6) then Twice else (if int_eq code (pos 7) then Often else (if int_eq code (pos 8) then Echo else Nothing)))
+    else (if int_eq code (pos 6) then Twice
+    else (if int_eq code (pos 7) then Often
+    else (if int_eq code (pos 8) then Echo else (if int_eq code (pos 9) then Passing else Nothing))))
 
 -- ---- what its calls mean
 -- The machine keeps how often each request asks again. Its key is its place.
@@ -44,12 +58,24 @@ only_says answer kept = record { call = record { state = kept; steps = [] }; ans
 abbrev pub asks_first : (more : ℕ) → ℤ → Left → ExtraSaid Left
 asks_first more code kept = only_says (Asks code (codes "q") (length kept)) (kept ++ more ∷ [])
 
-abbrev pub asked_for : Question → ℤ → List Value → Left → ExtraSaid Left
-asked_for Once code arguments kept = asks_first 0 code kept
-asked_for Twice code arguments kept = asks_first 1 code kept
-asked_for Often code arguments kept = asks_first 5 code kept
-asked_for Echo code arguments kept = only_says (Answers (Items (values arguments))) kept
-asked_for Nothing code arguments kept = only_says (Raises (unknown_code code)) kept
+abbrev pub nine : Value
+nine = Int (pos 9)
+
+-- the next future is its own, and only within this call
+abbrev pub passes_on : (next : ℕ) → Left → ExtraSaid Left
+passes_on next kept =
+    record {
+      call = record { state = kept; steps = MakesPlain ∷ Settles next (Returned nine) ∷ Releases next ∷ [] };
+      answer = Answers nine;
+    }
+
+abbrev pub asked_for : Question → ℤ → List Value → (next : ℕ) → Left → ExtraSaid Left
+asked_for Once code arguments next kept = asks_first 0 code kept
+asked_for Twice code arguments next kept = asks_first 1 code kept
+asked_for Often code arguments next kept = asks_first 5 code kept
+asked_for Echo code arguments next kept = only_says (Answers (Items (values arguments))) kept
+asked_for Passing code arguments next kept = passes_on next kept
+asked_for Nothing code arguments next kept = only_says (Raises (unknown_code code)) kept
 
 -- It asks again under its own key.
 abbrev pub bytes_by : (left key : ℕ) → List ℕ → Left → ExtraSaid Left
@@ -70,7 +96,7 @@ left_keeps kept = record { tasks = []; futures = []; own = []; tags = []; values
 abbrev pub asker_means : Extra Left
 asker_means =
     record {
-      ask = λ task code arguments s. asked_for (question_by code) code arguments s.extra;
+      ask = λ task code arguments s. asked_for (question_by code) code arguments (next_future s.loop.parts) s.extra;
       wake = λ key input s. woken_by key input s.extra;
       wakes_left = λ key kept. left_at kept key;
       act = λ key s. record { state = s.extra; steps = [] };
@@ -109,6 +135,43 @@ first_allowed more code s =
           );
     }
 
+-- a future is made, which is pending, plain and no task's, and so it may be settled and let go
+module _ (s : State Left) where
+  abbrev p : Parts
+  p = s.loop.parts
+
+  abbrev fresh : Future
+  fresh = record { kind = Plain; outcome = None; callbacks = [] }
+
+  pub passing_settles : IsSettled (next_future p) (new_plain p) (settle (next_future p) (Returned nine) (new_plain p))
+  passing_settles = settle_effect (next_future p) (Returned nine) (new_plain p) fresh (get-push_last p.futures fresh) refl
+
+  pub passing_plain : is_plain (settle (next_future p) (Returned nine) (new_plain p)) (next_future p) ≡ true
+  passing_plain = passing_settles.plain ∙ ap is_plain_at (get-push_last p.futures fresh)
+
+  passing_allowed : IsSaidAllowed asker_means None (passes_on (next_future p) s.extra) s
+  passing_allowed = record {
+    call = record {
+      steps = (
+        tt,
+        (
+          (
+            inr (le_refl _),
+            (let n = length-append p.futures (fresh ∷ []) in omega (arith, n), ap owner_at (get-push_last p.futures fresh)),
+            refl,
+          ),
+          ((inr (le_refl _), passing_settles.done), tt),
+        ),
+      );
+      kept = record { tasks = tt; awaitable = tt; own = tt; apart = tt; tags = tt; values = refl };
+      own = tt;
+      tags = tt;
+      keys = λ key other known. known;
+    };
+    answer = refl;
+    key = λ key e. absurd (none-some key e);
+  }
+
 -- the items of a list were made where the list was
 listed_made : (made : ℕ) (items : List Value) → all_made made (values items) ≡ list_all (names_made made) items
 listed_made made [] = refl
@@ -116,12 +179,13 @@ listed_made made (value ∷ items) = ap (λ b. names_made made value && b) (list
 
 asked_allowed : (question : Question) (code : ℤ) (arguments : List Value) (s : State Left)
     → list_all (names_made (next_task s.loop.parts)) arguments ≡ true
-    → IsSaidAllowed asker_means None (asked_for question code arguments s.extra) s
+    → IsSaidAllowed asker_means None (asked_for question code arguments (next_future s.loop.parts) s.extra) s
 asked_allowed Once code arguments s made = first_allowed 0 code s
 asked_allowed Twice code arguments s made = first_allowed 1 code s
 asked_allowed Often code arguments s made = first_allowed 5 code s
 asked_allowed Echo code arguments s made =
     says_allowed None (Answers (Items (values arguments))) s (listed_made (next_task s.loop.parts) arguments ∙ made) refl
+asked_allowed Passing code arguments s made = passing_allowed s
 asked_allowed Nothing code arguments s made = says_allowed None (Raises (unknown_code code)) s tt refl
 
 module _ (key : ℕ) (s : State Left) (known : nat_lt key (length s.extra) ≡ true) where
@@ -197,6 +261,22 @@ Says (Answer value) (Answers said) = value ≡ said
 Says (Raise fault) (Raises said) = fault ≡ said
 Says (Outside code bytes key) (Asks number piece kept) = (code ≡ number) × (bytes ≡ piece) × (key ≡ kept)
 Says _ _ = ⊥
+
+-- ---- the parts in code, where a future was made, got its outcome and was released
+abbrev pub with_plain : View → View
+with_plain v = record v { futures = v.futures ++ record { kind = Plain; outcome = None; callbacks = [] } ∷ [] }
+
+abbrev pub with_outcome : ℕ → View → View
+with_outcome id v = record v {
+  futures = settled.settled id (Returned nine) v.futures;
+  queue = queue.soon_all (settled.called id v.futures) v.queue;
+}
+
+abbrev pub without : ℕ → View → View
+without id v = record v { futures = (if nat_lt id (length v.futures) then slice_set v.futures id released else v.futures) }
+
+abbrev pub passed_on : View → View
+passed_on v = without (length v.futures) (with_outcome (length v.futures) (with_plain v))
 
 -- and what is kept is what was said
 pub record SaysIt (asked : Asked) (items : Left) (said : ExtraSaid Left) : Type 0 where

@@ -1,10 +1,10 @@
 //! What is added: requests that ask the outside, once or more often, in the middle of their step,
-//! and one whose answer is its list.
-ghost use Rattle.std.specs.Prelude.{◌≡◌, [], IfOk};
+//! one whose answer is its list, and one that lets a future of its own go.
+ghost use Rattle.std.specs.Prelude.{◌≡◌, [], None, IfOk, OnOk};
 ghost use Rattle.model_machine.specs.Extra.{unknown_code};
-ghost use Rattle.try_loop.specs.Asker.{SaysIt, asks_first, bytes_by, heard_by, left_at, question_by};
+ghost use Rattle.try_loop.specs.Asker.{SaysIt, asks_first, bytes_by, heard_by, left_at, nine, passed_on, question_by};
 
-use aio_base::{Blob, Input, Kind, Memory, Value, ValueCase, exception};
+use aio_base::{Blob, Input, Kind, Memory, Outcome, Value, ValueCase, exception};
 use aio_extra::{Asked, Extra};
 use aio_task::{FutureId, Parts};
 use std::alloc::Global;
@@ -20,6 +20,8 @@ pub enum Question {
     Often,
     /// 8: nothing; the answer is the list.
     Echo,
+    /// 9: nothing; a future of its own gets the number 9, which is the answer, and is let go.
+    Passing,
     /// There is no such request.
     Nothing,
 }
@@ -91,13 +93,14 @@ impl Extra for Asker {
         code: i64,
         arguments: &Value,
         _futures: &[FutureId],
-        _parts: &mut Parts,
+        parts: &mut Parts,
     ) -> Result<Asked, Memory> {
         match question_of(code) {
             Question::Once => self.ask_first(alloc, code, 0),
             Question::Twice => self.ask_first(alloc, code, 1),
             Question::Often => self.ask_first(alloc, code, 5),
             Question::Echo => echo(arguments),
+            Question::Passing => pass_on(alloc, parts),
             Question::Nothing => unknown(alloc, code),
         }
     }
@@ -153,6 +156,9 @@ fn question_of(code: i64) -> Question
     if code == 8 {
         return Question::Echo;
     }
+    if code == 9 {
+        return Question::Passing;
+    }
     Question::Nothing
 }
 
@@ -161,6 +167,18 @@ fn echo(list: &Value) -> Result<Asked, Memory>
     ensures { IfOk result (λ asked. asked ≡ Asked.Answer list.now) }
 {
     Ok(Asked::Answer(list.clone()?))
+}
+
+// A future of its own is made, gets the answer, and is released.
+fn pass_on(alloc: Global, parts: &mut Parts) -> Result<Asked, Memory>
+    requires { parts.old.called ≡ None }
+    ensures asked { IfOk result (λ asked. asked ≡ Asked.Answer nine) }
+    ensures parts { OnOk result (parts.new ≡ passed_on parts.old) }
+{
+    let id = parts.new_plain(alloc)?;
+    let _resolved = parts.resolve(id, Outcome::Value(Value::int(9)));
+    parts.release(id);
+    Ok(Asked::Answer(Value::int(9)))
 }
 
 fn asks(alloc: Global, code: i64, bytes: &[u8], key: u64) -> Result<Asked, Memory>

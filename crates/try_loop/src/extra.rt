@@ -24,8 +24,8 @@ static CASES: [(&str, &str); 7] = [
     ("a future of several", scripts::WAITS_FOR_SEVERAL),
 ];
 
-/// Scripts that ask the outside in the middle of a step, over what it answers.
-static ASKING: [(&str, &str, &str); 7] = [
+/// Scripts that ask the outside in the middle of a step, over what it answers, and one that asks nothing of it.
+static ASKING: [(&str, &str, &str); 8] = [
     ("outside", scripts::ASKS, "turn 0\nextra b\"z\"\nturn 0\n"),
     (
         "outside refused",
@@ -47,6 +47,7 @@ static ASKING: [(&str, &str, &str); 7] = [
         scripts::ECHOES,
         "turn 0\nconn\nturn 0 C0 up\nturn 0\nturn 0\n",
     ),
+    ("a hundred thousand let go", scripts::LETS_GO, AT_ONCE),
     ("outside over", scripts::ASKS, "turn 0\n"),
     (
         "outside refused and caught",

@@ -131,6 +131,23 @@ def main()
 end
 ";
 
+/// Code 9 lets a future of its own go, a hundred thousand times over five turns.
+pub const LETS_GO: &str = "
+def main()
+  n = 0
+  while n < 5
+    i = 0
+    while i < 20000
+      r = yield from extra(9, [])
+      i = i + 1
+    end
+    yield
+    n = n + 1
+  end
+  print r
+end
+";
+
 /// A refusal is caught, and the next request asks anew.
 pub const CATCHES: &str = "
 def main()
