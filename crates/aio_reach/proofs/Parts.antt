@@ -96,6 +96,7 @@ module _ {X Y Z W : Type 0} (a : Added X) (b : Added Y) (c : Added Z) (d : Added
   }
 
   pub gather_is : IsPart a b c d keyed a OfGather gather_holds
+  unfolding gather_holds
   gather_is = record {
     ask = λ task code items s. refl;
     wake = λ key input s. refl;
@@ -120,6 +121,7 @@ module _ {X Y Z W : Type 0} (a : Added X) (b : Added Y) (c : Added Z) (d : Added
   }
 
   pub sync_is : IsPart a b c d keyed b OfSync sync_holds
+  unfolding sync_holds
   sync_is = record {
     ask = λ task code items s. refl;
     wake = λ key input s. refl;
@@ -144,6 +146,7 @@ module _ {X Y Z W : Type 0} (a : Added X) (b : Added Y) (c : Added Z) (d : Added
   }
 
   pub exec_is : IsPart a b c d keyed c OfExec exec_holds
+  unfolding exec_holds
   exec_is = record {
     ask = λ task code items s. refl;
     wake = λ key input s. refl;
@@ -168,6 +171,7 @@ module _ {X Y Z W : Type 0} (a : Added X) (b : Added Y) (c : Added Z) (d : Added
   }
 
   pub dgram_is : IsPart a b c d keyed d OfDgram dgram_holds
+  unfolding dgram_holds
   dgram_is = record {
     ask = λ task code items s. refl;
     wake = λ key input s. refl;
