@@ -122,7 +122,8 @@ module _ (own : Owned) where
   keeping_if Left next false x y here there = there
 
   pub keeping_settles : {A : Type 0} (Left : ℕ → A → Type 0) (next : ℕ) (futures : List ℕ) (outcome : Outcome) (rest : Doing A)
-      → AllAre (IsOwn own) futures → names_opened own.connections outcome ≡ true → Keeping Left own next rest → Keeping Left own next (settles futures outcome rest)
+      → AllAre (IsOwn own) futures → names_opened own.connections outcome ≡ true → Keeping Left own next rest
+      → Keeping Left own next (settles futures outcome rest)
   keeping_settles Left next [] outcome rest all none h = h
   keeping_settles Left next (future ∷ futures) outcome rest all none h =
       ((all.0, none), keeping_settles Left next futures outcome rest all.1 none h)

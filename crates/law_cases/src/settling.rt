@@ -9,7 +9,8 @@ ghost use Rattle.model_stream.specs.Reading.{ReadOp};
 ghost use Rattle.model_stream.specs.Requests.{StreamReader, write, drain, limits, write_eof, close, drop_connect, read, read_all, give_up_read, wait, kill};
 ghost use Rattle.model_stream.specs.Streams.{Streams, connect, launch, listen, close_server};
 ghost use Rattle.model_stream.specs.Kept.{StreamsKeep};
-ghost use Rattle.law_cases.specs.Trees.{AllWaits, AnswersStreams, ConnectsStreams, DrainWaits, ExitWaits, IsOwn, Keeping, KeepsStreams, OpensStreams, Owned, ReadWaits, WaitsNever};
+ghost use Rattle.law_cases.specs.Trees.{AllWaits, AnswersStreams, ConnectsStreams, DrainWaits, ExitWaits, IsOwn};
+ghost use Rattle.law_cases.specs.Trees.{Keeping, KeepsStreams, OpensStreams, Owned, ReadWaits, WaitsNever};
 
 /// So does each request on what is open, and each that opens something. A future that a task is to
 /// wait on was made in it, and the number of what was opened is one of those that there are then.

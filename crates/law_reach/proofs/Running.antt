@@ -113,10 +113,12 @@ module _ {S : Type 0} (limit : ℕ) (added : Extra S) where
           subst (GoesTo added None s) (sym (effect_none s closed limit added it is)) (record { reaches = stays; ends = tt; asks = refl })
       at (inr opened) = each opened
 
-  streams_goes_on : (tree : Doing Streams) (s : State S) → Keeping (KeepsStreams (any_of (length s.streams.connections)) (next_future s.loop.parts) s.streams) (any_of (length s.streams.connections)) (next_future s.loop.parts) tree
-      → IsOpen s → GoesTo added None s (streams_go tree s)
+  streams_goes_on : (tree : Doing Streams) (s : State S)
+      → Keeping (KeepsStreams (any_of (length s.streams.connections)) (next_future s.loop.parts) s.streams)
+      (any_of (length s.streams.connections)) (next_future s.loop.parts) tree → IsOpen s → GoesTo added None s (streams_go tree s)
   streams_goes_on tree s keeps opened =
-      tree_goes added None (KeepsStreams (any_of (length s.streams.connections)) (next_future s.loop.parts) s.streams) (any_of (length s.streams.connections)) (next_future s.loop.parts) tree goes_with s keeps opened
+      tree_goes added None (KeepsStreams (any_of (length s.streams.connections)) (next_future s.loop.parts) s.streams)
+      (any_of (length s.streams.connections)) (next_future s.loop.parts) tree goes_with s keeps opened
       (λ streams t o. record { reaches = one (ChangesStreams streams) o; ends = tt; asks = refl })
 
   acts_goes : (it : Action) (returned : Bool) (s : State S) → IsOpen s

@@ -20,7 +20,8 @@ use Rattle.model_loop.specs.Timeouts.{exit_timeout, timeout_exception, timeout_o
 use Rattle.model_loop.specs.Ways.{is_running}
 use Rattle.model_machine.specs.Extra.{Extra}
 use Rattle.model_machine.specs.Replies.{exits_as, exits_timeout, timed_out_if, waits}
-use Rattle.model_machine.specs.Sound.{AreBlocksOf, IsLeft, IsOpenedAt, IsStateSound, StandsRightly, blocks_of, is_open, ids_of, names_block, names_made, sends_made}
+use Rattle.model_machine.specs.Sound.{AreBlocksOf, IsLeft, IsOpenedAt, IsStateSound, StandsRightly}
+use Rattle.model_machine.specs.Sound.{blocks_of, is_open, ids_of, names_block, names_made, sends_made}
 use Rattle.model_machine.specs.State.{ResumePoint, Asked, Sleeping, Leaving, State, generator_of, resumed, stands, with_loop}
 use Rattle.model_machine.specs.Step.{says_of}
 use Rattle.model_machine.specs.Told.{told_in}

@@ -11,7 +11,8 @@ use Rattle.model_loop.proofs.FutureCases.{is_plain_at}
 use Rattle.model_machine.specs.Extra.{Extra}
 use Rattle.model_machine.specs.Sound.{AreKeptOnce, AreScriptsFutures, AreStreamsFutures, IsOpenedAt, IsSoundBut}
 use Rattle.model_machine.specs.Sound.{IsSoundOver, ids_of}
-use Rattle.model_machine.specs.State.{ResumePoint, Asked, Sleeping, Leaving, Serving, Connecting, Yielding, Reading, ReadingAll, State, generator_of, with_streams}
+use Rattle.model_machine.specs.State.{ResumePoint, Asked, Sleeping, Leaving, Serving, Connecting}
+use Rattle.model_machine.specs.State.{Yielding, Reading, ReadingAll, State, generator_of, with_streams}
 use Rattle.model_wire.specs.declared.event.Handed.TheVariants as to
 use Rattle.model_stream.specs.Kept.{times_kept}
 use Rattle.model_stream.specs.Requests.{OfConn, OfChild}
@@ -53,7 +54,8 @@ unmade p future past plain = false≢true (sym (ap is_plain_at (slice_get_past p
 pub replaces : {S : Type 0} (s u : State S) (streams : Streams) (next : ℕ) → AreStreamsFutures s → AreKeptOnce s → AreScriptsFutures s
     → ((future : ℕ) → times_kept future streams ≤ times_kept future s.streams + made_in (next_future s.loop.parts) next future)
     → length s.streams.servers ≤ length streams.servers → length s.streams.connections ≤ length streams.connections
-    → length s.streams.children ≤ length streams.children → u.futures ≡ s.futures → u.streams ≡ s.streams → AreStreamsFutures (with_streams streams u) → Replaces u streams
+    → length s.streams.children ≤ length streams.children → u.futures ≡ s.futures → u.streams ≡ s.streams
+    → AreStreamsFutures (with_streams streams u) → Replaces u streams
 replaces s u streams next kept once scripts times servers connections children futures same after = record {
   kept = after;
   once = λ future. counted future (cases_lt future (next_future s.loop.parts));

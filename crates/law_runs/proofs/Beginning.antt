@@ -21,7 +21,8 @@ use Rattle.model_loop.specs.Tasks.{begin_step, cancelled_error, cancelling_input
 use Rattle.model_loop.specs.Ways.{is_running, one_if, steps, wanted}
 use Rattle.model_machine.specs.Extra.{Extra}
 use Rattle.model_machine.specs.Replies.{Answers, decides, exits_as, replied}
-use Rattle.model_machine.specs.Sound.{Ids, IsOpenedAt, IsStateSound, StandsUnder, ends_sleep_of, blocks_of, ids_of, names_block, names_made, sends_made, stands_at}
+use Rattle.model_machine.specs.Sound.{Ids, IsOpenedAt, IsStateSound, StandsUnder, ends_sleep_of}
+use Rattle.model_machine.specs.Sound.{blocks_of, ids_of, names_block, names_made, sends_made, stands_at}
 use Rattle.model_machine.specs.State.{ResumePoint, Asked, Sleeping, Leaving, Serving, Connecting, Yielding, Reading, Generator}
 use Rattle.model_machine.specs.State.{ReadingAll, State, generator_of, noted, resumed, stands, unbooked_in}
 use Rattle.model_machine.specs.State.{with_loop}

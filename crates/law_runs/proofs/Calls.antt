@@ -129,7 +129,8 @@ module _ {S : Type 0} (added : Extra S) (task : ℕ) (code arguments : Value) wh
       (all_after (Some task) own call.steps s.loop may.steps)
       (all_sound (Some task) (told_in s.events) own call.steps s.loop may.steps is.others.loop) is in
       record {
-        others = extra_replaced added (Some task) (Some task) t call.state (called_kept added woken call s may) (keys_called added woken call s free may is.others.keys) on.others;
+        others = extra_replaced added (Some task) (Some task) t call.state (called_kept added woken call s may)
+            (keys_called added woken call s free may is.others.keys) on.others;
         resume_point = on.resume_point;
         says = on.says;
         exits = on.exits;

@@ -8,7 +8,7 @@ ghost use Rattle.model_says.specs.Endings.{Asks, Returns, Raises};
 ghost use Rattle.model_says.specs.Says.{step_limit};
 ghost use Rattle.model_wire.specs.declared.event.Event.TheVariants.{Ran};
 ghost use Rattle.model_loop.specs.Parts.{Handle};
-ghost use Rattle.model_loop.specs.Tasks.{begin_step, finish, lives, next_task};
+ghost use Rattle.model_loop.specs.Tasks.{begin_step, finish, lives};
 ghost use Rattle.model_loop.specs.Ways.{steps};
 ghost use Rattle.model_machine.specs.Extra.{Extra};
 ghost use Rattle.model_machine.specs.Outcomes.{woken_with};
