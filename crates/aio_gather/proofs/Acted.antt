@@ -1,5 +1,6 @@
 -- What handles that run and requests that are woken come to, by the view of the loop's parts.
-use Rattle.std.proofs.Common.{◌≡◌, ◌⊎◌, inl, inr, ℕ, zero, suc, ◌≤◌, ◌-◌, arith, Bool, true, false, List, [], ◌∷◌, ◌++◌, Option, Some, None, length, map, slice_get, slice_set, refl, sym, ap, subst, ◌∙◌}
+use Rattle.std.proofs.Common.{◌≡◌, ◌⊎◌, inl, inr, ℕ, zero, suc, ◌≤◌, ◌-◌, arith, Bool, true, false, List, [], ◌∷◌, ◌++◌, Option, Some, None, length}
+use Rattle.std.proofs.Common.{map, slice_get, slice_set, refl, sym, ap, subst, ◌∙◌}
 use Rattle.std.proofs.Common.{append-nil}
 use Rattle.std.proofs.lemmas.List.{map-set}
 use Rattle.std.proofs.lemmas.Option.{slice_get-map}
@@ -29,7 +30,8 @@ use Rattle.aio_extra.specs.declared.asked.Asked.{Asked}
 use Rattle.refine_added.specs.Seen.{IsFramed, Sees, SeesAll}
 use Rattle.aio_gather.specs.Counted.{gathering}
 use Rattle.aio_gather.specs.Ended.{expired_so, finished_so, is_over_now}
-use Rattle.aio_gather.specs.Kept.{HasTimer, argument_as, counted_down, drawn_as, gathering_as, in_state, kept_of, mode_as, state_as, tag_as, timed_as, timer_in, waiting_as}
+use Rattle.aio_gather.specs.Kept.{HasTimer, argument_as, counted_down, drawn_as, gathering_as, in_state, kept_of, mode_as, state_as, tag_as, timed_as}
+use Rattle.aio_gather.specs.Kept.{timer_in, waiting_as}
 use Rattle.aio_gather.specs.Seen.{AreKnown, CallsSeen, IsMadeBy, Says, SaysSeen}
 use Rattle.aio_gather.specs.declared.drawn.Drawn.{Drawn}
 use Rattle.aio_gather.specs.declared.drawn.Drawn.TheVariants.{Gathers, Waits, Shields, WaitsFor}

@@ -1,5 +1,6 @@
 -- Requests in code come to the machine's.
-use Rattle.std.proofs.Common.{◌≡◌, ℕ, ℤ, zero, suc, ◌+◌, ◌<◌, ◌≤◌, ◌⊎◌, inl, inr, Bool, true, false, not, List, [], ◌∷◌, ◌++◌, Option, Some, None, length, map, slice_get}
+use Rattle.std.proofs.Common.{◌≡◌, ℕ, ℤ, zero, suc, ◌+◌, ◌<◌, ◌≤◌, ◌⊎◌, inl, inr, Bool, true, false, not, List, [], ◌∷◌, ◌++◌, Option, Some, None}
+use Rattle.std.proofs.Common.{length, map, slice_get}
 use Rattle.std.proofs.Common.{refl, sym, ap, subst, ◌∙◌, arith, ◌==◌}
 use Rattle.std.specs.Prelude.{filter, if◌then◌else◌, ◌^◌}
 use Rattle.std.specs.List.{AllByRecursion as Each, list_all}
@@ -14,13 +15,15 @@ use Rattle.model_loop.specs.Tasks.{cancelling, next_task}
 use Rattle.model_says.specs.Operations.{out_of_range}
 use Rattle.model_says.specs.Requests.{bad_argument}
 use Rattle.model_machine.specs.Extra as extra
-use Rattle.model_machine.specs.Extra.{Answers, CallsLater, ExtraAnswer, ExtraCall, ExtraSaid, ExtraStep, MakesMany, MakesPlain, Raises, Registers, made_by, made_by_all}
+use Rattle.model_machine.specs.Extra.{Answers, CallsLater, ExtraAnswer, ExtraCall, ExtraSaid, ExtraStep, MakesMany, MakesPlain, Raises, Registers}
+use Rattle.model_machine.specs.Extra.{made_by, made_by_all}
 use Rattle.model_machine.specs.Outcomes.{input_of}
 use Rattle.model_machine.specs.Sound.{IsAwaitable}
 use Rattle.model_machine.specs.State.{State}
 use Rattle.model_reach.specs.Part.{can_draw, key_at, passes, refuses}
 use Rattle.model_gather.specs.Gathered as plain
-use Rattle.model_gather.specs.Gathered.{Answered, Argument, Drawn, Gathered, Gathers, Shields, Tells, WaitMode, Waits, at_once, distinct, distinct_arguments, drawn_after, draws}
+use Rattle.model_gather.specs.Gathered.{Answered, Argument, Drawn, Gathered, Gathers, Shields, Tells, WaitMode, Waits, at_once, distinct}
+use Rattle.model_gather.specs.Gathered.{distinct_arguments, drawn_after, draws}
 use Rattle.model_gather.specs.Gathered.{futures_of, gather_keeps, gather_part, own_in, registered_from, settled_as}
 use Rattle.model_gather.specs.Gather.{Counted, count_all, gather, gather_all}
 use Rattle.model_gather.specs.Shield.{shield, shield_open}
@@ -155,7 +158,9 @@ timed_goes t v w own l front when key k rules ok quiet seen =
     let split = seen_split t.known front (CallsLater when key ∷ []) v w seen in
     let m = split.0 in
     let l1 = made_by_all front l in
-    let first = steps_go t v m own l front k rules (allowed_left own front (CallsLater when key ∷ []) l ok) (handles_older l.parts.next_tag front quiet) split.1 in
+    let first =
+    steps_go t v m own l front k rules (allowed_left own front (CallsLater when key ∷ []) l ok)
+    (handles_older l.parts.next_tag front quiet) split.1 in
     let last = kept_later first.name_map m l1.parts first.keeps when (action.Extra key) in
     let is = split.2.2 ∙ split.2.1 in
     let number : m.schedule.next ≡ v.schedule.next = ap (λ s. s.next) (same_schedule t.known front v m quiet split.1) in

@@ -1,5 +1,6 @@
 -- What a call comes to, where the object stood for a state.
-use Rattle.std.proofs.Common.{◌≡◌, ℕ, zero, suc, ◌+◌, ◌<◌, ◌≤◌, ◌⊎◌, inl, inr, Bool, true, false, not, List, [], ◌∷◌, ◌++◌, Option, Some, None, length, map, slice_get}
+use Rattle.std.proofs.Common.{◌≡◌, ℕ, zero, suc, ◌+◌, ◌<◌, ◌≤◌, ◌⊎◌, inl, inr, Bool, true, false, not, List, [], ◌∷◌, ◌++◌, Option, Some, None}
+use Rattle.std.proofs.Common.{length, map, slice_get}
 use Rattle.std.proofs.Common.{refl, sym, ap, subst, ◌∙◌, arith}
 use Rattle.std.specs.List.{AllByRecursion as Each}
 use Rattle.std.proofs.lemmas.Bool.{false_from_ne_true}
@@ -42,7 +43,8 @@ among_each P (x ∷ xs) id all (suc place, e) = among_each P xs id all.1 (place,
 plain_free : (p : Parts) (id : ℕ) → is_plain p id ≡ true → owner_of p id ≡ None
 plain_free p id e = at (slice_get p.futures id) e
   where
-    kinds : (kind : FutureKind) → elim kind [ Plain ↦ true | _ ↦ false ] ≡ true → owner_at (Some (record { kind = kind; outcome = None; callbacks = [] })) ≡ None
+    kinds : (kind : FutureKind) → elim kind [ Plain ↦ true | _ ↦ false ] ≡ true
+        → owner_at (Some (record { kind = kind; outcome = None; callbacks = [] })) ≡ None
     kinds Plain e = refl
     kinds (OfTask task) e = absurd (cc)
     kinds (Many members asked) e = absurd (cc)
@@ -100,7 +102,8 @@ module _ (running : Option ℕ) (t : NameMap) (s : State Gathered) (x : Gather) 
         (seen.steps t.known (known_by tags agrees))
 
     module _ (goes : Goes t p v w (made_by_all call.steps s.loop).parts)
-        (new : (id : TimerId) → IsMadeBy v.schedule.next call.steps id → Knows goes.name_map (made_by_all call.steps s.loop).parts (tags id.number) (ByTimer id)) where
+        (new : (id : TimerId) → IsMadeBy v.schedule.next call.steps id
+        → Knows goes.name_map (made_by_all call.steps s.loop).parts (tags id.number) (ByTimer id)) where
       stays_there : (id : ℕ) → IsOwn (gather_keeps s.extra).own (next_future p) id → t.gone id ≡ false
       stays_there id (inl old) = h.stands.own id old
       stays_there id (inr past) = false_from_ne_true (t.gone id) (λ g. let m = h.keeps.made id g in omega (arith, m, past))

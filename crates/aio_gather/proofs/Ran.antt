@@ -1,5 +1,6 @@
 -- Handles that run and requests that are woken, in code, come to the machine's.
-use Rattle.std.proofs.Common.{◌≡◌, ℕ, ℤ, ◌<◌, ◌-◌, ◌⊎◌, inl, inr, Bool, true, false, not, cond, List, [], ◌∷◌, ◌++◌, Option, Some, None, length, map, slice_get, refl, sym, ap, subst, ◌∙◌}
+use Rattle.std.proofs.Common.{◌≡◌, ℕ, ℤ, ◌<◌, ◌-◌, ◌⊎◌, inl, inr, Bool, true, false, not, cond, List, [], ◌∷◌, ◌++◌, Option, Some, None, length, map}
+use Rattle.std.proofs.Common.{slice_get, refl, sym, ap, subst, ◌∙◌}
 use Rattle.std.proofs.Math.Logic.{∥∥₁_elim}
 use Rattle.std.proofs.Props.{props}
 use Rattle.std.specs.Prelude.{Result, Ok, Err, filter, if◌then◌else◌, is_some, ◌&&◌, nat_le}
@@ -20,7 +21,8 @@ use Rattle.model_machine.specs.Sound.{IsAwaitable, IsOwned, IsTagOwned, sends_ma
 use Rattle.model_machine.specs.State.{State}
 use Rattle.model_reach.specs.Part.{key_at, passes, place_of, stays}
 use Rattle.model_gather.specs.Gathered as plain
-use Rattle.model_gather.specs.Gathered.{Argument, Expired, Expiring, Finished, Gathered, Gathering, Gathers, Rings, Shields, Tells, Timed, TimedState, TimedWait, Waiting, Waits}
+use Rattle.model_gather.specs.Gathered.{Argument, Expired, Expiring, Finished, Gathered, Gathering, Gathers, Rings, Shields, Tells, Timed, TimedState}
+use Rattle.model_gather.specs.Gathered.{TimedWait, Waiting, Waits}
 use Rattle.model_gather.specs.Gathered.{WaitsFor, drawn_at, futures_in, gather_keeps, gather_part, own_in, settled_as, tag_in, values_of}
 use Rattle.model_gather.specs.Gather.{Counted, asked_kind, count, was_asked}
 use Rattle.model_gather.specs.Wait.{is_over, revoked, sorted, wait_says}
@@ -122,7 +124,9 @@ module _ (running : Option ℕ) (t : NameMap) (s : State Gathered) (x : Gather) 
       told_by o =
           record {
             state = drawn_at place (Waits (record it { left = it.left - 1 })) s.extra;
-            steps = settled_as (if option_map_or (λ outcome. is_over outcome (record it { left = it.left - 1 })) o false then Some plain.resolved else None) it.on;
+            steps =
+                settled_as (if option_map_or (λ outcome. is_over outcome (record it { left = it.left - 1 })) o false
+                then Some plain.resolved else None) it.on;
           }
   told_same (Some (Shields on)) place member e here = ap (λ o. record { state = s.extra; steps = settled_as o on }) (ends_same member here)
   told_same (Some _) place member e here = refl
@@ -304,7 +308,8 @@ module _ (running : Option ℕ) (t : NameMap) (s : State Gathered) (x : Gather) 
   wakes_so key place input y w asked seen may =
       let said = woken (slice_get s.extra.drawn place) place input p s.extra in
       let is = subst (SaysSeen h.stands.tags x y v w asked)
-      (ap (λ kept. woken (slice_get kept.drawn place) place input (parts v) kept) h.stands.same ∙ woken_same (slice_get s.extra.drawn place) place input) seen in
+      (ap (λ kept. woken (slice_get kept.drawn place) place input (parts v) kept) h.stands.same
+      ∙ woken_same (slice_get s.extra.drawn place) place input) seen in
       let ends = woken_ends (slice_get s.extra.drawn place) place input refl in
       says_so running t s x v h h.stands.tags (λ id has. refl) (Some key) y w asked said is may ends.waits
       (plainly running t s x v h h.stands.tags (λ id has. refl) (Some key) y w said.call is.call may.call ends.older)

@@ -1,5 +1,6 @@
 -- One handle more is registered.
-use Rattle.std.proofs.Common.{◌≡◌, ℕ, suc, ◌+◌, ◌<◌, List, [], ◌∷◌, ◌++◌, Option, Some, None, length, map, take, get_or, slice_get, refl, sym, ap, subst, ◌∙◌, arith, length-append, length-take}
+use Rattle.std.proofs.Common.{◌≡◌, ℕ, suc, ◌+◌, ◌<◌, List, [], ◌∷◌, ◌++◌, Option, Some, None, length, map, take, get_or, slice_get, refl, sym, ap}
+use Rattle.std.proofs.Common.{subst, ◌∙◌, arith, length-append, length-take}
 use Rattle.std.proofs.lemmas.List.{length-map, take_more}
 use Rattle.model_value.specs.Action.{Action}
 use Rattle.model_value.specs.Value.{Outcome}
@@ -35,7 +36,8 @@ pub registered_more : (known : ℕ → Known) (part place : ℕ) (xs : List ℕ)
     }
     → SeesAll known (registered_from part place (take (k + 1) xs)) v w
 registered_more known part place xs k key v m w h is seen e =
-    subst (λ steps. SeesAll known steps v w) (sym (ap (registered_from part place) (take_more xs k 0 h) ∙ registered_last part place (take k xs) (get_or xs k 0)))
+    subst (λ steps. SeesAll known steps v w)
+    (sym (ap (registered_from part place) (take_more xs k 0 h) ∙ registered_last part place (take k xs) (get_or xs k 0)))
     (seen_then known (registered_from part place (take k xs)) _ v m w seen
     (subst (λ n. SeesAll known (Registers (get_or xs k 0) n ∷ []) m w) (is ∙ ap (λ n. key_at part (place + n)) (sym taken)) (w, e, refl)))
   where

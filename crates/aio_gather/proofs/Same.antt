@@ -11,7 +11,8 @@ use Rattle.model_loop.specs.Tasks.{cancelling}
 use Rattle.model_machine.specs.Extra.{CallsLater, ExtraSaid, ExtraStep, MakesMany, MakesPlain, Raises, Waits as Awaits}
 use Rattle.model_machine.specs.Outcomes.{input_of}
 use Rattle.model_reach.specs.Part.{key_at, passes}
-use Rattle.model_gather.specs.Gathered.{Argument, Gathered, Gathering, Gathers, Shields, Tells, Timed, WaitMode, Waits, WaitsFor, at_once, distinct, distinct_arguments}
+use Rattle.model_gather.specs.Gathered.{Argument, Gathered, Gathering, Gathers, Shields, Tells, Timed, WaitMode, Waits, WaitsFor, at_once, distinct}
+use Rattle.model_gather.specs.Gathered.{distinct_arguments}
 use Rattle.model_gather.specs.Gathered.{drawn_after, draws, futures_of, gather_part, next_key, registered_from, settled_as}
 use Rattle.model_gather.specs.Gather.{Counted, count, count_all, decided, first_of, gather, gather_all, is_value, item_of, items_of, result_of}
 use Rattle.model_gather.specs.Shield.{shield, shield_open}
