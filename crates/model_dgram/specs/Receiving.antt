@@ -10,7 +10,7 @@ use Rattle.model_loop.specs.Parts.{Parts}
 use Rattle.model_machine.specs.Extra.{Answers, ExtraCall, ExtraSaid, MakesPlain, Raises, Waits}
 use Rattle.model_reach.specs.Part.{stays}
 use Rattle.model_dgram.specs.Texts.{Came, Datagram}
-use Rattle.model_dgram.specs.Endpoints.{Endpoint, Endpoints, Receives, answers, draw, endpoint_at, is_closed, most_held, next_key, raises, says}
+use Rattle.model_dgram.specs.Endpoints.{Endpoint, Endpoints, Receives, answers, endpoint_at, is_closed, most_held, next_key, raises, says}
 use Rattle.model_dgram.specs.Endpoints.{set_endpoint, wait_again, wait_last, wait_over, wakes_receiver}
 
 abbrev pub waited_for : Exc

@@ -7,9 +7,8 @@ use Rattle.model_value.specs.declared.input.Input.TheVariants.{Send, Throw}
 use Rattle.model_value.specs.declared.kind.Kind.TheVariants.{OSError, ValueError}
 use Rattle.model_loop.specs.Futures.{next_future}
 use Rattle.model_loop.specs.Parts.{Parts}
-use Rattle.model_machine.specs.Extra.{Answers, Asks, ExtraAnswer, ExtraCall, ExtraSaid, ExtraStep, MakesPlain, Raises, Waits}
+use Rattle.model_machine.specs.Extra.{Answers, Asks, ExtraAnswer, ExtraCall, ExtraSaid, MakesPlain, Raises, Waits}
 use Rattle.model_reach.specs.Part.{stays}
-use Rattle.model_value.specs.Number.{number_of}
 use Rattle.model_sync.specs.Synced.{without}
 use Rattle.model_dgram.specs.Texts.{Datagram, most_sent, offer_text, port_of}
 use Rattle.model_dgram.specs.Endpoints.{Endpoint, Endpoints, Offers, Sends, answers, endpoint_at, is_closed, next_key, raises, says, set_endpoint}
