@@ -1,9 +1,11 @@
 -- How endpoints are opened and closed. Source: `base_events.py`, `create_datagram_endpoint`; `selector_events.py`, `close`.
-use Rattle.std.specs.Prelude.{ℕ, ◌+◌, ℤ, pos, Bool, false, List, [], ◌∷◌, ◌++◌, Some, None, bytes_eq, codes, if◌then◌else◌}
+use Rattle.std.specs.Prelude.{ℕ, ◌+◌, ◌==◌, ℤ, pos, Bool, false, List, [], ◌∷◌, ◌++◌, Some, None, codes, if◌then◌else◌}
 use Rattle.std.specs.Fmt.{decimal}
 use Rattle.std.specs.List.{flat_map}
+use Rattle.std.specs.Option.{option_map_or}
 use Rattle.std.specs.Map.{remove_entry}
 use Rattle.model_value.specs.Input.{Input}
+use Rattle.model_value.specs.Number.{number_of}
 use Rattle.model_value.specs.Value.{Value, Bytes, Int, Nothing, Exc, exception_of}
 use Rattle.model_value.specs.declared.input.Input.TheVariants.{Send, Throw}
 use Rattle.model_value.specs.declared.kind.Kind.TheVariants.{OSError, ValueError}
@@ -19,11 +21,6 @@ no_port = exception_of ValueError (codes "port")
 abbrev pub other_answer : Exc
 other_answer = exception_of OSError (codes "extra answer")
 
--- what the outside answered is these bytes
-abbrev pub is_answer : Value → List ℕ → Bool
-is_answer (Bytes bytes) wanted = bytes_eq bytes wanted
-is_answer _ wanted = false
-
 -- ---- open
 abbrev pub open_on : (port : ℤ) → Endpoints → ExtraSaid Endpoints
 open_on port kept = elim (port_of port) [
@@ -32,10 +29,14 @@ open_on port kept = elim (port_of port) [
 ]
 
 -- the outside answers with the next number
+abbrev pub is_next : Endpoints → Value → Bool
+is_next kept (Bytes bytes) = option_map_or (λ number. number == kept.opened) (number_of bytes) false
+is_next kept _ = false
+
 abbrev pub opened : (place : ℕ) → Input → Endpoints → ExtraSaid Endpoints
 opened place (Throw exception) kept = says (wait_over place kept) [] (Raises exception)
 opened place (Send value) kept =
-    if is_answer value (decimal kept.opened)
+    if is_next kept value
     then says
     (record (wait_over place kept) { opened = kept.opened + 1; endpoints = kept.endpoints ++ (kept.opened, fresh) ∷ [] }) []
     (Answers (Int (pos kept.opened)))

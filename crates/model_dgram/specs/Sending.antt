@@ -1,8 +1,8 @@
 -- How datagrams are sent, in order of asking. Who sends stands in line until it has sent or raised; the first in line asks the
 -- outside, and waits where that can't send yet. Source: `selector_events.py`, `_SelectorDatagramTransport.sendto`, `_sendto_ready`.
-use Rattle.std.specs.Prelude.{ℕ, ◌==◌, ℤ, pos, Bool, false, List, [], ◌∷◌, ◌++◌, Option, Some, None, codes, length, nat_lt, if◌then◌else◌}
+use Rattle.std.specs.Prelude.{ℕ, ◌==◌, ℤ, pos, Bool, false, List, [], ◌∷◌, ◌++◌, Option, Some, None, bytes_eq, codes, length, nat_lt, if◌then◌else◌}
 use Rattle.model_value.specs.Input.{Input}
-use Rattle.model_value.specs.Value.{Nothing, Exc, exception_of}
+use Rattle.model_value.specs.Value.{Value, Bytes, Nothing, Exc, exception_of}
 use Rattle.model_value.specs.declared.input.Input.TheVariants.{Send, Throw}
 use Rattle.model_value.specs.declared.kind.Kind.TheVariants.{OSError, ValueError}
 use Rattle.model_loop.specs.Futures.{next_future}
@@ -13,7 +13,7 @@ use Rattle.model_sync.specs.Synced.{without}
 use Rattle.model_dgram.specs.Texts.{Datagram, most_sent, offer_text, port_of}
 use Rattle.model_dgram.specs.Endpoints.{Endpoint, Endpoints, Offers, Sends, answers, endpoint_at, is_closed, next_key, raises, says, set_endpoint}
 use Rattle.model_dgram.specs.Endpoints.{wait_again, wait_last, wait_over, wakes_first}
-use Rattle.model_dgram.specs.Opening.{is_answer, no_port}
+use Rattle.model_dgram.specs.Opening.{no_port}
 
 abbrev pub too_long : Exc
 too_long = exception_of ValueError (codes "datagram")
@@ -75,6 +75,11 @@ sends_again key place id it (Send value) kept =
       | None ↦ leaves place id (Raises is_closed) kept
       | Some endpoint ↦ says (wait_again place (Offers id it) kept) [] (Asks (pos 401) (offer_text id it) key)
     ]
+
+-- what the outside answered is these bytes
+abbrev pub is_answer : Value → List ℕ → Bool
+is_answer (Bytes bytes) wanted = bytes_eq bytes wanted
+is_answer _ wanted = false
 
 -- By what the outside answers. Where it can't send yet, the sender waits, and stands first still.
 abbrev pub offered : (key place id : ℕ) → Datagram → Input → Parts → Endpoints → ExtraSaid Endpoints
