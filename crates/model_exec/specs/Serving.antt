@@ -1,10 +1,9 @@
 -- A job beside the loop: `extra(300, [kind, bytes])`. Source: the library reference, "Coroutines and Tasks", `asyncio.to_thread`;
 -- `base_events.py`, `run_in_executor`.
-use Rattle.std.specs.Prelude.{ℕ, ◌==◌, ℤ, pos, negsuc, Bool, false, List, [], ◌∷◌, Option, Some, None, codes}
+use Rattle.std.specs.Prelude.{ℕ, ◌==◌, ℤ, pos, negsuc, Bool, true, false, List, [], ◌∷◌, Option, Some, None, bytes_eq, codes}
 use Rattle.std.specs.Prelude.{if◌then◌else◌}
-use Rattle.std.specs.Option.{option_map_or}
+use Rattle.std.specs.Fmt.{decimal}
 use Rattle.model_value.specs.Input.{Input}
-use Rattle.model_value.specs.Number.{number_of}
 use Rattle.model_value.specs.Value.{Value, Nothing, Bytes, Exc, exception_of}
 use Rattle.model_value.specs.declared.input.Input.TheVariants.{Send, Throw}
 use Rattle.model_value.specs.declared.kind.Kind.TheVariants.{OSError, ValueError}
@@ -58,9 +57,9 @@ asked_for code (Some it) kept = drawing exec_part kept.drawn 1 (asked_to it kept
 abbrev pub asked : (code : ℤ) → List Value → Execed → ExtraSaid Execed
 asked code arguments kept = if is_job_code code then asked_for code (wanted_of arguments) kept else refuses (unknown_code code) kept
 
--- ---- what the outside answered: the job's number, which is the next
+-- ---- what the outside answered: the job's number, which must be the next
 abbrev pub is_next : Execed → Value → Bool
-is_next kept (Bytes bytes) = option_map_or (λ number. number == kept.accepted) (number_of bytes) false
+is_next kept (Bytes bytes) = bytes_eq bytes (decimal kept.accepted)
 is_next kept _ = false
 
 -- the task waits on a future that is made
