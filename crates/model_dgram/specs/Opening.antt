@@ -1,11 +1,9 @@
 -- How endpoints are opened and closed. Source: `base_events.py`, `create_datagram_endpoint`; `selector_events.py`, `close`.
-use Rattle.std.specs.Prelude.{ℕ, ◌+◌, ◌==◌, ℤ, pos, Bool, false, List, [], ◌∷◌, ◌++◌, Some, None, codes, if◌then◌else◌}
+use Rattle.std.specs.Prelude.{ℕ, ◌+◌, ℤ, pos, Bool, false, List, [], ◌∷◌, ◌++◌, Some, None, bytes_eq, codes, if◌then◌else◌}
 use Rattle.std.specs.Fmt.{decimal}
 use Rattle.std.specs.List.{flat_map}
-use Rattle.std.specs.Option.{option_map_or}
 use Rattle.std.specs.Map.{remove_entry}
 use Rattle.model_value.specs.Input.{Input}
-use Rattle.model_value.specs.Number.{number_of}
 use Rattle.model_value.specs.Value.{Value, Bytes, Int, Nothing, Exc, exception_of}
 use Rattle.model_value.specs.declared.input.Input.TheVariants.{Send, Throw}
 use Rattle.model_value.specs.declared.kind.Kind.TheVariants.{OSError, ValueError}
@@ -28,9 +26,9 @@ open_on port kept = elim (port_of port) [
   | Some port ↦ says (wait_last Opens kept) [] (Asks (pos 400) (decimal port) (next_key kept))
 ]
 
--- the outside answers with the next number
+-- the outside answers with the next number, as it is written
 abbrev pub is_next : Endpoints → Value → Bool
-is_next kept (Bytes bytes) = option_map_or (λ number. number == kept.opened) (number_of bytes) false
+is_next kept (Bytes bytes) = bytes_eq bytes (decimal kept.opened)
 is_next kept _ = false
 
 abbrev pub opened : (place : ℕ) → Input → Endpoints → ExtraSaid Endpoints
