@@ -13,7 +13,7 @@ use Rattle.row_reach.specs.Reading.{prints, text}
 use Rattle.std.specs.Prelude.{Some}
 
 abbrev pub opens : Call
-opens = call.Extra 400 (codes "9")
+opens = call.Extra (pos 400) (codes "9")
 
 -- a turn in which the outside tells of what is added too
 abbrev pub selects_told : Call
@@ -39,7 +39,7 @@ back_journal =
     Answered (answer.Turn 0 [])
     ∷ Answered (answer.Extra (codes "0"))
     ∷ Answered (answer.Extra (codes "sent"))
-    ∷ Answered (answer.Turn 0 (item.Extra 402 (codes "0 10 xy") ∷ []))
+    ∷ Answered (answer.Turn 0 (item.Extra (pos 402) (codes "0 10 xy") ∷ []))
     ∷ Answered (answer.Turn 0 [])
     ∷ Answered (answer.Extra [])
     ∷ Answered (answer.Turn 0 []) ∷ []
@@ -51,10 +51,10 @@ back_asked =
       calls =
           selects
           ∷ opens
-          ∷ call.Extra 401 (codes "0 10 ab")
+          ∷ call.Extra (pos 401) (codes "0 10 ab")
           ∷ waits_told
           ∷ selects_told
-          ∷ call.Extra 403 (codes "0")
+          ∷ call.Extra (pos 403) (codes "0")
           ∷ selects ∷ [];
       end = Returned Nothing;
     }
@@ -73,7 +73,7 @@ again_journal =
     Answered (answer.Turn 0 [])
     ∷ Answered (answer.Extra (codes "0"))
     ∷ Answered (answer.Extra (codes "again"))
-    ∷ Answered (answer.Turn 1 (item.Extra 401 (codes "0") ∷ []))
+    ∷ Answered (answer.Turn 1 (item.Extra (pos 401) (codes "0") ∷ []))
     ∷ Answered (answer.Turn 1 [])
     ∷ Answered (answer.Extra (codes "sent"))
     ∷ Answered (answer.Turn 1 []) ∷ []
@@ -85,10 +85,10 @@ again_asked =
       calls =
           selects
           ∷ opens
-          ∷ call.Extra 401 (codes "0 10 a")
+          ∷ call.Extra (pos 401) (codes "0 10 a")
           ∷ waits_told
           ∷ selects_told
-          ∷ call.Extra 401 (codes "0 10 a")
+          ∷ call.Extra (pos 401) (codes "0 10 a")
           ∷ selects_told ∷ [];
       end = Returned Nothing;
     }
