@@ -10,4 +10,5 @@ mod Right
 mod Drawing
 mod Timing
 mod Keeping
+pub mod Asking
 mod Counting
