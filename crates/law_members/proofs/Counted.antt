@@ -231,7 +231,7 @@ module _ {counts : ℕ → Option Counts} {tells : ℕ → Option (ℕ × ℕ)} 
       (left_new : (it : Counts) → counts' drawn ≡ Some it → sum_by (makes (tells_of tells' drawn)) steps ≤ it.left)
       (there_new : (it : Counts) → counts' drawn ≡ Some it → (m : ℕ) → IsIn m it.members → m < it.own
       → is_pending (made_by_all steps l).parts m ≡ true → IsRegistered tells' drawn m (made_by_all steps l).parts) where
-    after : Parts
+    abbrev after : Parts
     after = (made_by_all steps l).parts
 
     before_is : (test : Action → Bool) → coming test l.parts ≡ coming test p

@@ -22,32 +22,32 @@ use Rattle.law_members.proofs.Drawing.{IsWithin, MoreFit, counts_in, registered_
 use Rattle.law_members.proofs.Onward.{makes, steps_stay}
 
 -- ---- members
-in_filter : (f : ℕ → Bool) (m : ℕ) (ids : List ℕ) → IsIn m ids → f m ≡ true → IsIn m (filter f ids)
+pub in_filter : (f : ℕ → Bool) (m : ℕ) (ids : List ℕ) → IsIn m ids → f m ≡ true → IsIn m (filter f ids)
 in_filter f m [] among is = absurd among
 in_filter f m (id ∷ ids) (inl e) is =
     subst (λ b. IsIn m (cond b (id ∷ filter f ids) (filter f ids))) (sym (ap f e ∙ is)) (inl e)
-in_filter f m (id ∷ ids) (inr h) is = at (f id)
+in_filter f m (id ∷ ids) (inr h) is = at (f id) (in_filter f m ids h is)
   where
-    at : (b : Bool) → IsIn m (cond b (id ∷ filter f ids) (filter f ids))
-    at true = inr (in_filter f m ids h is)
-    at false = in_filter f m ids h is
+    at : (b : Bool) → IsIn m (filter f ids) → IsIn m (cond b (id ∷ filter f ids) (filter f ids))
+    at true more = inr more
+    at false more = more
 
-in_distinct : (m : ℕ) (ids : List ℕ) → IsIn m ids → IsIn m (distinct ids)
+pub in_distinct : (m : ℕ) (ids : List ℕ) → IsIn m ids → IsIn m (distinct ids)
 in_distinct m [] among = absurd among
 in_distinct m (id ∷ ids) (inl e) = inl e
-in_distinct m (id ∷ ids) (inr h) = at (cases_eq m id)
+in_distinct m (id ∷ ids) (inr h) = at (cases_eq m id) (in_distinct m ids h)
   where
-    at : (m ≡ id) ⊎ (m ≡ id → ⊥) → IsIn m (distinct (id ∷ ids))
-    at (inl e) = inl (sym e)
-    at (inr n) = inr (in_filter (λ other. not (other == id)) m (distinct ids) (in_distinct m ids h) (ap not (ne_eqb m id n)))
+    at : (m ≡ id) ⊎ (m ≡ id → ⊥) → IsIn m (distinct ids) → IsIn m (distinct (id ∷ ids))
+    at (inl e) more = inl (sym e)
+    at (inr n) more = inr (in_filter (λ other. not (other == id)) m (distinct ids) more (ap not (ne_eqb m id n)))
 
 -- each that is counted is one fewer, and nothing else changes
-record CountsAll (it now : Gathering) (counted : ℕ) : Type 0 where
-  outer : now.outer ≡ it.outer
-  awaited : now.awaited ≡ it.awaited
-  left : now.left ≡ it.left - counted
+pub record CountsAll (it now : Gathering) (counted : ℕ) : Type 0 where
+  pub outer : now.outer ≡ it.outer
+  pub awaited : now.awaited ≡ it.awaited
+  pub left : now.left ≡ it.left - counted
 
-counts_all : (p : Parts) (asked : Bool) (members : List ℕ) (it : Gathering) → CountsAll it (count_all p asked members it).now (length members)
+pub counts_all : (p : Parts) (asked : Bool) (members : List ℕ) (it : Gathering) → CountsAll it (count_all p asked members it).now (length members)
 counts_all p asked [] it = record { outer = refl; awaited = refl; left = omega arith }
 counts_all p asked (member ∷ members) it =
     let ih = counts_all p asked members (count p asked member it).now in
@@ -66,14 +66,14 @@ tells_with n (id ∷ ids) tail zero m e = ap (λ (k : ℕ). Some (n, k)) (same_S
 tells_with n (id ∷ ids) tail (suc i) m e = tells_with n ids tail i m e
 
 -- behind a request: its handles, none of which counts
-record IsTail (n : ℕ) (tail : List Drawn) : Type 0 where
-  none : (i : ℕ) → counts_in (slice_get tail i) ≡ None
-  tells : (i k m : ℕ) → tells_in (slice_get tail i) ≡ Some (k, m) → k ≡ n
+pub record IsTail (n : ℕ) (tail : List Drawn) : Type 0 where
+  pub none : (i : ℕ) → counts_in (slice_get tail i) ≡ None
+  pub tells : (i k m : ℕ) → tells_in (slice_get tail i) ≡ Some (k, m) → k ≡ n
 
 pair_place : (k m n f : ℕ) → ◌≡◌ {A = Option (ℕ × ℕ)} (Some (n, f)) (Some (k, m)) → k ≡ n
 pair_place k m n f e = sym (ap (λ (o : Option (ℕ × ℕ)). option_map_or (λ (it : ℕ × ℕ). it.0) o k) e)
 
-tail_of : (n : ℕ) (ids : List ℕ) (delay : Option ℤ) → IsTail n (map (Tells n) ids ++ handle_if_some delay n)
+pub tail_of : (n : ℕ) (ids : List ℕ) (delay : Option ℤ) → IsTail n (map (Tells n) ids ++ handle_if_some delay n)
 tail_of n ids delay = record { none = none ids delay; tells = tells ids delay }
   where
     none : (ids : List ℕ) (delay : Option ℤ) (i : ℕ) → counts_in (slice_get (map (Tells n) ids ++ handle_if_some delay n) i) ≡ None
@@ -90,15 +90,15 @@ tail_of n ids delay = record { none = none ids delay; tells = tells ids delay }
     tells (id ∷ ids) delay zero k m e = pair_place k m n id e
     tells (id ∷ ids) delay (suc i) k m e = tells ids delay i k m e
 
-no_more : (tail : List Drawn) → tail ++ [] ≡ tail
+pub no_more : (tail : List Drawn) → tail ++ [] ≡ tail
 no_more [] = refl
 no_more (it ∷ tail) = ap (λ more. it ∷ more) (no_more tail)
 
-tail_alone : (n : ℕ) (ids : List ℕ) → IsTail n (map (Tells n) ids)
+pub tail_alone : (n : ℕ) (ids : List ℕ) → IsTail n (map (Tells n) ids)
 tail_alone n ids = subst (IsTail n) (no_more (map (Tells n) ids)) (tail_of n ids None)
 
 -- ---- of a request that counts nothing
-plain_fit : (n : ℕ) (first : Drawn) (tail : List Drawn) (steps : List ExtraStep) (l : Loop) → counts_in (Some first) ≡ None → tells_in (Some first) ≡ None
+pub plain_fit : (n : ℕ) (first : Drawn) (tail : List Drawn) (steps : List ExtraStep) (l : Loop) → counts_in (Some first) ≡ None → tells_in (Some first) ≡ None
     → IsTail n tail → Each (IsWithin n (n + length (first ∷ tail))) steps → MoreFit n (first ∷ tail) steps l
 plain_fit n first tail steps l no_count no_tell is within =
     record {
@@ -139,7 +139,7 @@ module _ (n : ℕ) (first : Drawn) (its : Counts) (open_ : List ℕ) (tail : Lis
   abbrev all_steps : List ExtraStep
   all_steps = make ∷ handles ++ more
 
-  counting_fit : MoreFit n (first ∷ map (Tells n) open_ ++ tail) (make ∷ registered_from gather_part (suc n) open_ ++ more) l
+  pub counting_fit : MoreFit n (first ∷ map (Tells n) open_ ++ tail) (make ∷ registered_from gather_part (suc n) open_ ++ more) l
   counting_fit = record {
     counts = counts;
     tells = tells;

@@ -46,7 +46,7 @@ only_first false true d e = absurd (cc)
 only_first false false true e = absurd (cc)
 only_first false false false e = absurd (cc)
 
-key_here : (key : ℕ) → part_of_key key ≡ OfGather → key ≡ the_key (place_of gather_part key)
+pub key_here : (key : ℕ) → part_of_key key ≡ OfGather → key ≡ the_key (place_of gather_part key)
 key_here key e =
     let z : key % 4 ≡ 0 = eqb-true (key % 4) 0 (only_first (key % 4 == 0) (key % 4 == 1) (key % 4 == 2) e) in
     omega (arith, z)

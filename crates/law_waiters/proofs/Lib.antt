@@ -1,14 +1,14 @@
 mod Shapes
-mod Fitting
+pub mod Fitting
 mod Going
 mod Reaching
-mod Running
+pub mod Running
 mod Fewer
 mod Timers
 mod Books
 mod Right
-mod Drawing
+pub mod Drawing
 mod Timing
-mod Keeping
+pub mod Keeping
 pub mod Asking
 mod Counting

@@ -1,0 +1,7 @@
+mod Coming
+mod Onward
+mod Counted
+mod Drawing
+mod Entering
+mod Calling
+mod Walking
