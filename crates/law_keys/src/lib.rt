@@ -1,5 +1,5 @@
-//! That locks, events and queues keep to keys of their own, and so what is promised of waiters holds
-//! of the program itself. There is no code: each function's clauses are the law.
+//! That locks, events and queues keep to keys of their own, and so what is promised of waiters is
+//! so of the program itself. There is no code: each function's clauses are the law.
 #![tactic(auto)]
 
 ghost use Rattle.std.specs.Prelude.{ℕ, List};

@@ -1,12 +1,11 @@
 -- What is so of all gathers and waits stays so, whatever is called of them.
-use Rattle.std.proofs.Common.{◌≡◌, ◌<◌, ◌≤◌, ◌+◌, ◌-◌, ◌⊎◌, inl, inr, ℕ, ℤ, suc, Bool, true, false, List, [], ◌∷◌, ◌++◌, Option, Some, None}
+use Rattle.std.proofs.Common.{◌≡◌, ◌≤◌, ◌+◌, ◌-◌, ℕ, ℤ, suc, Bool, true, false, List, [], ◌∷◌, ◌++◌, Option, Some, None}
 use Rattle.std.proofs.Common.{if◌then◌else◌, length, length-append, map, filter, not, slice_get, slice_set, refl, sym, ap, subst, ◌∙◌, arith}
 use Rattle.std.proofs.Math.ListN.{length-set}
 use Rattle.std.specs.List.{AllByRecursion as Each, sum_by}
 use Rattle.std.specs.Option.{option_map_or}
 use Rattle.std.proofs.lemmas.List.Filters.{length-filter_both}
 use Rattle.std.proofs.lemmas.List.Sums.{sum_by-append, sum_by-cons}
-use Rattle.std.proofs.lemmas.Option.{none-some}
 use Rattle.model_value.specs.Action.{Action}
 use Rattle.model_value.specs.declared.action.Action.TheVariants as action
 use Rattle.model_value.specs.Input.{Input}
@@ -16,7 +15,7 @@ use Rattle.model_loop.specs.Loop.{Loop}
 use Rattle.model_loop.specs.Parts.{Handle, Many, Parts, Plain}
 use Rattle.model_loop.specs.Tasks.{cancelling, future_of}
 use Rattle.model_says.specs.Operations.{out_of_range}
-use Rattle.model_machine.specs.Extra.{Answers, Cancels, ExtraAnswer, ExtraCall, ExtraSaid, ExtraStep, MakesMany, MakesPlain, Raises, Revokes, Uncancels}
+use Rattle.model_machine.specs.Extra.{Answers, Cancels, ExtraAnswer, ExtraCall, ExtraSaid, ExtraStep, MakesMany, MakesPlain, Raises, Uncancels}
 use Rattle.model_machine.specs.Extra.{CallsLater, made_by, made_by_all}
 use Rattle.model_machine.specs.Outcomes.{input_of}
 use Rattle.model_machine.specs.State.{State}
@@ -35,10 +34,11 @@ use Rattle.law_cancel.proofs.Lookups.{get-set_kept, get-set_other, get-set_same}
 use Rattle.law_waiters.proofs.Drawing.{length_tells}
 use Rattle.law_members.proofs.Coming.{one_of}
 use Rattle.law_members.proofs.Counted.{Counts, IsIn, counted_down, goes_on, is_told, same_counted, taken_left, the_key}
-use Rattle.law_members.proofs.Drawing.{IsWithin, KeepsCounted, counts_at, counts_in, more_counted, rings_within, settled_makes, settled_within, tells_at, tells_in}
+use Rattle.law_members.proofs.Drawing.{IsWithin, KeepsCounted, counts_at, counts_in, more_counted, rings_within, settled_makes, settled_within, tells_at}
+use Rattle.law_members.proofs.Drawing.{tells_in}
 use Rattle.law_members.proofs.Drawing.{registered_within}
 use Rattle.law_members.proofs.Entering.{CountsAll, counting_fit, counts_all, in_distinct, in_filter, no_more, plain_fit, tail_alone, tail_of}
-use Rattle.law_members.proofs.Onward.{IsOf, Onward, makes, steps_coming, steps_stay, taken_onward}
+use Rattle.law_members.proofs.Onward.{Onward, makes, steps_coming, steps_stay, taken_onward}
 
 -- a shield by what it shields
 abbrev shielded : Option Outcome → (inner : ℕ) → Parts → Gathered → ExtraSaid Gathered

@@ -1,20 +1,18 @@
 -- How many handles that pass a test are still to come: pending, timed, and registered on futures.
-use Rattle.std.proofs.Common.{◌≡◌, ◌≤◌, ◌<◌, ◌+◌, ◌-◌, ◌==◌, ℕ, zero, suc, Bool, true, false, cond, not, ◌&&◌, List, [], ◌∷◌, ◌++◌, Option, Some, None}
-use Rattle.std.proofs.Common.{slice_get, slice_set, refl, sym, ap, subst, ◌∙◌, arith}
-use Rattle.std.specs.List.{AllByRecursion as Each, count_by, sum_by}
+use Rattle.std.proofs.Common.{◌≡◌, ◌≤◌, ◌+◌, ℕ, zero, suc, Bool, true, cond, not, ◌&&◌, List, [], ◌∷◌, ◌++◌, Option, Some, None}
+use Rattle.std.proofs.Common.{slice_get, slice_set, refl, ap, arith}
+use Rattle.std.specs.List.{count_by, sum_by}
 use Rattle.std.specs.Option.{option_map_or}
-use Rattle.std.proofs.lemmas.Bool.{false≢true}
 use Rattle.std.proofs.lemmas.List.Sums.{sum_by-cons, sum_by-le-sum_by, sum_by_push}
 use Rattle.std.proofs.lemmas.Option.{none-some, same_Some}
 use Rattle.model_value.specs.Action.{Action}
-use Rattle.model_value.specs.declared.action.Action.TheVariants as action
 use Rattle.model_value.specs.Value.{Outcome}
 use Rattle.model_loop.proofs.FutureCases.{registered as registered_by, registered_on, settled, settled_as}
 use Rattle.model_loop.specs.Entries.{entries, handles_where}
-use Rattle.model_loop.specs.Futures.{asked_kind, make_future, mark_asked, next_future, register, settle, with_future}
+use Rattle.model_loop.specs.Futures.{asked_kind, make_future, mark_asked, register, settle, with_future}
 use Rattle.model_loop.specs.Handles.{due, later, revoke, soon, soon_all}
-use Rattle.model_loop.specs.Parts.{FutureKind, OfTask, Future, Handle, Parts, Task}
-use Rattle.model_loop.specs.Tasks.{change_task, next_task}
+use Rattle.model_loop.specs.Parts.{FutureKind, Future, Handle, Parts, Task}
+use Rattle.model_loop.specs.Tasks.{change_task}
 use Rattle.law_cancel.proofs.Effects.{done_as, soon_all-futures}
 use Rattle.law_groups.proofs.Due.{due-entries, due-futures}
 use Rattle.law_groups.proofs.Entries.{entries-fewer, entries-later, entries-revoke, entries-soon}

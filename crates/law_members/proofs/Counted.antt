@@ -1,16 +1,14 @@
 -- What is so of all gathers and waits, between calls: so many handles of theirs are still to come as they count, at most, and one of
 -- them is registered on each member that is pending.
-use Rattle.std.proofs.Common.{◌≡◌, ◌<◌, ◌≤◌, ◌+◌, ◌-◌, ◌==◌, ◌&&◌, ◌⊎◌, inl, inr, ℕ, zero, suc, Bool, true, false, not, List, [], ◌∷◌, Option, Some, None}
+use Rattle.std.proofs.Common.{◌≡◌, ◌<◌, ◌≤◌, ◌+◌, ◌-◌, ◌==◌, ◌&&◌, ◌⊎◌, inl, inr, ℕ, Bool, true, false, not, List, [], ◌∷◌, Option, Some, None}
 use Rattle.std.proofs.Common.{slice_get, refl, sym, ap, subst, ◌∙◌, arith}
 use Rattle.std.specs.Prelude.{◌%◌, nat_le}
-use Rattle.std.specs.List.{AllByRecursion as Each, count_by, sum_by}
-use Rattle.std.proofs.lemmas.Bool.{and_from, and_parts, cases_eq, cases_lt, eq-eqb, eqb-true, false≢true, le-leb, leb-true, ltb-false}
-use Rattle.std.proofs.lemmas.List.Sums.{sum_by-cons}
+use Rattle.std.specs.List.{count_by, sum_by}
+use Rattle.std.proofs.lemmas.Bool.{and_from, and_parts, cases_eq, cases_lt, eq-eqb, eqb-true, false≢true, le-leb, leb-true}
 use Rattle.std.proofs.lemmas.Option.{none-some, same_Some}
 use Rattle.model_value.specs.Action.{Action}
 use Rattle.model_value.specs.declared.action.Action.TheVariants as action
-use Rattle.model_value.specs.Value.{Outcome}
-use Rattle.model_loop.specs.Futures.{future_outcome, is_pending, is_pending_at, next_future, outcome_at}
+use Rattle.model_loop.specs.Futures.{is_pending, is_pending_at, next_future}
 use Rattle.model_loop.specs.Loop.{Loop}
 use Rattle.model_loop.specs.Parts.{Future, Handle, Parts}
 use Rattle.model_loop.specs.Totals.{callbacks_at, callbacks_of}
@@ -18,8 +16,8 @@ use Rattle.model_machine.specs.Extra.{ExtraStep, made_by_all}
 use Rattle.model_reach.specs.Part.{key_at, place_of}
 use Rattle.model_gather.specs.Gathered.{gather_part}
 use Rattle.law_steps.proofs.Settling.{count_fewer}
-use Rattle.law_members.proofs.Coming.{coming, coming_fewer, one_of, registered, registered_there, taken_coming}
-use Rattle.law_members.proofs.Onward.{IsOf, Onward, is_gathers, makes, steps_coming, steps_stay}
+use Rattle.law_members.proofs.Coming.{coming, coming_fewer, one_of, registered_there, taken_coming}
+use Rattle.law_members.proofs.Onward.{IsOf, Onward, makes, steps_coming, steps_stay}
 
 abbrev pub the_key : ℕ → ℕ
 the_key place = key_at gather_part place

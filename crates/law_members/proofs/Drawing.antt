@@ -1,11 +1,10 @@
 -- Keys are drawn: the handles of a request tell it alone, and so many are registered at most as it counts members.
-use Rattle.std.proofs.Common.{◌≡◌, ◌<◌, ◌≤◌, ◌+◌, ◌-◌, ◌==◌, ◌⊎◌, inl, inr, ℕ, ℤ, zero, suc, Bool, true, false, List, [], ◌∷◌, ◌++◌, Option, Some, None}
-use Rattle.std.proofs.Common.{length, length-append, map, slice_get, refl, sym, ap, subst, ◌∙◌, arith}
-use Rattle.std.specs.Prelude.{nat_le}
+use Rattle.std.proofs.Common.{◌≡◌, ◌<◌, ◌≤◌, ◌+◌, ◌-◌, ◌==◌, inl, inr, ℕ, ℤ, suc, Bool, true, false, List, [], ◌∷◌, ◌++◌, Option, Some, None}
+use Rattle.std.proofs.Common.{length, length-append, slice_get, refl, sym, ap, subst, ◌∙◌, arith}
 use Rattle.std.specs.List.{AllByRecursion as Each, count_by, sum_by}
-use Rattle.std.proofs.lemmas.Bool.{cases_lt, eq-eqb, eqb-true, false≢true, lt-leb, ne_eqb}
-use Rattle.std.proofs.lemmas.List.Sums.{sum_by-append, sum_by-cons, sum_by_push}
-use Rattle.std.proofs.lemmas.Option.{none-some, same_Some, slice_get_past}
+use Rattle.std.proofs.lemmas.Bool.{eq-eqb, false≢true, lt-leb, ne_eqb}
+use Rattle.std.proofs.lemmas.List.Sums.{sum_by-cons, sum_by_push}
+use Rattle.std.proofs.lemmas.Option.{slice_get_past}
 use Rattle.model_value.specs.Action.{Action}
 use Rattle.model_value.specs.declared.action.Action.TheVariants as action
 use Rattle.model_value.specs.Value.{Outcome}
@@ -17,12 +16,13 @@ use Rattle.model_loop.specs.Totals.{callbacks_at, callbacks_of}
 use Rattle.model_machine.specs.Extra.{CallsLater, CallsSoon, Cancels, ExtraStep, MakesMany, MakesPlain, Registers, Releases, Revokes, Settles, Uncancels}
 use Rattle.model_machine.specs.Extra.{made_by, made_by_all}
 use Rattle.model_reach.specs.Part.{key_at}
-use Rattle.model_gather.specs.Gathered.{Drawn, Gathered, Gathering, Gathers, Tells, Waiting, Waits, drawn_after, futures_of, gather_part, registered_from, settled_as}
-use Rattle.model_gather.specs.Wait.{revoked, rings_after}
+use Rattle.model_gather.specs.Gathered.{Drawn, Gathered, Gathers, Tells, Waits, drawn_after, futures_of, gather_part, registered_from, settled_as}
+use Rattle.model_gather.specs.Wait.{rings_after}
 use Rattle.law_cancel.proofs.Lookups.{get-set_same}
 use Rattle.law_waiters.proofs.Drawing.{append_new, append_old}
 use Rattle.law_members.proofs.Coming.{one_of}
-use Rattle.law_members.proofs.Counted.{Counted, Counts, IsIn, drawn_counted, from_at_key, is_from, is_key, is_told, same_counted, tells_at_key, tells_of, the_key}
+use Rattle.law_members.proofs.Counted.{Counted, Counts, IsIn, drawn_counted, from_at_key, is_from, is_key, is_told, same_counted, tells_at_key, tells_of}
+use Rattle.law_members.proofs.Counted.{the_key}
 use Rattle.law_members.proofs.Onward.{makes, step_stays, steps_stay}
 
 -- ---- what is kept, as it counts and is told
@@ -174,7 +174,7 @@ registered_on_each more place (id ∷ ids) l m (inr h) low pending =
       (
         it.1.0,
         subst (λ n. 0 < count_by (is_key (the_key n))
-        (callbacks_of (made_by_all (registered_from gather_part (suc place) ids ++ more) first).parts m)) z it.1.1,
+            (callbacks_of (made_by_all (registered_from gather_part (suc place) ids ++ more) first).parts m)) z it.1.1,
       ),
     )
 

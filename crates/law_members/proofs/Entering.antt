@@ -13,7 +13,7 @@ use Rattle.model_loop.specs.Loop.{Loop}
 use Rattle.model_loop.specs.Parts.{Parts}
 use Rattle.model_loop.specs.Totals.{callbacks_of}
 use Rattle.model_machine.specs.Extra.{ExtraStep, made_by, made_by_all}
-use Rattle.model_gather.specs.Gathered.{Drawn, Gathering, Rings, Tells, distinct, gather_part, registered_from}
+use Rattle.model_gather.specs.Gathered.{Drawn, Gathering, Tells, distinct, gather_part, registered_from}
 use Rattle.model_gather.specs.Gather.{count, count_all}
 use Rattle.model_gather.specs.Wait.{handle_if_some}
 use Rattle.law_waiters.proofs.Fitting.{each_append}

@@ -1,6 +1,6 @@
 -- So it is of all gathers and waits in every state of every run, beside parts that keep to their own keys.
-use Rattle.std.proofs.Common.{◌≡◌, ◌<◌, inl, inr, ℕ, ℤ, zero, suc, Bool, true, false, List, [], ◌∷◌, Option, Some, None, is_none, nat_lt, cond, length, slice_get, refl, sym, ap, subst, ◌∙◌, arith}
-use Rattle.std.specs.Option.{option_map_or}
+use Rattle.std.proofs.Common.{◌≡◌, ◌<◌, inl, inr, ℕ, ℤ, zero, suc, Bool, true, false, List, [], ◌∷◌, Option, Some, None, is_none, nat_lt, cond, length}
+use Rattle.std.proofs.Common.{slice_get, refl, sym, ap, subst, ◌∙◌, arith}
 use Rattle.std.specs.List.{AllByRecursion as Each}
 use Rattle.std.proofs.lemmas.Bool.{false≢true, ltb-true}
 use Rattle.std.proofs.lemmas.Option.{none-some}
@@ -10,14 +10,12 @@ use Rattle.model_value.specs.Value.{Outcome, Value}
 use Rattle.model_tree.specs.Syntax.{Program}
 use Rattle.model_wire.specs.Journal.{Entry}
 use Rattle.model_loop.specs.Futures.{is_pending, is_pending_at, made_before, next_future, outcome_at}
-use Rattle.model_loop.specs.Loop.{Loop}
 use Rattle.model_loop.specs.Parts.{Future, Handle, Parts}
-use Rattle.model_machine.specs.Extra as extra
 use Rattle.model_machine.specs.Extra.{Extra, ExtraCall, ExtraSaid, made_by_all, unknown_code}
 use Rattle.model_machine.specs.State.{State, start}
 use Rattle.model_reach.specs.Part.{place_of, refuses, stays, was_drawn}
 use Rattle.model_reach.specs.Reach.{OfDgram, OfExec, OfGather, OfSync, Part, Parted, part_as, part_of_code, part_of_key, reach, seen_by}
-use Rattle.model_gather.specs.Gathered.{Drawn, Gathered, Gathering, Gathers, Waiting, Waits, gather_part, futures_of}
+use Rattle.model_gather.specs.Gathered.{Drawn, Gathered, Gathers, Waits, gather_part, futures_of}
 use Rattle.model_gather.specs.Serving.{gather_means}
 use Rattle.law_kept.proofs.Turning.{run_on}
 use Rattle.law_kept.specs.Runs.{IsRunOf}
@@ -25,7 +23,7 @@ use Rattle.law_kept.specs.Walks.{Beside, Walks, runs}
 use Rattle.law_waiters.proofs.Keeping.{key_here}
 use Rattle.law_waiters.proofs.Running.{run_follows}
 use Rattle.law_waiters.specs.Reached.{entry_under, first_parted}
-use Rattle.law_waiters.specs.Timed.{IsStepOf, KeepsToKeys}
+use Rattle.law_waiters.specs.Timed.{KeepsToKeys}
 use Rattle.law_members.specs.Members.{CountsMembers, IsDone}
 use Rattle.law_members.proofs.Calling.{acted_keeps, asked_keeps, woken_keeps}
 use Rattle.law_members.proofs.Counted.{Counts, IsIn, goes_on, none_pending}
