@@ -8,12 +8,13 @@ use Rattle.std.specs.List.{AllByRecursion as Each, count_by, sum_by}
 use Rattle.std.specs.Option.{option_map_or}
 use Rattle.std.proofs.lemmas.Bool.{cases_eq, false≢true}
 use Rattle.std.proofs.lemmas.List.Sums.{sum_by-cons, sum_by_push}
+use Rattle.std.proofs.lemmas.Option.{none-some}
 use Rattle.model_value.specs.Action.{Action}
 use Rattle.model_value.specs.declared.action.Action.TheVariants as action
 use Rattle.model_value.specs.Value.{Outcome}
 use Rattle.model_loop.proofs.FutureCases.{registered as registered_by, registered_on, settled, settled_as}
 use Rattle.model_loop.specs.Cancel.{cancel}
-use Rattle.model_loop.specs.Futures.{asked_kind, is_pending, is_pending_at, make_future, mark_asked, next_future, register, settle, with_future}
+use Rattle.model_loop.specs.Futures.{asked_kind, future_outcome, is_pending, is_pending_at, make_future, mark_asked, next_future, outcome_at, register, settle, with_future}
 use Rattle.model_loop.specs.Handles.{due, later, revoke, soon, soon_all}
 use Rattle.model_loop.specs.Loop.{Loop}
 use Rattle.model_loop.specs.Parts.{FutureKind, Plain, OfTask, Many, Future, Handle, Parts, Task}
@@ -24,7 +25,7 @@ use Rattle.model_machine.specs.Extra.{CallsSoon as ExtraSoon, CallsLater as Extr
 use Rattle.model_machine.specs.Sound.{is_extra}
 use Rattle.model_reach.specs.Reach.{OfDgram, OfExec, OfGather, OfSync, Part, part_of_key}
 use Rattle.law_cancel.proofs.Effects.{change_task-futures, done_as, soon_all-futures}
-use Rattle.law_cancel.proofs.Lookups.{get-push_other, get-set_other, get-set_same}
+use Rattle.law_cancel.proofs.Lookups.{get-push_other, get-set_other, get-set_same, get_within}
 use Rattle.law_changes.proofs.Folds.{fold}
 use Rattle.law_changes.proofs.PartsRows.{cancel_in}
 use Rattle.law_changes.specs.Blocks.{OfRequest, cancels, counts, keeps_asked, sets_must_cancel}
@@ -48,11 +49,12 @@ abbrev pub IsOf : (Action → Bool) → Type 0
 IsOf test = (it : Action) → is_gathers it ≡ false → test it ≡ false
 
 -- ---- what is registered on a pending future
--- A future that was made, and is pending, was pending, and what was registered on it still is.
+-- A future that was made, and is pending, was pending, and what was registered on it still is; one that is done stays so.
 pub record Stays (p q : Parts) : Type 0 where
   pub made : next_future p ≤ next_future q
   pub pending : (id : ℕ) → id < next_future p → is_pending q id ≡ true
       → (is_pending p id ≡ true) × ((test : Action → Bool) → count_by test (callbacks_of p id) ≤ count_by test (callbacks_of q id))
+  pub done : (id : ℕ) (outcome : Outcome) → future_outcome p id ≡ Some outcome → future_outcome q id ≡ Some outcome
 
 pub stays_same : (p q : Parts) → q.futures ≡ p.futures → Stays p q
 stays_same p q same = record {
@@ -61,6 +63,7 @@ stays_same p q same = record {
     ap (λ (fs : List Future). is_pending_at (slice_get fs id)) (sym same) ∙ is,
     λ test. let e = ap (λ (fs : List Future). count_by test (callbacks_at (slice_get fs id))) same in omega (arith, e),
   );
+  done = λ id outcome e. ap (λ (fs : List Future). outcome_at (slice_get fs id)) same ∙ e;
 }
 
 pub stays_then : (p q r : Parts) → Stays p q → Stays q r → Stays p r
@@ -71,7 +74,16 @@ stays_then p q r a b = record {
       let later_ = b.pending id (omega (arith, h, m)) is in
       let first = a.pending id h later_.0 in
       (first.0, λ test. let x = first.1 test in let y = later_.1 test in omega (arith, x, y));
+  done = λ id outcome e. b.done id outcome (a.done id outcome e);
 }
+
+-- what is done was made
+pub done_within : (p : Parts) (id : ℕ) (outcome : Outcome) → future_outcome p id ≡ Some outcome → id < next_future p
+done_within p id outcome = at (slice_get p.futures id) refl
+  where
+    at : (o : Option Future) → slice_get p.futures id ≡ o → outcome_at o ≡ Some outcome → id < next_future p
+    at None e is = absurd (none-some outcome is)
+    at (Some future) e is = get_within p.futures id future e
 
 -- one more is made
 stays_push : (p q : Parts) (new : Future) → q.futures ≡ p.futures ++ new ∷ [] → Stays p q
@@ -82,18 +94,31 @@ stays_push p q new is = record {
         sym (ap is_pending_at same) ∙ pending,
         λ test. let e = ap (λ o. count_by test (callbacks_at o)) same in omega (arith, e),
       );
+  done = λ id outcome e.
+      let h = done_within p id outcome e in
+      ap outcome_at (ap (λ (fs : List Future). slice_get fs id) is ∙ get-push_other p.futures new id (λ s. absurd (omega (arith, h, s)))) ∙ e;
 }
 
 -- one is changed: where it is pending still, it was, and calls what it called
 stays_set : (p q : Parts) (id : ℕ) (old new : Future) → slice_get p.futures id ≡ Some old → q.futures ≡ slice_set p.futures id new
     → (is_pending_at (Some new) ≡ true
     → (is_pending_at (Some old) ≡ true) × ((test : Action → Bool) → count_by test old.callbacks ≤ count_by test new.callbacks))
-    → Stays p q
-stays_set p q id old new found is goes = record {
+    → ((outcome : Outcome) → old.outcome ≡ Some outcome → new.outcome ≡ Some outcome) → Stays p q
+stays_set p q id old new found is goes still = record {
   made = let e = ap (λ (fs : List Future). length fs) is in let a = length-set p.futures id new in omega (arith, e, a);
   pending = λ other h pending. at other pending (cases_eq id other);
+  done = λ other outcome e. stays other outcome e (cases_eq id other);
 }
   where
+    stays : (other : ℕ) (outcome : Outcome) → future_outcome p other ≡ Some outcome → (id ≡ other) ⊎ (id ≡ other → ⊥)
+        → future_outcome q other ≡ Some outcome
+    stays other outcome e (inl same) =
+        let now = ap (λ (fs : List Future). slice_get fs other) is ∙ ap (slice_get (slice_set p.futures id new)) (sym same)
+        ∙ get-set_same p.futures id old new found in
+        ap outcome_at now ∙ still outcome (sym (ap outcome_at (ap (slice_get p.futures) (sym same) ∙ found)) ∙ e)
+    stays other outcome e (inr n) =
+        ap outcome_at (ap (λ (fs : List Future). slice_get fs other) is ∙ get-set_other p.futures id other new n) ∙ e
+
     at : (other : ℕ) → is_pending q other ≡ true → (id ≡ other) ⊎ (id ≡ other → ⊥)
         → (is_pending p other ≡ true) × ((test : Action → Bool) → count_by test (callbacks_of p other) ≤ count_by test (callbacks_of q other))
     at other pending (inl e) =
@@ -117,15 +142,17 @@ stays_set p q id old new found is goes = record {
 pub settle_stays : (id : ℕ) (outcome : Outcome) (p : Parts) → Stays p (settle id outcome p)
 settle_stays id outcome p = at (slice_get p.futures id) refl
   where
-    until : (future : Future) (o : Option Outcome) → slice_get p.futures id ≡ Some future → Stays p (settled_as o id future outcome p)
-    until future (Some done) found = stays_same p p refl
-    until future None found =
+    until : (future : Future) (o : Option Outcome) → future.outcome ≡ o → slice_get p.futures id ≡ Some future
+        → Stays p (settled_as o id future outcome p)
+    until future (Some done) is found = stays_same p p refl
+    until future None is found =
         stays_set p (soon_all future.callbacks (with_future id (done_as outcome future) p)) id future (done_as outcome future) found
         (soon_all-futures future.callbacks (with_future id (done_as outcome future) p)) (λ pending. absurd (false≢true pending))
+        (λ before e. absurd (none-some before (sym is ∙ e)))
 
     at : (f : Option Future) → slice_get p.futures id ≡ f → Stays p (settled f id outcome p)
     at None found = stays_same p p refl
-    at (Some future) found = until future future.outcome found
+    at (Some future) found = until future future.outcome refl found
 
 pub register_stays : (id : ℕ) (it : Action) (p : Parts) → Stays p (register id it p)
 register_stays id it p = at (slice_get p.futures id) refl
@@ -138,7 +165,7 @@ register_stays id it p = at (slice_get p.futures id) refl
         stays_set p (with_future id new p) id future new found refl (λ pending. (
           pending,
           λ test. let e = sum_by_push (λ it. cond (test it) 1 0) future.callbacks it in omega (arith, e),
-        ))
+        )) (λ before e. e)
 
     at : (f : Option Future) → slice_get p.futures id ≡ f → Stays p (registered_by f id it p)
     at None found = stays_same p p refl
@@ -152,7 +179,7 @@ mark_stays id p = at (slice_get p.futures id) refl
     at None found = stays_same p p refl
     at (Some future) found =
         stays_set p (with_future id (record future { kind = asked_kind future.kind }) p) id future
-        (record future { kind = asked_kind future.kind }) found refl (λ pending. (pending, λ test. omega arith))
+        (record future { kind = asked_kind future.kind }) found refl (λ pending. (pending, λ test. omega arith)) (λ before e. e)
 
 task_stays : (id : ℕ) (change : Task → Task) (p : Parts) → Stays p (change_task id change p)
 task_stays id change p = stays_same p (change_task id change p) (change_task-futures id change p)
