@@ -16,6 +16,7 @@ use Rattle.model_machine.specs.Extra.{ExtraStep, made_by_all}
 use Rattle.model_reach.specs.Part.{key_at, place_of}
 use Rattle.model_gather.specs.Gathered.{gather_part}
 use Rattle.law_steps.proofs.Settling.{count_fewer}
+use Rattle.law_waiters.specs.Timed.{is_key}
 use Rattle.law_members.proofs.Coming.{coming, coming_fewer, one_of, registered_there, taken_coming}
 use Rattle.law_members.proofs.Onward.{IsOf, Onward, makes, steps_coming, steps_stay}
 
@@ -46,10 +47,6 @@ tells_of tells k _ = false
 abbrev pub is_from : ℕ → Action → Bool
 is_from n (action.Extra key) = (key % 4 == 0) && nat_le n (place_of gather_part key)
 is_from n _ = false
-
-abbrev pub is_key : ℕ → Action → Bool
-is_key key (action.Extra other) = other == key
-is_key key _ = false
 
 off : (b c : Bool) → b ≡ false → (b && c) ≡ false
 off true c e = absurd (false≢true (sym e))

@@ -20,8 +20,9 @@ use Rattle.model_gather.specs.Gathered.{Drawn, Gathered, Gathers, Tells, Waits, 
 use Rattle.model_gather.specs.Wait.{rings_after}
 use Rattle.law_cancel.proofs.Lookups.{get-set_same}
 use Rattle.law_waiters.proofs.Drawing.{append_new, append_old}
+use Rattle.law_waiters.specs.Timed.{is_key}
 use Rattle.law_members.proofs.Coming.{one_of}
-use Rattle.law_members.proofs.Counted.{Counted, Counts, IsIn, drawn_counted, from_at_key, is_from, is_key, is_told, same_counted, tells_at_key, tells_of}
+use Rattle.law_members.proofs.Counted.{Counted, Counts, IsIn, drawn_counted, from_at_key, is_from, is_told, same_counted, tells_at_key, tells_of}
 use Rattle.law_members.proofs.Counted.{the_key}
 use Rattle.law_members.proofs.Onward.{makes, step_stays, steps_stay}
 

@@ -17,7 +17,8 @@ use Rattle.model_gather.specs.Gathered.{Drawn, Gathering, Tells, distinct, gathe
 use Rattle.model_gather.specs.Gather.{count, count_all}
 use Rattle.model_gather.specs.Wait.{handle_if_some}
 use Rattle.law_waiters.proofs.Fitting.{each_append}
-use Rattle.law_members.proofs.Counted.{Counts, IsIn, is_key, is_told, the_key}
+use Rattle.law_waiters.specs.Timed.{is_key}
+use Rattle.law_members.proofs.Counted.{Counts, IsIn, is_told, the_key}
 use Rattle.law_members.proofs.Drawing.{IsWithin, MoreFit, counts_in, registered_most, registered_on_each, registered_within, tells_in}
 use Rattle.law_members.proofs.Onward.{makes, steps_stay}
 

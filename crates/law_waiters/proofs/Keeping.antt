@@ -27,10 +27,10 @@ use Rattle.model_gather.specs.Serving.{gather_means}
 use Rattle.law_changes.specs.Changes.{LeavesPending}
 use Rattle.law_kept.specs.Walks.{Beside, StoodAt, Walks, runs}
 use Rattle.law_waiters.specs.Reached.{first_parted}
-use Rattle.law_waiters.specs.Timed.{AsksOnce, IsStepOf, KeepsToKeys, WaitsAsPart, asked_of, is_by_key, took_of}
+use Rattle.law_waiters.specs.Timed.{AsksOnce, IsStepOf, KeepsToKeys, WaitsAsPart, asked_of, is_by_key, is_key, took_of}
 use Rattle.law_waiters.proofs.Books.{BooksNot, asks_of, row_same, takes_of}
 use Rattle.law_waiters.proofs.Drawing.{IsFreeFor, IsReady, KeepsRight, timed_at, timed_in}
-use Rattle.law_waiters.proofs.Fewer.{StepFor, change_fewer, is_key, row_fewer}
+use Rattle.law_waiters.proofs.Fewer.{StepFor, change_fewer, row_fewer}
 use Rattle.law_waiters.proofs.Right.{asked_in, goes_right, is_waiting, still_right, the_key, took_in}
 use Rattle.law_waiters.proofs.Timing.{acted_right, asked_right, woken_right}
 
