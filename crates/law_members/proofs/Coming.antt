@@ -1,4 +1,4 @@
--- How many handles that pass a test are still to come: pending, timed, and registered on futures.
+-- How many handles are still to come, after each change.
 use Rattle.std.proofs.Common.{◌≡◌, ◌≤◌, ◌+◌, ℕ, zero, suc, Bool, true, cond, not, ◌&&◌, List, [], ◌∷◌, ◌++◌, Option, Some, None}
 use Rattle.std.proofs.Common.{slice_get, slice_set, refl, ap, arith}
 use Rattle.std.specs.List.{count_by, sum_by}
@@ -17,14 +17,9 @@ use Rattle.law_cancel.proofs.Effects.{done_as, soon_all-futures}
 use Rattle.law_groups.proofs.Due.{due-entries, due-futures}
 use Rattle.law_groups.proofs.Entries.{entries-fewer, entries-later, entries-revoke, entries-soon}
 use Rattle.law_steps.proofs.Settling.{count_fewer}
+use Rattle.law_members.specs.Handles.{coming, registered}
 
 -- ---- on futures
-abbrev pub registered : (Action → Bool) → List Future → ℕ
-registered test = sum_by (λ (future : Future). count_by test future.callbacks)
-
-abbrev pub coming : (Action → Bool) → Parts → ℕ
-coming test p = entries (λ tag. test) p + registered test p.futures
-
 abbrev pub one_of : Bool → ℕ
 one_of b = cond b 1 0
 

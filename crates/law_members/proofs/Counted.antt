@@ -17,7 +17,8 @@ use Rattle.model_reach.specs.Part.{key_at, place_of}
 use Rattle.model_gather.specs.Gathered.{gather_part}
 use Rattle.law_steps.proofs.Settling.{count_fewer}
 use Rattle.law_waiters.specs.Timed.{is_key}
-use Rattle.law_members.proofs.Coming.{coming, coming_fewer, one_of, registered_there, taken_coming}
+use Rattle.law_members.specs.Handles.{coming}
+use Rattle.law_members.proofs.Coming.{coming_fewer, one_of, registered_there, taken_coming}
 use Rattle.law_members.proofs.Onward.{IsOf, Onward, makes, steps_coming, steps_stay}
 
 abbrev pub the_key : ℕ → ℕ

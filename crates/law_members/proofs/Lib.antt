@@ -1,7 +1,7 @@
-mod Coming
-mod Onward
-mod Counted
-mod Drawing
-mod Entering
-mod Calling
-mod Walking
+pub mod Coming
+pub mod Onward
+pub mod Counted
+pub mod Drawing
+pub mod Entering
+pub mod Calling
+pub mod Walking

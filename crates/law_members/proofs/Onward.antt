@@ -36,7 +36,8 @@ use Rattle.law_changes.specs.Reaches.{Reaches}
 use Rattle.law_groups.proofs.Due.{due-futures}
 use Rattle.law_kept.specs.Walks.{MayBeside, MayInLoop}
 use Rattle.law_waiters.specs.Timed.{IsStepOf}
-use Rattle.law_members.proofs.Coming.{coming, due_coming, later_coming, make_coming, mark_coming, one_of, register_coming, revoke_coming, settle_coming}
+use Rattle.law_members.specs.Handles.{coming}
+use Rattle.law_members.proofs.Coming.{due_coming, later_coming, make_coming, mark_coming, one_of, register_coming, revoke_coming, settle_coming}
 use Rattle.law_members.proofs.Coming.{soon_coming, taken_coming, task_coming}
 
 -- a handle of a gather, a wait, a shield or a wait_for

@@ -1,10 +1,8 @@
 -- What the futures of gathers, waits and shields have come to, and from what.
 use Rattle.std.specs.Prelude.{◌≡◌, ℕ, true, false, Option, Some, None, slice_get}
 use Rattle.std.specs.List.{AllByRecursion as Each}
-use Rattle.model_value.specs.Action.{Action}
 use Rattle.model_value.specs.declared.outcome.Outcome.TheVariants.{Cancelled}
 use Rattle.model_value.specs.Value.{Outcome}
-use Rattle.model_loop.specs.Entries.{entries}
 use Rattle.model_loop.specs.Futures.{future_outcome}
 use Rattle.model_loop.specs.Parts.{Parts}
 use Rattle.model_reach.specs.Part.{key_at, place_of}
@@ -16,6 +14,7 @@ use Rattle.law_runs.specs.Allowed.{IsAmong}
 use Rattle.law_waiters.specs.Answers.{MayGoOn}
 use Rattle.law_waiters.specs.Reached.{entry_under}
 use Rattle.law_waiters.specs.Timed.{is_key}
+use Rattle.law_members.specs.Handles.{coming}
 use Rattle.law_members.specs.Members.{IsDone}
 
 -- ---- a gather
@@ -41,7 +40,7 @@ pub data WaitIsOver (entry : ℕ → Option Drawn) (p : Parts) (place : ℕ) (it
   one_has_failed : (member : ℕ) (outcome : Outcome) → IsAmong (futures_of it.arguments) member → it.mode ≡ FirstException
       → future_outcome p member ≡ Some outcome → is_failure outcome ≡ true → WaitIsOver entry p place it
   -- its timer's handle isn't to come any more
-  time_is_over : (timer : ℕ) → entry timer ≡ Some (Rings place) → entries (λ tag. is_key (key_at gather_part timer)) p ≡ 0
+  time_is_over : (timer : ℕ) → entry timer ≡ Some (Rings place) → coming (is_key (key_at gather_part timer)) p ≡ 0
       → WaitIsOver entry p place it
 
 pub data WaitCame (entry : ℕ → Option Drawn) (p : Parts) (place : ℕ) (it : Waiting) : Option Outcome → Type 0 where

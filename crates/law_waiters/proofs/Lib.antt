@@ -11,4 +11,4 @@ pub mod Drawing
 mod Timing
 pub mod Keeping
 pub mod Asking
-mod Counting
+pub mod Counting
