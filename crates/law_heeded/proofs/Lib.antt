@@ -1,2 +1,6 @@
 pub mod Still
 pub mod Owning
+pub mod Quiet
+pub mod Going
+pub mod Serving
+pub mod Turning

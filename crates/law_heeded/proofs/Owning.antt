@@ -1,27 +1,28 @@
 -- Calls of what is added: nothing comes to hold what they make, and what they settle none of stays, or is cancelled.
-use Rattle.std.proofs.Common.{◌≡◌, ◌⊎◌, inl, inr, ℕ, ◌+◌, ◌<◌, ◌≤◌, Bool, true, false, List, [], ◌∷◌, ◌++◌, Option, Some, None, length, slice_get, refl, sym, ap, subst, ◌∙◌}
+use Rattle.std.proofs.Common.{◌≡◌, inl, inr, ℕ, zero, suc, ◌<◌, ◌≤◌, Bool, true, false, List, [], ◌∷◌, ◌++◌, Option, Some, None, length, slice_get, refl, sym, ap, subst, ◌∙◌}
 use Rattle.std.proofs.Common.{arith, le_refl, length-append}
 use Rattle.std.proofs.Math.ListN.{length-set}
 use Rattle.std.specs.Prelude.{◌&&◌, ◌||◌, ◌==◌, nat_le, nat_lt}
-use Rattle.std.specs.List.{AllByRecursion as Each, list_any}
+use Rattle.std.specs.List.{AllByRecursion as Each}
 use Rattle.std.specs.Option.{option_map_or}
-use Rattle.std.proofs.lemmas.Bool.{false≢true, true≢false, eqb-eq, eq-eqb, lt-ltb, le-leb, ltb-true, leb-true, and_parts, or_parts}
+use Rattle.std.proofs.lemmas.Bool.{false≢true, true≢false, eqb-true, eq-eqb, lt-ltb, le-leb, ltb-true, leb-true, and_parts, or_parts}
 use Rattle.model_value.specs.Action.{Action}
 use Rattle.model_value.specs.declared.action.Action.TheVariants as action
 use Rattle.model_value.specs.Value.{Outcome}
 use Rattle.model_loop.proofs.FutureCases.{registered, registered_on}
-use Rattle.model_loop.specs.Futures.{asked_kind, mark_asked, make_future, next_future, register, settle, with_future}
+use Rattle.model_loop.specs.Cancel.{cancel}
+use Rattle.model_loop.specs.Futures.{asked_kind, mark_asked, make_future, next_future, register, with_future}
 use Rattle.model_loop.specs.Ledger.{ByExtra}
-use Rattle.model_loop.specs.Loop.{Group, Loop, in_parts}
-use Rattle.model_loop.specs.Parts.{Future, FutureKind, Handle, Many, Parts, Plain, Task, Timer}
+use Rattle.model_loop.specs.Loop.{Loop, in_parts}
+use Rattle.model_loop.specs.Parts.{Future, FutureKind, Many, Parts, Plain, Task}
 use Rattle.model_loop.specs.Tasks.{change_task}
 use Rattle.model_machine.specs.Extra as extra
 use Rattle.model_machine.specs.Extra.{Extra, ExtraCall, ExtraStep, called, made_by, made_by_all}
 use Rattle.model_machine.specs.State.{State}
-use Rattle.model_stream.specs.Kept.{OneIs, StreamsKeep}
-use Rattle.law_apart.proofs.Loops.{LoopApart, Safe, asks_safe, change_safe, safe_same, safe_then, takes_safe}
+use Rattle.model_stream.specs.Kept.{OneIs}
+use Rattle.law_apart.proofs.Loops.{Safe, asks_safe, change_safe, safe_same, safe_then, takes_safe}
 use Rattle.law_apart.proofs.Parts.{settle_apart, settle_made}
-use Rattle.law_apart.specs.Apart.{AreBelow, ArePartsApart, CallsNoSleep, EndsTheirs, GroupApart, HandleApart, IsApart, IsLoopApart, IsTheirs, Leaves}
+use Rattle.law_apart.specs.Apart.{CallsNoSleep, EndsTheirs, GroupApart, HandleApart, IsLoopApart, IsTheirs}
 use Rattle.law_apart.specs.Apart.{TaskApart, TimerApart}
 use Rattle.law_cases.proofs.Composing.{streams_more}
 use Rattle.law_cancel.proofs.Effects.{change_task-futures}
@@ -29,18 +30,18 @@ use Rattle.law_changes.proofs.Folds.{fold}
 use Rattle.law_changes.proofs.PartsRows.{cancel_in}
 use Rattle.law_changes.specs.Blocks.{OfRequest, cancels, counts, keeps_asked, sets_must_cancel}
 use Rattle.law_changes.specs.Changes.{CallsLater, CallsSoon, MakesFuture, PartsChange, Registers, Revokes, Settles, made_of_parts}
-use Rattle.law_runs.specs.Allowed.{IsAmong, IsOwn}
+use Rattle.law_runs.specs.Allowed.{IsAmong}
 use Rattle.law_sync.proofs.Lists.{among_each, each_append, each_on}
 use Rattle.law_heeded.specs.Owned.{AreApart, IsCallKept, WasOwnOrMade, is_among, is_own}
 
 -- ---- a test for what is among these
 pub among_test : (ids : List ℕ) (id : ℕ) → is_among ids id ≡ true → IsAmong ids id
 among_test [] id is = absurd (false≢true is)
-among_test (x ∷ ids) id is = at (x == id) refl is
+among_test (x ∷ ids) id is = at (x == id) refl (λ h. among_test ids id h) is
   where
-    at : (b : Bool) → (x == id) ≡ b → (b || is_among ids id) ≡ true → IsAmong (x ∷ ids) id
-    at true same h = (0, ap Some (eqb-eq x id same))
-    at false other h = let rest = among_test ids id h in (suc rest.0, rest.1)
+    at : (b : Bool) → (x == id) ≡ b → (is_among ids id ≡ true → IsAmong ids id) → (b || is_among ids id) ≡ true → IsAmong (x ∷ ids) id
+    at true same next h = (0, ap Some (eqb-true x id same))
+    at false other next h = let rest = next h in (suc rest.0, rest.1)
 
 pub test_among : (ids : List ℕ) (id : ℕ) → IsAmong ids id → is_among ids id ≡ true
 test_among [] id (place, e) = absurd (cc)
@@ -239,13 +240,13 @@ module _ (ours : ℕ → Bool) (first : ℕ) (below : (future : ℕ) → ours fu
 
 -- ---- a call leaves what is its own apart
 module _ {S : Type 0} (added : Extra S) (call : ExtraCall S) (s : State S) (is : IsCallKept added call s) (a : AreApart added s) where
-  ours : ℕ → Bool
+  abbrev ours : ℕ → Bool
   ours = is_own added s.extra
 
-  first : ℕ
+  abbrev first : ℕ
   first = next_future s.loop.parts
 
-  after : Loop
+  abbrev after : Loop
   after = made_by_all call.steps s.loop
 
   -- what is held was not made in the call
@@ -264,7 +265,7 @@ module _ {S : Type 0} (added : Extra S) (call : ExtraCall S) (s : State S) (is :
       (apart_on ours (since ours first first) first first first first begins s.loop s.loop.parts.futures refl refl (le_refl _) a.apart.loop.parts.callbacks
       a.apart.loop)
 
-  last : ℕ
+  abbrev last : ℕ
   last = next_future after.parts
 
   own_since : (future : ℕ) → is_own added call.state future ≡ true → since ours first last future ≡ true

@@ -1,11 +1,10 @@
 -- What a task waits for changes in its own step alone, and no task goes.
-use Rattle.std.proofs.Common.{◌≡◌, ℕ, ◌≤◌, List, [], ◌∷◌, Option, Some, None, length, slice_get, refl, ap, ◌∙◌, arith, le_refl, length-append}
+use Rattle.std.proofs.Common.{◌≡◌, ℕ, zero, suc, ◌++◌, ◌≤◌, true, false, List, [], ◌∷◌, Option, Some, None, length, slice_get, slice_set, refl, ap, ◌∙◌, arith, le_refl, length-append}
 use Rattle.std.specs.Option.{option_map_or}
-use Rattle.std.specs.Prelude.{◌-◌}
-use Rattle.model_value.specs.Action.{Action}
-use Rattle.model_value.specs.Value.{Outcome}
-use Rattle.model_loop.specs.Futures.{mark_asked, register, settle}
-use Rattle.model_loop.specs.Handles.{due, fall_due}
+use Rattle.std.specs.Prelude.{◌-◌, filter, nat_le, nat_lt}
+use Rattle.model_value.specs.declared.action.Action.TheVariants as action
+use Rattle.model_loop.specs.Cancel.{cancel}
+use Rattle.model_loop.specs.Handles.{by_deadline, due, fall_due}
 use Rattle.model_loop.specs.Loop.{Loop}
 use Rattle.model_loop.specs.Parts.{Parts, Task, Timer}
 use Rattle.model_loop.specs.Tasks.{change_task, must_still_cancel, one_more, spawn, waiter_of}
@@ -20,14 +19,14 @@ use Rattle.law_changes.proofs.Falling.{fallen}
 use Rattle.law_changes.proofs.Folds.{fold}
 use Rattle.law_changes.proofs.PartsRows.{cancel_row}
 use Rattle.law_changes.specs.Changes.{AsksCancel, BeginsExit, CallsLater, CallsSoon, ChangesGroup, ChangesTimeout, ClearsMustCancel, Counts, FallsDue}
-use Rattle.law_changes.specs.Changes.{KeepsAsked, LeavesPending, LoopChange, MakesFuture, MakesGroup, MakesTask, MakesTimeout, MayInLoop, MayInParts, OfParts}
+use Rattle.law_changes.specs.Changes.{KeepsAsked, LeavesPending, LoopChange, MakesFuture, MakesGroup, MakesTask, MakesTimeout, MayAlone, MayInLoop, MayInParts}
+use Rattle.law_changes.specs.Changes.{OfParts}
 use Rattle.law_changes.specs.Changes.{PartsChange, Passes, Registers, Revokes, SetsMustCancel, Settles, TakesBack, Uncounts, WaitsFor, made_of_loop}
 use Rattle.law_changes.specs.Changes.{made_of_parts}
-use Rattle.law_changes.specs.Reaches.{LoopReaches, PartsReach}
+use Rattle.law_changes.specs.Reaches.{LoopReaches}
 use Rattle.law_reach.specs.Changes.{Calls, ChangesExtra, ChangesStreams, EndsMain, Hears, MakesCoroutine, MayInAnswer, NamesFuture, OfLoop, Resumes, Runs}
 use Rattle.law_reach.specs.Changes.{Says, SetsResumePoint, StateChange, made}
 use Rattle.law_reach.specs.Reaches.{InAnswer}
-use Rattle.law_steps.proofs.Spawning as spawning
 
 -- but for the task that runs
 pub record Still (runner : Option ℕ) (p q : Parts) : Type 0 where
@@ -36,6 +35,13 @@ pub record Still (runner : Option ℕ) (p q : Parts) : Type 0 where
 
 abbrev waiter_at : Option Task → Option ℕ
 waiter_at o = option_map_or (λ (it : Task). it.waiter) o None
+
+-- a new task waits for nothing
+push_waiter : (ts : List Task) (new : Task) (task : ℕ) → new.waiter ≡ None → waiter_at (slice_get (ts ++ new ∷ []) task) ≡ waiter_at (slice_get ts task)
+push_waiter [] new zero none = none
+push_waiter [] new (suc task) none = refl
+push_waiter (x ∷ ts) new zero none = refl
+push_waiter (x ∷ ts) new (suc task) none = push_waiter ts new task none
 
 module _ (r : Option ℕ) where
   pub still_same : (p : Parts) → Still r p p
@@ -48,13 +54,13 @@ module _ (r : Option ℕ) where
   }
 
   -- ---- of the parts
-  same_tasks : (p q : Parts) → q.tasks ≡ p.tasks → Still r p q
+  pub same_tasks : (p q : Parts) → q.tasks ≡ p.tasks → Still r p q
   same_tasks p q same = record {
     tasks = let e = ap (λ (ts : List Task). length ts) same in omega (arith, e);
     waiters = λ task other. ap (λ (ts : List Task). waiter_at (slice_get ts task)) same;
   }
 
-  changed_still : (id : ℕ) (change : Task → Task) (p : Parts) → ((it : Task) → (change it).waiter ≡ it.waiter) → Still r p (change_task id change p)
+  pub changed_still : (id : ℕ) (change : Task → Task) (p : Parts) → ((it : Task) → (change it).waiter ≡ it.waiter) → Still r p (change_task id change p)
   changed_still id change p same = record {
     tasks = let e = length-change_task id change p in omega (arith, e);
     waiters = λ task other. change_task-kept waiter_at id change p same task;
@@ -74,7 +80,7 @@ module _ (r : Option ℕ) where
   spawn_still : (p : Parts) → Still r p (spawn p)
   spawn_still p = record {
     tasks = let e = length-append p.tasks (record { future = length p.futures; waiter = None; cancels = 0; must_cancel = false } ∷ []) in omega (arith, e);
-    waiters = λ task other. spawning.waiter_same p task;
+    waiters = λ task other. push_waiter p.tasks _ task refl;
   }
 
   fall_still : (timers : List Timer) (p : Parts) → Still r p (fall_due timers p)
@@ -98,11 +104,13 @@ module _ (r : Option ℕ) where
   change_still (Uncounts profile task) p may =
       changed_still task (λ it. record it { cancels = it.cancels - 1; must_cancel = must_still_cancel profile it }) p (λ it. refl)
   change_still (Passes now) p may = same_tasks p _ refl
-  change_still FallsDue p may = still_then p _ (due p) (same_tasks p _ refl) (fall_still _ _)
+  change_still FallsDue p may =
+      let q = record p { timers = filter (λ (timer : Timer). nat_lt p.time timer.when) p.timers } in
+      still_then p q (due p) (same_tasks p q refl) (fall_still (by_deadline (filter (λ (timer : Timer). nat_le timer.when p.time) p.timers)) q)
   change_still (LeavesPending rest) p may = same_tasks p _ refl
 
   -- ---- of the loop
-  cancel_still : (id : ℕ) (p : Parts) → Still r p (cancel id p).parts
+  pub cancel_still : (id : ℕ) (p : Parts) → Still r p (cancel id p).parts
   cancel_still id p = fold (Still r) still_same still_then change_still (cancel_row r id p)
 
   alone : (change : PartsChange) (p : Parts) → MayAlone r change p → MayInParts r change p

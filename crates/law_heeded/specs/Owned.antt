@@ -1,6 +1,6 @@
 -- Futures of what is added: those that it says are its own (`keeps`). Which steps settle none but these, and when nothing else holds
 -- one of them.
-use Rattle.std.specs.Prelude.{◌≡◌, ◌⊎◌, ℕ, ◌==◌, ◌<◌, ◌≤◌, ℤ, Bool, List}
+use Rattle.std.specs.Prelude.{◌⊎◌, ℕ, ◌==◌, ◌<◌, ◌≤◌, ℤ, Bool, List}
 use Rattle.std.specs.List.{AllByRecursion as Each, list_any}
 use Rattle.model_value.specs.Input.{Input}
 use Rattle.model_value.specs.Value.{Value}

@@ -49,7 +49,7 @@ pub record StoodAt {S : Type 0} (added : Extra S) (task on key : ℕ) (s t : Sta
   pub leaves : Leaves (is_own added s.extra) s.loop.parts t.loop.parts
   pub waits : (other stood : ℕ) → StandsUnder t.generators other stood → (task ≡ other → ⊥)
       → waiter_of t.loop.parts other ≡ waiter_of s.loop.parts other
-  pub on : cycle s.loop.parts task on ≡ None → waiter_of t.loop.parts task ≡ Some on
+  pub begins : cycle s.loop.parts task on ≡ None → waiter_of t.loop.parts task ≡ Some on
 
 -- ---- how a task goes on
 -- the first handle is taken out, and runs
