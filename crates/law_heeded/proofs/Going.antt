@@ -234,6 +234,13 @@ module _ {S : Type 0} (added : Extra S) where
       (none_runs (unbooked_in (λ p. record p { pending = rest }) s)) (λ a.
       apart_by.parts_beside (is_own added s.extra) (next_future s.loop.parts) a.below (LeavesPending rest) s (λ b. (handle, first)) a.apart)
 
+  -- as it runs
+  pub ran_apart : (by : Action) (handle : Handle) (rest : List Handle) (s : State S) → s.loop.parts.pending ≡ handle ∷ rest → AreApart added s
+      → AreApart added (runs by rest s)
+  ran_apart by handle rest s first a =
+      let b = (out_goes handle rest s first a).apart in
+      record { below = b.below; apart = record { loop = b.apart.loop; streams = b.apart.streams; scripts = b.apart.scripts } }
+
   pub first_goes : (limit : ℕ) (handle : Handle) (rest : List Handle) (s : State S) → s.loop.parts.pending ≡ handle ∷ rest
       → steps_or_extra handle.action ≡ false → Goes s (state_of (run_first limit added handle rest s))
   first_goes limit handle rest s first other =

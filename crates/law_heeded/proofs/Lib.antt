@@ -4,3 +4,5 @@ pub mod Quiet
 pub mod Going
 pub mod Serving
 pub mod Turning
+pub mod Sharing
+pub mod Along

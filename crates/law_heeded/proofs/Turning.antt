@@ -49,7 +49,7 @@ use Rattle.law_walk.proofs.Trees.{asked_comes}
 use Rattle.law_heeded.specs.Owned.{AreApart, KeepsToItsFutures}
 use Rattle.law_heeded.specs.Runs.{AfterTurn, IsRunOf}
 use Rattle.law_heeded.specs.Walks.{Cancels, IsResumed, Walks, heard, hears, runs, waits_for_none}
-use Rattle.law_heeded.proofs.Going.{Both, awake, awake_nowhere, begin_goes, end_goes, finish_goes, first_goes, out_goes, point, resumed_goes, selected_goes}
+use Rattle.law_heeded.proofs.Going.{Both, awake, awake_nowhere, begin_goes, end_goes, finish_goes, first_goes, out_goes, point, ran_apart, resumed_goes, selected_goes}
 use Rattle.law_heeded.proofs.Going.{woken_goes}
 use Rattle.law_heeded.proofs.Owning.{call_apart}
 use Rattle.law_heeded.proofs.Serving.{Inside, LeavesBy, Outside, decides_in, inside_on, nobody, reply_in}
@@ -209,12 +209,6 @@ module _ {S : Type 0} {added : Extra S} {Holds : State S → Type 0} {Called : (
     parts_sound : ArePartsSound None None s.loop.parts
     parts_sound = sound.loop.parts
 
-    -- as a handle of what is added runs, or news come
-    ran_apart : (by : Action) → AreApart added (runs by rest s)
-    ran_apart by =
-        let a = (out_goes added handle rest s first it.apart).apart in
-        record { below = a.below; apart = record { loop = a.apart.loop; streams = a.apart.streams; scripts = a.apart.scripts } }
-
     same_task : (task : ℕ) → (task == task) ≡ true
     same_task task = eq-eqb task task refl
 
@@ -239,13 +233,13 @@ module _ {S : Type 0} {added : Extra S} {Holds : State S → Type 0} {Called : (
         let gone = runs (action.Extra key) rest s in
         record {
           holds = walks.acts key handle rest s first live is it.apart it.holds;
-          apart = call_apart added (added.act key gone) gone (owns.act key gone) (ran_apart (action.Extra key));
+          apart = call_apart added (added.act key gone) gone (owns.act key gone) (ran_apart added (action.Extra key) handle rest s first it.apart);
         }
     live_in (action.ExtraItem code bytes) is live steps_it =
         let gone = runs (action.ExtraItem code bytes) rest s in
         record {
           holds = walks.news code bytes handle rest s first live is it.apart it.holds;
-          apart = call_apart added (added.item code bytes gone) gone (owns.item code bytes gone) (ran_apart (action.ExtraItem code bytes));
+          apart = call_apart added (added.item code bytes gone) gone (owns.item code bytes gone) (ran_apart added (action.ExtraItem code bytes) handle rest s first it.apart);
         }
     live_in _ is live steps_it = absurd (false≢true steps_it)
 

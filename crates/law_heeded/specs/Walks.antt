@@ -24,7 +24,7 @@ use Rattle.model_machine.specs.Sound.{StandsUnder}
 use Rattle.model_machine.specs.State.{State, noted, unbooked_in}
 use Rattle.law_apart.specs.Apart.{Leaves}
 use Rattle.law_calls.specs.Tells.{IsUntold}
-use Rattle.law_calls.specs.Told.{HasBegun, IsAskedBy}
+use Rattle.law_calls.specs.Told.{Acts, Asks, Happening, HasBegun, HasNews, Hears, IsAskedBy, Question, Wakes}
 use Rattle.law_kept.specs.Walks as kept
 use Rattle.law_heeded.specs.Owned.{AreApart, is_own}
 
@@ -102,3 +102,17 @@ pub record Walks {S : Type 0} (limit : ℕ) (added : Extra S) (Holds : State S �
   pub news : (code : ℤ) (bytes : List ℕ) (handle : Handle) (rest : List Handle) (s : State S) → s.loop.parts.pending ≡ handle ∷ rest
       → handle.dead ≡ false → handle.action ≡ action.ExtraItem code bytes → AreApart added s → Holds s
       → Holds (called (added.item code bytes (runs (action.ExtraItem code bytes) rest s)) (runs (action.ExtraItem code bytes) rest s))
+
+-- ---- what is so of each call
+-- What holds where a call is made says this of it.
+pub record GivesFacts {S : Type 0} (limit : ℕ) (added : Extra S) (Holds : State S → Type 0) (Woken : (task key : ℕ) → Input → State S → Type 0)
+    (Fact : Happening S → Type 0) : Type 0 where
+  pub asks : (task : ℕ) (code : ℤ) (arguments : List Value) (s : State S) → IsAskedBy limit added task code arguments s → AreApart added s
+      → Holds s → Fact (Asks task code arguments s)
+  pub wakes : (task key : ℕ) (input : Input) (s : State S) → AreApart added s → Woken task key input s → Fact (Wakes task key input s)
+  pub hears : (question : Question) (answer : Answer) (s : State S) → AreApart added s
+      → Woken question.task question.key (input_by answer) s → Fact (Hears question answer s)
+  pub acts : (key : ℕ) (handle : Handle) (rest : List Handle) (s : State S) → s.loop.parts.pending ≡ handle ∷ rest
+      → AreApart added s → Holds s → Fact (Acts key (runs (action.Extra key) rest s))
+  pub news : (code : ℤ) (bytes : List ℕ) (handle : Handle) (rest : List Handle) (s : State S) → s.loop.parts.pending ≡ handle ∷ rest
+      → AreApart added s → Holds s → Fact (HasNews code bytes (runs (action.ExtraItem code bytes) rest s))
