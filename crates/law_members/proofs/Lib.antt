@@ -1,0 +1,7 @@
+pub mod Coming
+pub mod Onward
+pub mod Counted
+pub mod Drawing
+pub mod Entering
+pub mod Calling
+pub mod Walking
