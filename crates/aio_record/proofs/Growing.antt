@@ -1,6 +1,6 @@
 -- How a file grows to whose end a text is handed bit by bit.
 use Rattle.std.proofs.Common.{◌≡◌, ℕ, zero, suc, ◌-◌, ◌≤◌, ◌<◌, List, [], ◌∷◌, ◌++◌, Option, Some, None, length, take, drop, refl, ap, sym, ◌∙◌, subst}
-use Rattle.std.proofs.Common.{append_assoc, arith, Bool, true, not, ◌==◌}
+use Rattle.std.proofs.Common.{append_assoc, arith, Bool, false, ◌==◌}
 use Rattle.std.proofs.lemmas.Bool.{false≢true}
 use Rattle.std.proofs.lemmas.List.{take_rest, take-append-drop}
 use Rattle.model_wire.specs.Event.{Event}
@@ -31,8 +31,8 @@ with-with (Some None) (byte ∷ first) second = refl
 with-with (Some (Some held)) first second = ap (λ (bytes : List ℕ). Some (Some bytes)) (append_assoc held first second)
 
 -- one that isn't empty has a byte
-pub some_left : (rest : List ℕ) (empty : Bool) → empty ≡ (length rest == 0) → not empty ≡ true → 0 < length rest
-some_left [] empty is other = absurd (false≢true (sym (ap not is) ∙ other))
+pub some_left : (rest : List ℕ) (empty : Bool) → empty ≡ (length rest == 0) → empty ≡ false → 0 < length rest
+some_left [] empty is other = absurd (false≢true (sym other ∙ is))
 some_left (byte ∷ rest) empty is other = omega arith
 
 -- what is left, once a front of the rest is gone too
