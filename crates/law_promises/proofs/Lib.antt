@@ -5,6 +5,8 @@ mod Raising
 mod MustCancelStays
 mod TakingBack
 mod Apart
+mod OwnStep
+mod OwnRequests
 mod ToldStays
 mod Turning
 mod Later

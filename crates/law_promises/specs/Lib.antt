@@ -2,6 +2,7 @@ pub mod Reached
 pub mod KeepsMustCancel
 pub mod Raised
 pub mod MustCancelIn
+pub mod OwnStep
 pub mod Stays
 pub mod Done
 pub mod Owed

@@ -9,6 +9,7 @@ pub mod exits;
 pub mod groups;
 pub mod ledgers;
 pub mod must_cancel;
+pub mod own_step;
 pub mod states;
 pub mod staying;
 pub mod waiting;
