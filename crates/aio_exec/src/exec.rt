@@ -39,9 +39,9 @@ fn is_decimal(alloc: Global, number: u64, bytes: &[u8]) -> Result<bool, Memory> 
 // What came, or else what was sent.
 fn came_as(came: Option<RcSlice<u8>>, value: Value) -> Value {
     match came {
-        Some(result) => {
+        Some(bytes) => {
             drop(value);
-            Value::bytes(result)
+            Value::bytes(bytes)
         }
         None => value,
     }
@@ -103,7 +103,7 @@ impl Exec {
     // Whether the outside answered the number of the next job.
     fn is_next(&self, alloc: Global, value: &Value) -> Result<bool, Memory> {
         match value.case() {
-            ValueCase::Bytes(bytes) => is_decimal(alloc, self.jobs.accepted(), bytes.as_ref()),
+            ValueCase::Bytes(bytes) => is_decimal(alloc, self.jobs.accepted(), bytes.as_slice()),
             _ => Ok(false),
         }
     }
@@ -178,8 +178,8 @@ impl Exec {
     }
 
     // A request is given what its job came to, and its task is woken.
-    fn give(&mut self, place: u64, result: RcSlice<u8>, parts: &mut Parts) {
-        if let Some(on) = self.requests.give(place, result) {
+    fn give(&mut self, place: u64, came: RcSlice<u8>, parts: &mut Parts) {
+        if let Some(on) = self.requests.give(place, came) {
             let _was_pending = parts.resolve(on, Outcome::Value(Value::nothing()));
         }
     }
@@ -191,14 +191,14 @@ impl Exec {
         bytes: &[u8],
         parts: &mut Parts,
     ) -> Result<(), Memory> {
-        let Some((number, result)) = numbered(bytes) else {
+        let Some((number, told)) = numbered(bytes) else {
             return Ok(());
         };
         let Some(place) = self.jobs.end(number) else {
             return Ok(());
         };
-        let result = RcSlice::from_slice(alloc, result)?;
-        self.give(place, result, parts);
+        let came = RcSlice::from_slice(alloc, told)?;
+        self.give(place, came, parts);
         Ok(())
     }
 }

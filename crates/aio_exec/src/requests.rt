@@ -103,17 +103,17 @@ fn wait_in(standing: &mut BTreeMap<u64, Standing>, place: u64, on: FutureId) {
 }
 
 // It is given what its job came to: the future on which it waits.
-fn give(it: &mut Standing, result: RcSlice<u8>) -> Option<FutureId>
+fn give(it: &mut Standing, came: RcSlice<u8>) -> Option<FutureId>
     ensures on { result ≡ on_of it.old }
-    ensures after { it.new ≡ given result it.old }
+    ensures after { it.new ≡ given came it.old }
 {
     match it {
         Standing::Asking => {
-            drop(result);
+            drop(came);
             None
         }
-        Standing::Waiting { on, came } => {
-            *came = Some(result);
+        Standing::Waiting { on, came: held } => {
+            *held = Some(came);
             Some(*on)
         }
     }
@@ -123,12 +123,12 @@ fn give(it: &mut Standing, result: RcSlice<u8>) -> Option<FutureId>
 fn give_in(
     standing: &mut BTreeMap<u64, Standing>,
     place: u64,
-    result: RcSlice<u8>,
+    came: RcSlice<u8>,
 ) -> Option<FutureId> {
     match standing.get_mut(&place) {
-        Some(it) => give(it, result),
+        Some(it) => give(it, came),
         None => {
-            drop(result);
+            drop(came);
             None
         }
     }
@@ -206,7 +206,7 @@ impl Requests {
 
     /// A request that waits is given what its job came to: the future on which it waits. It takes
     /// no memory.
-    pub fn give(&mut self, place: u64, result: RcSlice<u8>) -> Option<FutureId> {
-        give_in(&mut self.standing, place, result)
+    pub fn give(&mut self, place: u64, came: RcSlice<u8>) -> Option<FutureId> {
+        give_in(&mut self.standing, place, came)
     }
 }

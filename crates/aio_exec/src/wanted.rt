@@ -27,7 +27,7 @@ fn as_bytes(value: &Value) -> Option<&[u8]>
         (λ bytes. plain_as_bytes value.now ≡ Some bytes.now) }
 {
     match value.case() {
-        ValueCase::Bytes(bytes) => Some(bytes.as_ref()),
+        ValueCase::Bytes(bytes) => Some(bytes.as_slice()),
         _ => None,
     }
 }
