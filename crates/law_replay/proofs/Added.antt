@@ -3,6 +3,7 @@ use Rattle.std.proofs.Common.{refl}
 use Rattle.model_machine.specs.Extra.{no_extra}
 use Rattle.model_gather.specs.Serving.{gather_means}
 use Rattle.model_sync.specs.Serving.{sync_means}
+use Rattle.model_exec.specs.Serving.{exec_means}
 use Rattle.model_program.specs.Added.{added}
 use Rattle.law_replay.specs.Foreseeing.{ForeseesNothing}
 use Rattle.law_replay.proofs.Gathering.{gather_foresees}
@@ -11,6 +12,15 @@ use Rattle.law_replay.proofs.Routing.{reach_foresees}
 -- of the state, locks, events and queues read the loop's parts, and what they keep
 sync_foresees : ForeseesNothing sync_means
 sync_foresees = record {
+  ask = λ task code arguments s left. refl;
+  wake = λ key input s left. refl;
+  act = λ key s left. refl;
+  item = λ code bytes s left. refl;
+}
+
+-- jobs make their futures in the loop's parts
+exec_foresees : ForeseesNothing exec_means
+exec_foresees = record {
   ask = λ task code arguments s left. refl;
   wake = λ key input s left. refl;
   act = λ key s left. refl;
@@ -27,4 +37,4 @@ missing_foresees = record {
 
 pub added_foresees : ForeseesNothing added
 added_foresees =
-    reach_foresees gather_means sync_means no_extra no_extra gather_foresees sync_foresees missing_foresees missing_foresees
+    reach_foresees gather_means sync_means exec_means no_extra gather_foresees sync_foresees exec_foresees missing_foresees

@@ -6,15 +6,17 @@ use Rattle.model_gather.specs.Gathered.{Gathered, none_gathered}
 use Rattle.model_gather.specs.Serving.{gather_means}
 use Rattle.model_sync.specs.Synced.{Synced, none_synced}
 use Rattle.model_sync.specs.Serving.{sync_means}
+use Rattle.model_exec.specs.Execed.{Execed, none_execed}
+use Rattle.model_exec.specs.Serving.{exec_means}
 
 -- what is kept of it
 abbrev pub AddedState : Type 0
-AddedState = Parted Gathered Synced (Unit {0}) (Unit {0})
+AddedState = Parted Gathered Synced Execed (Unit {0})
 
--- Waits for several futures; locks, events and queues. The other two parts aren't there.
+-- Waits for several futures; locks, events and queues; jobs beside the loop. The fourth part isn't there.
 abbrev pub added : Extra AddedState
-added = reach gather_means sync_means no_extra no_extra
+added = reach gather_means sync_means exec_means no_extra
 
 -- nothing was asked
 abbrev pub first_added : AddedState
-first_added = record { gather = none_gathered; sync = none_synced; exec = tt; dgram = tt }
+first_added = record { gather = none_gathered; sync = none_synced; exec = none_execed; dgram = tt }

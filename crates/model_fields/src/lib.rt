@@ -1,0 +1,2 @@
+//! Texts that begin with a number and a space, as the outside hears and tells them. Definitions alone.
+#![tactic(auto)]
