@@ -92,14 +92,24 @@ pub record SameFor (at at' : ℕ → Option Drawn) (k : ℕ) : Type 0 where
 pub same_for : (at : ℕ → Option Drawn) (k : ℕ) → SameFor at at k
 same_for at k = record { to = λ j m e. e; from = λ j m e. e; rings = λ j e. e }
 
-module _ (at at' : ℕ → Option Drawn) (p q : Parts) (onward : Onward p q) (k : ℕ) (same : SameFor at at' k) where
+-- no handle of a key that was drawn comes to be
+abbrev pub NoMore : (at : ℕ → Option Drawn) → Parts → Parts → Type 0
+NoMore at p q = (j : ℕ) → (at j ≡ None → ⊥) → coming (is_key (the_key j)) q ≤ coming (is_key (the_key j)) p
+
+drawn_told : (at : ℕ → Option Drawn) (j : ℕ) (it : ℕ × ℕ) → tells_in (at j) ≡ Some it → at j ≡ None → ⊥
+drawn_told at j it e none = none-some it (sym (ap tells_in none) ∙ e)
+
+drawn_ring : (at : ℕ → Option Drawn) (j k : ℕ) → at j ≡ Some (Rings k) → at j ≡ None → ⊥
+drawn_ring at j k e none = none-some (Rings k) (sym none ∙ e)
+
+module _ (at at' : ℕ → Option Drawn) (p q : Parts) (stays : DoneStays p q) (fewer : NoMore at p q) (k : ℕ) (same : SameFor at at' k) where
   over_on : (it : Waiting) → WaitIsOver at p k it → WaitIsOver at' q k it
-  over_on it (came.all_are_done all) = came.all_are_done (each_done p q onward.stays.done (futures_of it.arguments) all)
-  over_on it (came.one_is_done m among first done) = came.one_is_done m among first (done.0, onward.stays.done m done.0 done.1)
-  over_on it (came.one_has_failed m outcome among first is failed) = came.one_has_failed m outcome among first (onward.stays.done m outcome is) failed
+  over_on it (came.all_are_done all) = came.all_are_done (each_done p q stays (futures_of it.arguments) all)
+  over_on it (came.one_is_done m among first done) = came.one_is_done m among first (done.0, stays m done.0 done.1)
+  over_on it (came.one_has_failed m outcome among first is failed) = came.one_has_failed m outcome among first (stays m outcome is) failed
   over_on it (came.time_is_over timer e none) =
       came.time_is_over timer (same.rings timer e)
-      (let a = onward.fewer (is_key (the_key timer)) (key_is_of timer) in omega (arith, a, none))
+      (let a = fewer timer (drawn_ring at timer k e) in omega (arith, a, none))
 
   wait_on : (it : Waiting) (o : Option Outcome) → WaitCame at p k it o → WaitCame at' q k it o
   wait_on it _ came.still_waits = came.still_waits
@@ -112,20 +122,20 @@ module _ (at at' : ℕ → Option Drawn) (p q : Parts) (onward : Onward p q) (k 
     few = u.few;
     counted = λ j m e out.
         let was = u.counted j m (same.from j m e) out in
-        let a = onward.fewer (is_key (the_key j)) (key_is_of j) in
+        let a = fewer j (drawn_told at j (k, m) (same.from j m e)) in
         let b = was.0 in
-        (omega (arith, a, b), gone_on p q onward.stays.done it m was.1);
+        (omega (arith, a, b), gone_on p q stays it m was.1);
     all = λ m among. by m (u.all m among);
   }
     where
       by : (m : ℕ) → ((j : ℕ) × (tells_in (at j) ≡ Some (k, m))) ⊎ HasGoneOn p it m → ((j : ℕ) × (tells_in (at' j) ≡ Some (k, m))) ⊎ HasGoneOn q it m
       by m (inl handle) = inl (handle.0, same.to handle.0 m handle.1)
-      by m (inr gone) = inr (gone_on p q onward.stays.done it m gone)
+      by m (inr gone) = inr (gone_on p q stays it m gone)
 
   -- its own future stays, or is cancelled
   gathers_on : (it : Gathering) → StaysOrIsCancelled p q it.outer → EntryCame at p k (Some (Gathers it)) → EntryCame at' q k (Some (Gathers it))
   gathers_on it (inl still) here = (
-    subst (GatherCame q it) (sym still) (gather_on p q onward.stays.done it (future_outcome p it.outer) here.0),
+    subst (GatherCame q it) (sym still) (gather_on p q stays it (future_outcome p it.outer) here.0),
     λ none. uncounted_on it (here.1 (sym still ∙ none)),
   )
   gathers_on it (inr gone) here = (subst (GatherCame q it) (sym gone.1) came.is_cancelled, λ none. absurd (none-some Cancelled (sym none ∙ gone.1)))
@@ -136,7 +146,7 @@ module _ (at at' : ℕ → Option Drawn) (p q : Parts) (onward : Onward p q) (k 
 
   shield_on : (inner : ℕ) (o : Option Outcome) → ShieldCame p inner o → ShieldCame q inner o
   shield_on inner _ came.still_waits = came.still_waits
-  shield_on inner _ (came.passes outcome is) = came.passes outcome (onward.stays.done inner outcome is)
+  shield_on inner _ (came.passes outcome is) = came.passes outcome (stays inner outcome is)
   shield_on inner _ came.is_cancelled = came.is_cancelled
 
   shields_on : (on : ℕ) → StaysOrIsCancelled p q on → EntryCame at p k (Some (Shields on)) → EntryCame at' q k (Some (Shields on))
@@ -165,6 +175,9 @@ plain_came at p k (Some (Tells place future)) none = tt
 plain_came at p k (Some (Rings place)) none = tt
 plain_came at p k None none = tt
 
+no_more : (at : ℕ → Option Drawn) (p q : Parts) → Onward p q → NoMore at p q
+no_more at p q onward j drawn = onward.fewer (is_key (the_key j)) (key_is_of j)
+
 module _ {at : ℕ → Option Drawn} {n : ℕ} {p : Parts} (r : Right at n p) where
   -- ---- the loop goes on
   pub goes_right : (q : Parts) → Onward p q → ((k on : ℕ) → own_in (at k) ≡ Some on → StaysOrIsCancelled p q on) → Right at n q
@@ -180,7 +193,7 @@ module _ {at : ℕ → Option Drawn} {n : ℕ} {p : Parts} (r : Right at n p) wh
         let a = r.registered j k m e was.0 in
         let b = was.1 (is_key (the_key j)) in
         omega (arith, a, b);
-    came = λ k. entry_on at at p q onward k (same_for at k) (at k) (leaves k) (r.came k);
+    came = λ k. entry_on at at p q onward.stays.done (no_more at p q onward) k (same_for at k) (at k) (leaves k) (r.came k);
   }
 
   -- ---- one entry is replaced, and the future of its request may get an outcome
@@ -219,7 +232,7 @@ module _ {at : ℕ → Option Drawn} {n : ℕ} {p : Parts} (r : Right at n p) wh
     entry_now l (inl e) = subst (λ i. EntryCame at' q i (at' i)) e here
     entry_now l (inr d) =
         subst (EntryCame at' q l) (sym (others l d))
-        (entry_on at at' p q onward l (record {
+        (entry_on at at' p q onward.stays.done (no_more at p q onward) l (record {
           to = λ j m e. tells_is j ∙ e;
           from = λ j m e. sym (tells_is j) ∙ e;
           rings = λ j e. rings_is l j (cases_eq k j) e;

@@ -1,0 +1,7 @@
+mod Lists
+mod Handles
+mod Right
+mod Drawing
+mod Counting
+mod Entering
+mod Asking
