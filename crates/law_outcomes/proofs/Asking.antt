@@ -51,9 +51,13 @@ each_at P [] m h all = absurd h
 each_at P (id ∷ ids) m (inl e) all = subst P e all.0
 each_at P (id ∷ ids) m (inr h) all = each_at P ids m h all.1
 
-none_in : (m : ℕ) (ids : List ℕ) → length ids ≡ 0 → IsIn m ids → ⊥
+pub none_in : (m : ℕ) (ids : List ℕ) → length ids ≡ 0 → IsIn m ids → ⊥
 none_in m [] e h = h
 none_in m (id ∷ ids) e h = absurd (omega (arith, e))
+
+abbrev pub shield_in : Option Drawn → Option ℕ
+shield_in (Some (Shields on)) = Some on
+shield_in _ = None
 
 -- the places of the handles of these, from this one on
 abbrev places_from : (place : ℕ) → List ℕ → List ℕ
@@ -83,6 +87,7 @@ plain_right n first delay steps l at no_own no_tell no_count single settles =
       before = λ it e m among. absurd (none-some it (sym no_count ∙ e));
       telling = λ i k m e it f. absurd (none-some it (sym no_count ∙ f));
       told = λ i k m e. absurd (none-some (k, m) (sym (tells delay i) ∙ e));
+      behind = λ on i k m e f. absurd (none-some (k, m) (sym (tells delay i) ∙ f));
       registered = λ i k m e pending. absurd (none-some (k, m) (sym (tells delay i) ∙ e));
       came = plain_came at (made_by_all steps l).parts n (Some first) no_own;
     }
@@ -264,7 +269,8 @@ module _ (kept : Gathered) (l : Loop) (r : KeepsRight kept l.parts) (c : KeepsCo
         making_right n (Gathers counted.now) open_ None (MakesMany members) (settled_as counted.outcome (next_future p)) l at refl (λ j. refl) tt
         (many_is_new members l).0 single (settled_settles (next_future p) counted.outcome)
         (λ on e. sym (same_Some counted.now.outer on e) ∙ all.outer) before telling
-        (λ m h. pending_within p m (filter_in (is_pending p) m members h).1) (came_as counted.outcome how_counted)
+        (λ m h. pending_within p m (filter_in (is_pending p) m members h).1) (λ on e. absurd (none-some on (ap shield_in e)))
+        (came_as counted.outcome how_counted)
       where
         single : (j : ℕ) → sum_by (makes (is_key (the_key j))) (handles ++ settled_as counted.outcome (next_future p)) ≤ 1
         single j =
@@ -327,6 +333,7 @@ module _ (kept : Gathered) (l : Loop) (r : KeepsRight kept l.parts) (c : KeepsCo
           let b = ap (λ (w : Counts). w.own) same in
           omega (arith, a, b))
       (λ it e m h. subst (IsIn m) (ap (λ (w : Counts). w.members) (same_Some its it e)) h) made
+      (λ on e. absurd (none-some on (ap shield_in e)))
       (subst (WaitCame (slice_get (kept.drawn ++ more)) (made_by_all steps l).parts n (waiting_of l.parts mode delay arguments)) (sym none)
       came.still_waits))
 
@@ -362,7 +369,7 @@ module _ (kept : Gathered) (l : Loop) (r : KeepsRight kept l.parts) (c : KeepsCo
               let b = registered_single j (suc n) (inner ∷ []) in
               omega (arith, a, b))
           tt (λ on e. sym (same_Some (next_future l.parts) on e)) (λ it e m h. absurd (none-some it e)) (λ it e m h. absurd (none-some it e))
-          (λ m h. low m h)
+          (λ m h. low m h) (λ on e. omega arith)
           (λ j other e. subst (ShieldCame (made_by_all (shield_steps n inner) l).parts other) (sym none) came.still_waits))
         where
           low : (m : ℕ) → IsIn m (inner ∷ []) → m < next_future l.parts

@@ -11,7 +11,7 @@ use Rattle.model_loop.specs.Loop.{Loop}
 use Rattle.model_loop.specs.Parts.{Parts}
 use Rattle.model_loop.specs.Totals.{callbacks_of}
 use Rattle.model_machine.specs.Extra.{ExtraStep, made_by_all}
-use Rattle.model_gather.specs.Gathered.{Drawn, Gathered, Rings, drawn_after}
+use Rattle.model_gather.specs.Gathered.{Drawn, Gathered, Rings, Shields, drawn_after}
 use Rattle.law_waiters.proofs.Drawing.{append_new, append_old}
 use Rattle.law_waiters.specs.Timed.{is_key}
 use Rattle.law_members.specs.Handles.{coming}
@@ -23,7 +23,7 @@ use Rattle.law_outcomes.proofs.Handles.{SettlesAt, key_is_of, steps_before, step
 use Rattle.law_outcomes.proofs.Right.{EntryCame, Right, SameFor, entry_on, own_in, plain_came}
 
 abbrev pub KeepsRight : Gathered → Parts → Type 0
-KeepsRight kept p = Right (slice_get kept.drawn) (length kept.drawn) p
+KeepsRight kept p = Right (slice_get kept.drawn) p
 
 -- what is so of the entries for a request that is asked, the steps that make its handles, and what its future has come to then
 pub record MoreRight (n : ℕ) (more : List Drawn) (steps : List ExtraStep) (l : Loop) (at : ℕ → Option Drawn) : Type 0 where
@@ -34,6 +34,7 @@ pub record MoreRight (n : ℕ) (more : List Drawn) (steps : List ExtraStep) (l :
   pub before : (it : Counts) → counts_in (slice_get more 0) ≡ Some it → (m : ℕ) → IsIn m it.members → m < it.own
   pub telling : (i k m : ℕ) → tells_in (slice_get more i) ≡ Some (k, m) → (it : Counts) → counts_in (slice_get more 0) ≡ Some it → IsIn m it.members
   pub told : (i k m : ℕ) → tells_in (slice_get more i) ≡ Some (k, m) → m < next_future l.parts
+  pub behind : (on i k m : ℕ) → slice_get more 0 ≡ Some (Shields on) → tells_in (slice_get more i) ≡ Some (k, m) → i ≡ 1
   pub registered : (i k m : ℕ) → tells_in (slice_get more i) ≡ Some (k, m) → is_pending (made_by_all steps l).parts m ≡ true
       → 0 < count_by (is_key (the_key (n + i))) (callbacks_of (made_by_all steps l).parts m)
   pub came : EntryCame at (made_by_all steps l).parts n (slice_get more 0)
@@ -132,6 +133,20 @@ module _ (kept : Gathered) (l : Loop) (r : KeepsRight kept l.parts) (c : KeepsCo
     told j k m e (inl h) = let a = r.told j k m (sym (ap tells_in (old j h)) ∙ e) in let b = made_more in omega (arith, a, b)
     told j k m e (inr h) = let a = it.told (j - n) k m (sym (ap tells_in (new j h)) ∙ e) in let b = made_more in omega (arith, a, b)
 
+    behind : (k on j m : ℕ) → at k ≡ Some (Shields on) → tells_in (at j) ≡ Some (k, m) → (k < n) ⊎ (n ≤ k) → (j < n) ⊎ (n ≤ j) → j ≡ suc k
+    behind k on j m e f (inl a) (inl b) = r.behind k on j m (sym (old k a) ∙ e) (sym (ap tells_in (old j b)) ∙ f)
+    behind k on j m e f (inl a) (inr b) =
+        let z = (fit.tells (j - n) k m (sym (ap tells_in (new j b)) ∙ f)).0 in
+        absurd (omega (arith, z, a))
+    behind k on j m e f (inr a) (inl b) =
+        let z = c.back j k m (sym (ap tells_in (old j b)) ∙ f) in
+        absurd (omega (arith, z, a, b))
+    behind k on j m e f (inr a) (inr b) =
+        let g = sym (ap tells_in (new j b)) ∙ f in
+        let z = (fit.tells (j - n) k m g).0 in
+        let i = it.behind on (j - n) k m (sym first ∙ ap at (sym z) ∙ e) g in
+        omega (arith, z, i, b)
+
     registered : (j k m : ℕ) → tells_in (at j) ≡ Some (k, m) → is_pending after m ≡ true → (j < n) ⊎ (n ≤ j)
         → 0 < count_by (is_key (the_key j)) (callbacks_of after m)
     registered j k m e pending (inl h) =
@@ -186,6 +201,7 @@ module _ (kept : Gathered) (l : Loop) (r : KeepsRight kept l.parts) (c : KeepsCo
       before = λ k its e m among. before k its e m among (cases_lt k n);
       telling = λ j k m e its f. telling j k m e its f (cases_lt j n);
       told = λ j k m e. told j k m e (cases_lt j n);
+      behind = λ k on j m e f. behind k on j m e f (cases_lt k n) (cases_lt j n);
       registered = λ j k m e pending. registered j k m e pending (cases_lt j n);
       came = λ k. came k (cases_lt k n);
     }

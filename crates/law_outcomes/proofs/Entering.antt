@@ -88,7 +88,7 @@ module _ (n : ℕ) (first : Drawn) (ids : List ℕ) (delay : Option ℤ) (make :
     (own_first : (on : ℕ) → own_in (Some first) ≡ Some on → on ≡ next_future l.parts)
     (before : (it : Counts) → counts_in (Some first) ≡ Some it → (m : ℕ) → IsIn m it.members → m < it.own)
     (telling : (it : Counts) → counts_in (Some first) ≡ Some it → (m : ℕ) → IsIn m ids → IsIn m it.members)
-    (are_made : (m : ℕ) → IsIn m ids → m < next_future l.parts)
+    (are_made : (m : ℕ) → IsIn m ids → m < next_future l.parts) (alone : (on : ℕ) → Some first ≡ Some (Shields on) → length ids ≤ 1)
     (here : EntryCame at (made_by_all (make ∷ registered_from gather_part (suc n) ids ++ more) l).parts n (Some first)) where
   abbrev entries_now : List Drawn
   entries_now = first ∷ map (Tells n) ids ++ handle_if_some delay n
@@ -112,6 +112,7 @@ module _ (n : ℕ) (first : Drawn) (ids : List ℕ) (delay : Option ℤ) (make :
     before = before;
     telling = tells_of;
     told = told;
+    behind = behind;
     registered = registered;
     came = here;
   }
@@ -133,6 +134,14 @@ module _ (n : ℕ) (first : Drawn) (ids : List ℕ) (delay : Option ℤ) (make :
       told : (i k m : ℕ) → tells_in (slice_get (first ∷ map (Tells n) ids ++ handle_if_some delay n) i) ≡ Some (k, m) → m < next_future l.parts
       told zero k m e = absurd (none-some (k, m) (sym tells_first ∙ e))
       told (suc i) k m e = are_made m (place_in ids i m (tells_back n ids delay i k m e))
+
+      behind : (on i k m : ℕ) → Some first ≡ Some (Shields on) → tells_in (slice_get (first ∷ map (Tells n) ids ++ handle_if_some delay n) i) ≡ Some (k, m)
+          → i ≡ 1
+      behind on zero k m e f = absurd (none-some (k, m) (sym tells_first ∙ f))
+      behind on (suc i) k m e f =
+          let a = get_within ids i m (tells_back n ids delay i k m f) in
+          let b = alone on e in
+          omega (arith, a, b)
 
       registered : (i k m : ℕ) → tells_in (slice_get (first ∷ map (Tells n) ids ++ handle_if_some delay n) i) ≡ Some (k, m)
           → is_pending (made_by_all (make ∷ registered_from gather_part (suc n) ids ++ more) l).parts m ≡ true

@@ -5,3 +5,4 @@ mod Drawing
 mod Counting
 mod Entering
 mod Asking
+mod Acting

@@ -43,14 +43,16 @@ EntryCame at p k (Some (Waits it)) = WaitCame at p k it (future_outcome p it.on)
 EntryCame at p k (Some (Shields on)) = (j inner : ℕ) → tells_in (at j) ≡ Some (k, inner) → ShieldCame p inner (future_outcome p on)
 EntryCame at p k _ = Unit {0}
 
--- `at` gives what each key was drawn for; so many were drawn.
-pub record Right (at : ℕ → Option Drawn) (n : ℕ) (p : Parts) : Type 0 where
+-- `at` gives what each key was drawn for.
+pub record Right (at : ℕ → Option Drawn) (p : Parts) : Type 0 where
   pub single : (j : ℕ) → coming (is_key (the_key j)) p ≤ 1
   pub made : (k on : ℕ) → own_in (at k) ≡ Some on → on < next_future p
   pub rising : (k l on other : ℕ) → own_in (at k) ≡ Some on → own_in (at l) ≡ Some other → k < l → on < other
   pub before : (k : ℕ) (it : Counts) → counts_in (at k) ≡ Some it → (m : ℕ) → IsIn m it.members → m < it.own
   pub telling : (j k m : ℕ) → tells_in (at j) ≡ Some (k, m) → (it : Counts) → counts_in (at k) ≡ Some it → IsIn m it.members
   pub told : (j k m : ℕ) → tells_in (at j) ≡ Some (k, m) → m < next_future p
+  -- the handle of a shield stands right behind it
+  pub behind : (k on j m : ℕ) → at k ≡ Some (Shields on) → tells_in (at j) ≡ Some (k, m) → j ≡ suc k
   pub registered : (j k m : ℕ) → tells_in (at j) ≡ Some (k, m) → is_pending p m ≡ true → 0 < count_by (is_key (the_key j)) (callbacks_of p m)
   pub came : (k : ℕ) → EntryCame at p k (at k)
 
@@ -178,9 +180,9 @@ plain_came at p k None none = tt
 no_more : (at : ℕ → Option Drawn) (p q : Parts) → Onward p q → NoMore at p q
 no_more at p q onward j drawn = onward.fewer (is_key (the_key j)) (key_is_of j)
 
-module _ {at : ℕ → Option Drawn} {n : ℕ} {p : Parts} (r : Right at n p) where
+module _ {at : ℕ → Option Drawn} {p : Parts} (r : Right at p) where
   -- ---- the loop goes on
-  pub goes_right : (q : Parts) → Onward p q → ((k on : ℕ) → own_in (at k) ≡ Some on → StaysOrIsCancelled p q on) → Right at n q
+  pub goes_right : (q : Parts) → Onward p q → ((k on : ℕ) → own_in (at k) ≡ Some on → StaysOrIsCancelled p q on) → Right at q
   goes_right q onward leaves = record {
     single = λ j. let a = r.single j in let b = onward.fewer (is_key (the_key j)) (key_is_of j) in omega (arith, a, b);
     made = λ k on e. let a = r.made k on e in let b = onward.stays.made in omega (arith, a, b);
@@ -188,6 +190,7 @@ module _ {at : ℕ → Option Drawn} {n : ℕ} {p : Parts} (r : Right at n p) wh
     before = r.before;
     telling = r.telling;
     told = λ j k m e. let a = r.told j k m e in let b = onward.stays.made in omega (arith, a, b);
+    behind = r.behind;
     registered = λ j k m e pending.
         let was = onward.stays.pending m (r.told j k m e) pending in
         let a = r.registered j k m e was.0 in
@@ -200,6 +203,7 @@ module _ {at : ℕ → Option Drawn} {n : ℕ} {p : Parts} (r : Right at n p) wh
   module _ (at' : ℕ → Option Drawn) (k : ℕ) (q : Parts) (onward : Onward p q) (others : (l : ℕ) → (k ≡ l → ⊥) → at' l ≡ at l)
       (own_same : own_in (at' k) ≡ own_in (at k)) (tells_same : tells_in (at' k) ≡ tells_in (at k))
       (rings_same : (l : ℕ) → at k ≡ Some (Rings l) → at' k ≡ Some (Rings l))
+      (shields_same : (on : ℕ) → at' k ≡ Some (Shields on) → at k ≡ Some (Shields on))
       (counts_same : (it : Counts) → counts_in (at' k) ≡ Some it
       → (was : Counts) × ((counts_in (at k) ≡ Some was) × ((was.own ≡ it.own) × (was.members ≡ it.members))))
       (leaves : (l on : ℕ) → (k ≡ l → ⊥) → own_in (at l) ≡ Some on → StaysOrIsCancelled p q on) (here : EntryCame at' q k (at' k)) where
@@ -238,7 +242,12 @@ module _ {at : ℕ → Option Drawn} {n : ℕ} {p : Parts} (r : Right at n p) wh
           rings = λ j e. rings_is l j (cases_eq k j) e;
         }) (at l) (λ on e. leaves l on d e) (r.came l))
 
-    pub replaced_right : Right at' n q
+    shield_was : (l on : ℕ) → (k ≡ l) ⊎ (k ≡ l → ⊥) → at' l ≡ Some (Shields on) → at l ≡ Some (Shields on)
+    shield_was l on (inl e) is =
+        subst (λ i. at i ≡ Some (Shields on)) e (shields_same on (subst (λ i. at' i ≡ Some (Shields on)) (sym e) is))
+    shield_was l on (inr d) is = sym (others l d) ∙ is
+
+    pub replaced_right : Right at' q
     replaced_right = record {
       single = λ j. let a = r.single j in let b = onward.fewer (is_key (the_key j)) (key_is_of j) in omega (arith, a, b);
       made = λ l on e. let a = r.made l on (sym (own_is l) ∙ e) in let b = onward.stays.made in omega (arith, a, b);
@@ -252,6 +261,7 @@ module _ {at : ℕ → Option Drawn} {n : ℕ} {p : Parts} (r : Right at n p) wh
           let w = counts_was l (cases_eq k l) it f in
           subst (IsIn m) w.1.1.1 (r.telling j l m (sym (tells_is j) ∙ e) w.0 w.1.0);
       told = λ j l m e. let a = r.told j l m (sym (tells_is j) ∙ e) in let b = onward.stays.made in omega (arith, a, b);
+      behind = λ l on j m e f. r.behind l on j m (shield_was l on (cases_eq k l) e) (sym (tells_is j) ∙ f);
       registered = λ j l m e pending.
           let was = onward.stays.pending m (r.told j l m (sym (tells_is j) ∙ e)) pending in
           let a = r.registered j l m (sym (tells_is j) ∙ e) was.0 in
