@@ -187,7 +187,7 @@ module _ (ours : ℕ → Bool) (made : ℕ) (below : (future : ℕ) → ours fut
       let same = length-set p.futures id new in
       apart_later p (slice_set p.futures id new) (omega (arith, same)) (each_set CallsNoSleep p.futures id new a.callbacks fine) a
 
-  settle_apart : (id : ℕ) (outcome : Outcome) (p : Parts) → Apart p → Apart (settle id outcome p)
+  pub settle_apart : (id : ℕ) (outcome : Outcome) (p : Parts) → Apart p → Apart (settle id outcome p)
   settle_apart id outcome p a = at (slice_get p.futures id) refl
     where
       until : (future : Future) → slice_get p.futures id ≡ Some future → (o : Option Outcome) → Apart (settled_as o id future outcome p)

@@ -1,0 +1,16 @@
+use Rattle.model_machine.specs.Extra.{no_extra}
+use Rattle.model_reach.specs.Reach.{OfDgram, OfExec}
+use Rattle.model_sync.specs.Synced.{none_synced}
+use Rattle.model_sync.specs.Serving.{sync_means}
+use Rattle.law_waiters.proofs.Asking.{nothing_keeps}
+use Rattle.law_keys.proofs.Keys.{sync_keeps_to_keys}
+use Rattle.law_members.proofs.Walking.{counts_beside}
+use Rattle.law_members.proofs.members_are_counted_once_they_are_done.Goals as goal
+
+pub returns : goal.returns
+returns c laws = record {
+  of_the_program = λ most limit program answers turns.
+      counts_beside sync_means no_extra no_extra sync_keeps_to_keys (nothing_keeps OfExec) (nothing_keeps OfDgram) none_synced tt tt most limit program
+      answers turns;
+  beside_others = counts_beside;
+}
