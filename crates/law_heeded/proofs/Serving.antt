@@ -101,7 +101,7 @@ module _ {S : Type 0} {limit : ℕ} {added : Extra S} {Holds : State S → Type 
   LeavesBy task (Answers value now) = Inside Holds task now
   LeavesBy task (Raises fault now) = Inside Holds task now
   LeavesBy task (Suspends now) = Outside now
-  LeavesBy task (Halts how last) = IsCut how ⊎ Holds last
+  LeavesBy task (Halts how last) = IsCut how ⊎ Outside last
 
   same_task : (task other : ℕ) → Some task ≡ Some other → task ≡ other
   same_task task other e = cc
@@ -123,7 +123,7 @@ module _ {S : Type 0} {limit : ℕ} {added : Extra S} {Holds : State S → Type 
   comes_in task s (Answers value now) in_ b = inside_on task s now in_ b
   comes_in task s (Raises fault now) in_ b = inside_on task s now in_ b
   comes_in task s (Suspends now) in_ b = record { holds = walks.beside s now b.beside in_.holds; apart = b.apart }
-  comes_in task s (Halts how last) in_ b = inr (walks.beside s last b.beside in_.holds)
+  comes_in task s (Halts how last) in_ b = inr (record { holds = walks.beside s last b.beside in_.holds; apart = b.apart })
 
   module _ (task : ℕ) where
     unmet : (how : End) (last : State S) → IsUnmet how → LeavesBy task (Halts how last)
