@@ -320,8 +320,8 @@ module _ {A B C D : Type 0} (gather : Extra A) (sync : Extra B) (exec : Extra C)
         along = record {
           beside = beside_along;
           asks = asks_along;
-          stood = λ task key input s t stood resumed b began none a h. record {
-            inv = inner.stood task key input s t stood resumed b began none a h.inv;
+          stood = λ task key input s t stood resumed b began none alone a h. record {
+            inv = inner.stood task key input s t stood resumed b began none alone a h.inv;
             by = by_wait (past_on s t b.all.kept b.told b.leaves h.past) (inl began);
           };
           done = λ task on key outcome s is h. record {

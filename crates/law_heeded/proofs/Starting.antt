@@ -65,7 +65,7 @@ module _ {S : Type 0} (added : Extra S) where
   any_walks limit = record {
     beside = λ s t b h. tt;
     asks = λ task code arguments s asked a h. tt;
-    stood = λ task key input s t stood resumed b began none a h. tt;
+    stood = λ task key input s t stood resumed b began none alone a h. tt;
     done = λ task on key outcome s is h. tt;
     hears = λ task key code bytes answer left s fit h. tt;
     wakes = λ task key input s a h. tt;

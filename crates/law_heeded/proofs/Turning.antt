@@ -28,7 +28,7 @@ use Rattle.model_machine.specs.Extra.{Extra, ExtraAnswer}
 use Rattle.model_machine.specs.Mids.{mids, mids_below, mids_by, mids_fitted, mids_if, mids_unless, next_mids, then_mids}
 use Rattle.model_machine.specs.Outcomes.{finished_as, input_of, woken_with}
 use Rattle.model_machine.specs.Replies.{RequestReply, Answers, Raises, Suspends, Halts, reply}
-use Rattle.model_machine.specs.Sound.{IsStateSound}
+use Rattle.model_machine.specs.Sound.{IsStateSound, StandsUnder}
 use Rattle.model_machine.specs.State.{State, generator_of, noted, resumed, unbooked_in}
 use Rattle.model_machine.specs.Step.{given_up, says_of, serve, serve_all, served, step, taken_as}
 use Rattle.model_machine.specs.Turn.{call_of, cancelled_if, effect, finished_if, is_stalled, next_below, ran, run_below, run_first, run_if, run_pending}
@@ -182,6 +182,14 @@ module _ {S : Type 0} {added : Extra S} {Holds : State S → Type 0} {Called : (
           omega (arith, a, m);
     }
 
+    -- keys are no two tasks'
+    alone : (key : ℕ) → StandsUnder s.generators task key → (other : ℕ)
+        → StandsUnder (awake added task input handle rest s first mine).generators other key → ⊥
+    alone key at other st =
+        awake_nowhere added task input handle rest s first mine key
+        (subst (λ t. StandsUnder (awake added task input handle rest s first mine).generators t key)
+        (sym (sound.keys.once task other key at (begins.beside.all.stands other key st))) st)
+
     abbrev heard_input : Input
     heard_input =
         (begin_step task input (given_up (point added task input handle rest s first mine) (runs handle.action rest s).loop.parts)).input
@@ -193,7 +201,7 @@ module _ {S : Type 0} {added : Extra S} {Holds : State S → Type 0} {Called : (
         (decides_in walks owns task (point added task input handle rest s first mine) heard_input _ inner
         (λ key at. walks.stood task key heard_input s _ at resumed_so begins.beside
         (record { before = s.events; it = handle.action; ends = refl; steps = mine })
-        (awake_nowhere added task input handle rest s first mine) it.apart it.holds))
+        (awake_nowhere added task input handle rest s first mine) (alone key at) it.apart it.holds))
         (λ t there. serve_in _ task t there)
 
   -- ---- callbacks
