@@ -67,7 +67,7 @@ pub each_gone : (p q : Parts) → DoneStays p q → (it : Gathering) (ids : List
 each_gone p q stays it [] all = tt
 each_gone p q stays it (id ∷ ids) all = (gone_on p q stays it id all.0, each_gone p q stays it ids all.1)
 
-each_done : (p q : Parts) → DoneStays p q → (ids : List ℕ) → Each (IsDone p) ids → Each (IsDone q) ids
+pub each_done : (p q : Parts) → DoneStays p q → (ids : List ℕ) → Each (IsDone p) ids → Each (IsDone q) ids
 each_done p q stays [] all = tt
 each_done p q stays (id ∷ ids) all = ((all.0.0, stays id all.0.0 all.0.1), each_done p q stays ids all.1)
 
@@ -177,7 +177,7 @@ plain_came at p k (Some (Tells place future)) none = tt
 plain_came at p k (Some (Rings place)) none = tt
 plain_came at p k None none = tt
 
-no_more : (at : ℕ → Option Drawn) (p q : Parts) → Onward p q → NoMore at p q
+pub no_more : (at : ℕ → Option Drawn) (p q : Parts) → Onward p q → NoMore at p q
 no_more at p q onward j drawn = onward.fewer (is_key (the_key j)) (key_is_of j)
 
 module _ {at : ℕ → Option Drawn} {p : Parts} (r : Right at p) where
