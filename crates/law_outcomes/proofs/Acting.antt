@@ -47,7 +47,7 @@ use Rattle.law_outcomes.proofs.Counting.{gather_same, gone_same}
 use Rattle.law_outcomes.proofs.Drawing.{KeepsRight}
 use Rattle.law_outcomes.proofs.Handles.{SettlesAt, key_is_of, revoked_settles, settle_gives, settled_settles, steps_others}
 use Rattle.law_outcomes.proofs.Lists.{each_in, in_among, in_or_not, set_there, without, without_one, without_others}
-use Rattle.law_outcomes.proofs.Right.{EntryCame, Right, Uncounted, each_done, entry_on, gather_on, no_more, same_for, goes_right, gone_on, own_in, replaced_right}
+use Rattle.law_outcomes.proofs.Right.{AreBefore, EntryCame, Right, Uncounted, each_done, entry_on, gather_on, no_more, same_for, goes_right, gone_on, own_in, replaced_right}
 
 -- a wait of which others are left
 wait_fewer : (at at' : ℕ → Option Drawn) (p q : Parts) (k left : ℕ) (it : Waiting) (o : Option Outcome) → (WaitIsOver at p k it → WaitIsOver at' q k (record it { left = left }))
@@ -184,7 +184,8 @@ module _ (kept : Gathered) (l : Loop) (r : KeepsRight kept l.parts) (c : KeepsCo
     abbrev told_after : Option Outcome → Parts
     told_after o = (made_by_all (settled_as o it.outer) now).parts
 
-    was : EntryCame at l.parts k (Some (Gathers it))
+    was : AreBefore it.outer it.awaited → GatherCame l.parts it (future_outcome l.parts it.outer)
+        × (future_outcome l.parts it.outer ≡ None → Uncounted at l.parts k it)
     was = subst (EntryCame at l.parts k) found (r.came k)
 
     counts_fewer : (its : Counts) → counts_in (Some (Gathers fewer)) ≡ Some its
@@ -232,37 +233,37 @@ module _ (kept : Gathered) (l : Loop) (r : KeepsRight kept l.parts) (c : KeepsCo
         by n (inr gone_) = gone_
 
     -- what its future came to where it was pending
-    newly : (asked : Bool) (counted : Outcome) → future_outcome l.parts m ≡ Some counted → future_outcome l.parts it.outer ≡ None
+    newly : AreBefore it.outer it.awaited → (asked : Bool) (counted : Outcome) → future_outcome l.parts m ≡ Some counted → future_outcome l.parts it.outer ≡ None
         → (outcome : Outcome) → GatherGets now.parts asked counted fewer (Some outcome) → GatherCame l.parts it (Some outcome)
-    newly asked counted done none _ (gets.raises raised no_value) = came.raises m counted (in_among m it.awaited among) done raised no_value
-    newly asked counted done none _ (gets.is_cancelled may left was_asked_) = came.is_cancelled
-    newly asked counted done none _ (gets.answers may left not_asked) = came.answers (last_counted (was.1 none) left (counted, (done, may)))
+    newly before asked counted done none _ (gets.raises raised no_value) = came.raises m counted (in_among m it.awaited among) done raised no_value
+    newly before asked counted done none _ (gets.is_cancelled may left was_asked_) = came.is_cancelled
+    newly before asked counted done none _ (gets.answers may left not_asked) = came.answers (last_counted ((was before).1 none) left (counted, (done, may)))
 
     some_as : (asked : Bool) (counted : Outcome) → future_outcome l.parts m ≡ Some counted → (outcome : Outcome)
         → GatherGets now.parts asked counted fewer (Some outcome) → (o : Option Outcome) → future_outcome l.parts it.outer ≡ o
         → EntryCame told_at (told_after (Some outcome)) k (Some (Gathers fewer))
-    some_as asked counted done outcome gets_ None e =
+    some_as asked counted done outcome gets_ None e before =
         let q = told_after (Some outcome) in
         let then_ = outcome_then k it.outer (Gathers it) (Gathers fewer) found refl refl refl refl refl counts_fewer outcome e in (
           subst (GatherCame q fewer) (sym then_)
               (gather_same q it fewer refl refl (Some outcome)
-              (gather_on l.parts q (told_onward (Some outcome)).stays.done it (Some outcome) (newly asked counted done e outcome gets_))),
+              (gather_on l.parts q (told_onward (Some outcome)).stays.done it (Some outcome) (newly before asked counted done e outcome gets_))),
           λ none. absurd (none-some outcome (sym none ∙ then_)),
         )
-    some_as asked counted done outcome gets_ (Some before) e =
+    some_as asked counted done outcome gets_ (Some earlier) e before =
         let q = told_after (Some outcome) in
-        let still = outcome_still k it.outer (Gathers it) (Gathers fewer) found refl refl refl refl refl counts_fewer (Some outcome) before e in (
+        let still = outcome_still k it.outer (Gathers it) (Gathers fewer) found refl refl refl refl refl counts_fewer (Some outcome) earlier e in (
           subst (GatherCame q fewer) (sym still)
-              (gather_same q it fewer refl refl (Some before)
-              (gather_on l.parts q (told_onward (Some outcome)).stays.done it (Some before) (subst (GatherCame l.parts it) e was.0))),
-          λ none. absurd (none-some before (sym none ∙ still)),
+              (gather_same q it fewer refl refl (Some earlier)
+              (gather_on l.parts q (told_onward (Some outcome)).stays.done it (Some earlier) (subst (GatherCame l.parts it) e (was before).0))),
+          λ none. absurd (none-some earlier (sym none ∙ still)),
         )
 
     none_as : (counted : Outcome) → HasGoneOn l.parts it m → EntryCame told_at (told_after None) k (Some (Gathers fewer))
-    none_as counted here = (
+    none_as counted here before = (
       gather_same now.parts it fewer refl refl (future_outcome now.parts it.outer)
-          (gather_on l.parts now.parts (told_onward None).stays.done it (future_outcome l.parts it.outer) was.0),
-      λ none. uncounted (was.1 none),
+          (gather_on l.parts now.parts (told_onward None).stays.done it (future_outcome l.parts it.outer) (was before).0),
+      λ none. uncounted ((was before).1 none),
     )
       where
         is_told : (i : ℕ) → tells_in (told_at i) ≡ tells_in (at i)
@@ -316,7 +317,7 @@ module _ (kept : Gathered) (l : Loop) (r : KeepsRight kept l.parts) (c : KeepsCo
     abbrev heard_after : Option Outcome → Parts
     heard_after o = (made_by_all (settled_as o it.on) now).parts
 
-    waited : WaitCame at l.parts k it (future_outcome l.parts it.on)
+    waited : AreBefore it.on (futures_of it.arguments) → WaitCame at l.parts k it (future_outcome l.parts it.on)
     waited = subst (EntryCame at l.parts k) found (r.came k)
 
     counts_less : (its : Counts) → counts_in (Some (Waits less)) ≡ Some its
@@ -360,19 +361,19 @@ module _ (kept : Gathered) (l : Loop) (r : KeepsRight kept l.parts) (c : KeepsCo
 
     -- why it is over now
     module _ (c' : KeepsCounted (drawn_at k (Waits less) kept) (heard_after (Some resolved))) where
-      all_done : less.left ≡ 0 → Each (IsDone (heard_after (Some resolved))) (futures_of it.arguments)
-      all_done none =
+      all_done : AreBefore it.on (futures_of it.arguments) → less.left ≡ 0 → Each (IsDone (heard_after (Some resolved))) (futures_of it.arguments)
+      all_done before none =
           each_in (IsDone (heard_after (Some resolved))) (futures_of it.arguments) (λ n h.
               let its : Counts = record { own = it.on; members = futures_of it.arguments; left = it.left - 1 } in
-              let low = r.before k (record { own = it.on; members = futures_of it.arguments; left = it.left }) (ap counts_in found) n h in
+              let low = before n h in
               let own = made k it.on (Waits it) (Waits less) found refl refl refl refl refl counts_less in
               let more = (heard_onward (Some resolved)).stays.made in
               outcome_there (drawn_at k (Waits less) kept) (heard_after (Some resolved)) c' n (omega (arith, low, own, more))
               (none_pending c' k its (ap counts_in (get-set_same kept.drawn k (Waits it) (Waits less) found)) none n h low))
 
-      why : (outcome : Outcome) → future_outcome l.parts m ≡ Some outcome → is_over outcome less ≡ true
+      why : AreBefore it.on (futures_of it.arguments) → (outcome : Outcome) → future_outcome l.parts m ≡ Some outcome → is_over outcome less ≡ true
           → WaitIsOver heard_at (heard_after (Some resolved)) k less
-      why outcome done over = at_left (less.left == 0) refl over
+      why before outcome done over = at_left (less.left == 0) refl over
         where
           stays : future_outcome (heard_after (Some resolved)) m ≡ Some outcome
           stays = (heard_onward (Some resolved)).stays.done m outcome done
@@ -387,18 +388,18 @@ module _ (kept : Gathered) (l : Loop) (r : KeepsRight kept l.parts) (c : KeepsCo
           at_left : (b : Bool) → (less.left == 0) ≡ b
               → (b || elim it.mode [ AllCompleted ↦ false | FirstCompleted ↦ true | FirstException ↦ is_failure outcome ]) ≡ true
               → WaitIsOver heard_at (heard_after (Some resolved)) k less
-          at_left true e over = came.all_are_done (all_done (eqb-true less.left 0 e))
+          at_left true e over = came.all_are_done (all_done before (eqb-true less.left 0 e))
           at_left false e over = by it.mode refl over
 
       resolved_as : (outcome : Outcome) → future_outcome l.parts m ≡ Some outcome → is_over outcome less ≡ true → (o : Option Outcome)
           → future_outcome l.parts it.on ≡ o → EntryCame heard_at (heard_after (Some resolved)) k (Some (Waits less))
-      resolved_as outcome done over None e =
+      resolved_as outcome done over None e before =
           subst (WaitCame heard_at (heard_after (Some resolved)) k less)
-          (sym (outcome_then k it.on (Waits it) (Waits less) found refl refl refl refl refl counts_less resolved e)) (came.goes_on (why outcome done over))
-      resolved_as outcome done over (Some before) e =
+          (sym (outcome_then k it.on (Waits it) (Waits less) found refl refl refl refl refl counts_less resolved e)) (came.goes_on (why before outcome done over))
+      resolved_as outcome done over (Some earlier) e before =
           subst (WaitCame heard_at (heard_after (Some resolved)) k less)
-          (sym (outcome_still k it.on (Waits it) (Waits less) found refl refl refl refl refl counts_less (Some resolved) before e))
-          (came_still (Some resolved) (Some before) (subst (WaitCame at l.parts k it) e waited))
+          (sym (outcome_still k it.on (Waits it) (Waits less) found refl refl refl refl refl counts_less (Some resolved) earlier e))
+          (came_still (Some resolved) (Some earlier) (subst (WaitCame at l.parts k it) e (waited before)))
 
     abbrev resolved_if : Bool → Option Outcome
     resolved_if over = if over then Some resolved else None
@@ -416,7 +417,7 @@ module _ (kept : Gathered) (l : Loop) (r : KeepsRight kept l.parts) (c : KeepsCo
         found_over (Some outcome) e over = (outcome, (e, over))
 
         by : (over : Bool) → is_over_by (future_outcome now.parts m) ≡ over → KeepsRight (drawn_at k (Waits less) kept) (heard_after (resolved_if over))
-        by false e = heard_right None (came_still None (future_outcome l.parts it.on) waited)
+        by false e = heard_right None (λ before. came_still None (future_outcome l.parts it.on) (waited before))
         by true e =
             let it_is = found_over (future_outcome l.parts m) refl e in
             heard_right (Some resolved) (resolved_as (counted true e) it_is.0 it_is.1.0 it_is.1.1 (future_outcome l.parts it.on) refl)
@@ -485,19 +486,19 @@ module _ (kept : Gathered) (l : Loop) (r : KeepsRight kept l.parts) (c : KeepsCo
     rung_onward : Onward l.parts rung_after
     rung_onward = onward k it.on (Waits it) (Waits it) found refl refl refl refl refl counts_still (Some resolved)
 
-    waited_for : WaitCame at l.parts k it (future_outcome l.parts it.on)
+    waited_for : EntryCame at l.parts k (Some (Waits it))
     waited_for = subst (EntryCame at l.parts k) found (r.came k)
 
     rung_came : (o : Option Outcome) → future_outcome l.parts it.on ≡ o → EntryCame at rung_after k (Some (Waits it))
     rung_came None e =
-        subst (WaitCame at rung_after k it)
+        λ before. subst (WaitCame at rung_after k it)
         (sym (outcome_then k it.on (Waits it) (Waits it) found refl refl refl refl refl counts_still resolved e))
         (came.goes_on (came.time_is_over j rings
         (let a = (settled_onward (Some resolved) it.on now).fewer (is_key (the_key j)) (key_is_of j) in let b = gone in omega (arith, a, b))))
-    rung_came (Some before) e =
+    rung_came (Some earlier) e =
         entry_on at at l.parts rung_after rung_onward.stays.done (no_more at l.parts rung_after rung_onward) k (same_for at k) (Some (Waits it))
         (λ on own. subst (StaysOrIsCancelled l.parts rung_after) (same_Some it.on on own)
-        (inl (outcome_still k it.on (Waits it) (Waits it) found refl refl refl refl refl counts_still (Some resolved) before e ∙ sym e))) waited_for
+        (inl (outcome_still k it.on (Waits it) (Waits it) found refl refl refl refl refl counts_still (Some resolved) earlier e ∙ sym e))) waited_for
 
     wait_rings_right : KeepsRight kept rung_after
     wait_rings_right =
