@@ -42,6 +42,13 @@ use Rattle.law_outcomes.proofs.Handles.{SettlesAt, made_append, registered_settl
 use Rattle.law_outcomes.proofs.Lists.{each_in, in_among}
 use Rattle.law_outcomes.proofs.Right.{AreBefore, EntryCame, Uncounted, gather_on, gone_on, own_in, plain_came}
 
+-- what it names was made, or is the next
+abbrev pub AsksMade : (next : ℕ) → Request → Type 0
+AsksMade next (OfGather as_items awaited) = (m : ℕ) → IsIn m awaited → m ≤ next
+AsksMade next (OfWait over delay arguments) = (m : ℕ) → IsIn m (futures_of (distinct_arguments arguments)) → m ≤ next
+AsksMade next (OfShield inner) = inner ≤ next
+AsksMade next (OfWaitFor on delay) = Unit {0}
+
 -- after a call
 abbrev pub CallRight : ExtraCall Gathered → Loop → Type 0
 CallRight call l = KeepsRight call.state (made_by_all call.steps l).parts
@@ -411,14 +418,7 @@ module _ (kept : Gathered) (l : Loop) (r : KeepsRight kept l.parts) (c : KeepsCo
       at true = drawn_right (1 + one_if_some delay) (wait_for_all task id delay l.parts kept) (wait_for_all_right task id delay)
       at false = once_right (Raises bad_timeout)
 
-  -- what it names was made, or is the next
-  abbrev pub AsksMade : Request → Type 0
-  AsksMade (OfGather as_items awaited) = (m : ℕ) → IsIn m awaited → m ≤ next_future l.parts
-  AsksMade (OfWait over delay arguments) = (m : ℕ) → IsIn m (futures_of (distinct_arguments arguments)) → m ≤ next_future l.parts
-  AsksMade (OfShield inner) = inner ≤ next_future l.parts
-  AsksMade (OfWaitFor on delay) = Unit {0}
-
-  pub serve_right : (it : Request) (task : ℕ) → AsksMade it → CallRight (serve it task l.parts kept).call l
+  pub serve_right : (it : Request) (task : ℕ) → AsksMade (next_future l.parts) it → CallRight (serve it task l.parts kept).call l
   serve_right (OfGather as_items awaited) task made = gather_right as_items awaited made
   serve_right (OfWait over delay arguments) task made = wait_right over delay arguments made
   serve_right (OfShield inner) task made = shield_right inner made
