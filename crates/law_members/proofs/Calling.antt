@@ -218,7 +218,7 @@ module _ (kept : Gathered) (l : Loop) (c : KeepsCounted kept l.parts) (handle : 
       (λ k. get-set_kept tells_in kept.drawn place k old new found tells_same) (length-set kept.drawn place new))
       (made_by_all (settled_as o id) now).parts (settled_onward o id now)
 
-  told_keeps : (place future : ℕ) → tells_at kept j ≡ Some (place, future) → (o : Option Drawn) → slice_get kept.drawn place ≡ o
+  pub told_keeps : (place future : ℕ) → tells_at kept j ≡ Some (place, future) → (o : Option Drawn) → slice_get kept.drawn place ≡ o
       → CallCounted (told o place future (record l.parts { pending = rest }) kept) (record l { parts = record l.parts { pending = rest } })
   told_keeps place future tells (Some (Gathers it)) e =
       let counted = count now.parts (was_asked now.parts it.outer) future it in

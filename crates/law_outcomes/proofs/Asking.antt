@@ -40,7 +40,14 @@ use Rattle.law_outcomes.proofs.Drawing.{KeepsRight, MoreRight, more_right, new_t
 use Rattle.law_outcomes.proofs.Entering.{distinct_in, filter_in, making_right, many_is_new, new_pending, pending_within, plain_is_new, tells_back}
 use Rattle.law_outcomes.proofs.Handles.{SettlesAt, made_append, registered_settles, registered_single, rings_settles, rings_single, settle_gives, settled_settles}
 use Rattle.law_outcomes.proofs.Lists.{each_in, in_among}
-use Rattle.law_outcomes.proofs.Right.{EntryCame, Uncounted, gather_on, gone_on, own_in, plain_came}
+use Rattle.law_outcomes.proofs.Right.{AreBefore, EntryCame, Uncounted, gather_on, gone_on, own_in, plain_came}
+
+-- what it names was made, or is the next
+abbrev pub AsksMade : (next : ℕ) → Request → Type 0
+AsksMade next (OfGather as_items awaited) = (m : ℕ) → IsIn m awaited → m ≤ next
+AsksMade next (OfWait over delay arguments) = (m : ℕ) → IsIn m (futures_of (distinct_arguments arguments)) → m ≤ next
+AsksMade next (OfShield inner) = inner ≤ next
+AsksMade next (OfWaitFor on delay) = Unit {0}
 
 -- after a call
 abbrev pub CallRight : ExtraCall Gathered → Loop → Type 0
@@ -84,7 +91,7 @@ plain_right n first delay steps l at no_own no_tell no_count single settles =
       single = single;
       settles = settles;
       own = λ i on e. absurd (none-some on (sym (own delay i) ∙ e));
-      before = λ it e m among. absurd (none-some it (sym no_count ∙ e));
+      most = λ it e m among. absurd (none-some it (sym no_count ∙ e));
       telling = λ i k m e it f. absurd (none-some it (sym no_count ∙ f));
       told = λ i k m e. absurd (none-some (k, m) (sym (tells delay i) ∙ e));
       behind = λ on i k m e f. absurd (none-some (k, m) (sym (tells delay i) ∙ f));
@@ -122,7 +129,7 @@ module _ (kept : Gathered) (l : Loop) (r : KeepsRight kept l.parts) (c : KeepsCo
       (plain_right n Answered None [] l (slice_get (kept.drawn ++ Answered ∷ [])) refl refl refl (λ j. omega arith) tt))
 
   -- ---- a gather
-  module _ (as_items : Bool) (awaited : List ℕ) (made : (m : ℕ) → IsIn m awaited → m < next_future l.parts) where
+  module _ (as_items : Bool) (awaited : List ℕ) (most : (m : ℕ) → IsIn m awaited → m ≤ next_future l.parts) where
     abbrev p : Parts
     p = l.parts
 
@@ -162,8 +169,8 @@ module _ (kept : Gathered) (l : Loop) (r : KeepsRight kept l.parts) (c : KeepsCo
     sizes : length open_ + length done_ ≡ length members
     sizes = length-filter_both (is_pending p) (λ id. not (is_pending p id)) (λ id. refl) members
 
-    done_made : Each (IsDone p) done_
-    done_made =
+    done_made : AreBefore (next_future l.parts) awaited → Each (IsDone p) done_
+    done_made made =
         each_in (IsDone p) done_ (λ m h.
             let it = filter_in (λ id. not (is_pending p id)) m members h in
             outcome_there kept p c m (made m (distinct_in m awaited it.0)) (untrue (is_pending p m) it.1))
@@ -172,8 +179,8 @@ module _ (kept : Gathered) (l : Loop) (r : KeepsRight kept l.parts) (c : KeepsCo
         untrue true e = absurd (false≢true e)
         untrue false e = refl
 
-    how_counted : AllCounted p whole done_ counted.outcome
-    how_counted = all_counted p whole done_ done_made (omega (arith, sizes))
+    how_counted : AreBefore (next_future l.parts) awaited → AllCounted p whole done_ counted.outcome
+    how_counted made = all_counted p whole done_ (done_made made) (omega (arith, sizes))
 
     in_open : (m : ℕ) → IsIn m awaited → is_pending p m ≡ true → IsIn m open_
     in_open m h is = in_filter (is_pending p) m members (in_distinct m awaited h) is
@@ -220,7 +227,7 @@ module _ (kept : Gathered) (l : Loop) (r : KeepsRight kept l.parts) (c : KeepsCo
         by m h false is = each_at (HasGoneOn p whole) done_ m (in_done m h is) gone
 
     came_some : (outcome : Outcome) → AllCounted p whole done_ (Some outcome) → EntryCame at (after_as (Some outcome)) n (Some (Gathers counted.now))
-    came_some outcome how =
+    came_some outcome how before =
         let q = after_as (Some outcome) in
         let is = outer_is q ∙ some_as outcome in (
           subst (GatherCame q counted.now) (sym is)
@@ -230,7 +237,7 @@ module _ (kept : Gathered) (l : Loop) (r : KeepsRight kept l.parts) (c : KeepsCo
         )
 
     came_none : Each (HasGoneOn p whole) done_ → EntryCame at (after_as None) n (Some (Gathers counted.now))
-    came_none gone = (subst (GatherCame q counted.now) (sym is) came.still_waits, λ none. uncounted)
+    came_none gone before = (subst (GatherCame q counted.now) (sym is) came.still_waits, λ none. uncounted)
       where
         q : Parts
         q = after_as None
@@ -264,13 +271,21 @@ module _ (kept : Gathered) (l : Loop) (r : KeepsRight kept l.parts) (c : KeepsCo
     came_as None (goes_on gone) = came_none gone
     came_as (Some outcome) how = came_some outcome how
 
+    -- of members that were made
+    made_before : AreBefore counted.now.outer counted.now.awaited → AreBefore (next_future l.parts) awaited
+    made_before before m h =
+        let a = before m (subst (IsIn m) (sym all.awaited) h) in
+        let b = all.outer in
+        omega (arith, a, b)
+
     gather_more : MoreRight n (Gathers counted.now ∷ map (Tells n) open_ ++ []) (gather_steps n p as_items awaited) l at
     gather_more =
         making_right n (Gathers counted.now) open_ None (MakesMany members) (settled_as counted.outcome (next_future p)) l at refl (λ j. refl) tt
         (many_is_new members l).0 single (settled_settles (next_future p) counted.outcome)
-        (λ on e. sym (same_Some counted.now.outer on e) ∙ all.outer) before telling
-        (λ m h. pending_within p m (filter_in (is_pending p) m members h).1) (λ on e. absurd (none-some on (ap shield_in e)))
-        (came_as counted.outcome how_counted)
+        (λ on e. sym (same_Some counted.now.outer on e) ∙ all.outer) at_most telling
+        (λ m h. let a = pending_within p m (filter_in (is_pending p) m members h).1 in omega (arith, a))
+        (λ on e. absurd (none-some on (ap shield_in e)))
+        (λ before. came_as counted.outcome (how_counted (made_before before)) before)
       where
         single : (j : ℕ) → sum_by (makes (is_key (the_key j))) (handles ++ settled_as counted.outcome (next_future p)) ≤ 1
         single j =
@@ -282,10 +297,10 @@ module _ (kept : Gathered) (l : Loop) (r : KeepsRight kept l.parts) (c : KeepsCo
         its : Counts
         its = record { own = counted.now.outer; members = counted.now.awaited; left = counted.now.left }
 
-        before : (it : Counts) → counts_in (Some (Gathers counted.now)) ≡ Some it → (m : ℕ) → IsIn m it.members → m < it.own
-        before it e m h =
+        at_most : (it : Counts) → counts_in (Some (Gathers counted.now)) ≡ Some it → (m : ℕ) → IsIn m it.members → m ≤ it.own
+        at_most it e m h =
             let same = same_Some its it e in
-            let a = made m (subst (IsIn m) (ap (λ (w : Counts). w.members) (sym same) ∙ all.awaited) h) in
+            let a = most m (subst (IsIn m) (ap (λ (w : Counts). w.members) (sym same) ∙ all.awaited) h) in
             let b = ap (λ (w : Counts). w.own) same in
             let d = all.outer in
             omega (arith, a, b, d)
@@ -302,7 +317,7 @@ module _ (kept : Gathered) (l : Loop) (r : KeepsRight kept l.parts) (c : KeepsCo
         (no_more (map (Tells n) open_))
         (more_right kept l r c more (gather_steps n p as_items awaited) (gather_fit n l as_items awaited) gather_more)
 
-  gather_right : (as_items : Bool) (awaited : List ℕ) → ((m : ℕ) → IsIn m awaited → m < next_future l.parts)
+  gather_right : (as_items : Bool) (awaited : List ℕ) → ((m : ℕ) → IsIn m awaited → m ≤ next_future l.parts)
       → CallRight (gather as_items awaited l.parts kept).call l
   gather_right as_items [] made = once_right (Answers (Items no_values))
   gather_right as_items (id ∷ ids) made =
@@ -311,7 +326,7 @@ module _ (kept : Gathered) (l : Loop) (r : KeepsRight kept l.parts) (c : KeepsCo
 
   -- ---- a wait
   wait_all_right : (mode : WaitMode) (delay : Option ℤ) (arguments : List Argument)
-      → ((m : ℕ) → IsIn m (futures_of arguments) → m < next_future l.parts) → CallRight (wait_all mode delay arguments l.parts kept).call l
+      → ((m : ℕ) → IsIn m (futures_of arguments) → m ≤ next_future l.parts) → CallRight (wait_all mode delay arguments l.parts kept).call l
   wait_all_right mode delay arguments made =
       let ids = futures_of arguments in
       let ring = the_key (suc n + length ids) in
@@ -334,11 +349,11 @@ module _ (kept : Gathered) (l : Loop) (r : KeepsRight kept l.parts) (c : KeepsCo
           omega (arith, a, b))
       (λ it e m h. subst (IsIn m) (ap (λ (w : Counts). w.members) (same_Some its it e)) h) made
       (λ on e. absurd (none-some on (ap shield_in e)))
-      (subst (WaitCame (slice_get (kept.drawn ++ more)) (made_by_all steps l).parts n (waiting_of l.parts mode delay arguments)) (sym none)
+      (λ before. subst (WaitCame (slice_get (kept.drawn ++ more)) (made_by_all steps l).parts n (waiting_of l.parts mode delay arguments)) (sym none)
       came.still_waits))
 
   wait_right : (over : Option WaitMode) (delay : Option ℤ) (arguments : List Argument)
-      → ((m : ℕ) → IsIn m (futures_of (distinct_arguments arguments)) → m < next_future l.parts)
+      → ((m : ℕ) → IsIn m (futures_of (distinct_arguments arguments)) → m ≤ next_future l.parts)
       → CallRight (wait over delay arguments l.parts kept).call l
   wait_right over delay [] made = once_right (Raises empty_set)
   wait_right None delay (it ∷ others) made = once_right (Raises bad_mode)
@@ -347,7 +362,7 @@ module _ (kept : Gathered) (l : Loop) (r : KeepsRight kept l.parts) (c : KeepsCo
       drawn_right (1 + length arguments + one_if_some delay) (wait_all mode delay arguments l.parts kept) (wait_all_right mode delay arguments made)
 
   -- ---- a shield
-  shield_right : (inner : ℕ) → inner < next_future l.parts → CallRight (shield inner l.parts kept).call l
+  shield_right : (inner : ℕ) → inner ≤ next_future l.parts → CallRight (shield inner l.parts kept).call l
   shield_right inner made = at (future_outcome l.parts inner)
     where
       more : List Drawn
@@ -372,7 +387,7 @@ module _ (kept : Gathered) (l : Loop) (r : KeepsRight kept l.parts) (c : KeepsCo
           (λ m h. low m h) (λ on e. omega arith)
           (λ j other e. subst (ShieldCame (made_by_all (shield_steps n inner) l).parts other) (sym none) came.still_waits))
         where
-          low : (m : ℕ) → IsIn m (inner ∷ []) → m < next_future l.parts
+          low : (m : ℕ) → IsIn m (inner ∷ []) → m ≤ next_future l.parts
           low m (inl e) = omega (arith, made, e)
           low m (inr h) = absurd h
 
@@ -403,14 +418,7 @@ module _ (kept : Gathered) (l : Loop) (r : KeepsRight kept l.parts) (c : KeepsCo
       at true = drawn_right (1 + one_if_some delay) (wait_for_all task id delay l.parts kept) (wait_for_all_right task id delay)
       at false = once_right (Raises bad_timeout)
 
-  -- what it names was made
-  abbrev pub AsksMade : Request → Type 0
-  AsksMade (OfGather as_items awaited) = (m : ℕ) → IsIn m awaited → m < next_future l.parts
-  AsksMade (OfWait over delay arguments) = (m : ℕ) → IsIn m (futures_of (distinct_arguments arguments)) → m < next_future l.parts
-  AsksMade (OfShield inner) = inner < next_future l.parts
-  AsksMade (OfWaitFor on delay) = Unit {0}
-
-  pub serve_right : (it : Request) (task : ℕ) → AsksMade it → CallRight (serve it task l.parts kept).call l
+  pub serve_right : (it : Request) (task : ℕ) → AsksMade (next_future l.parts) it → CallRight (serve it task l.parts kept).call l
   serve_right (OfGather as_items awaited) task made = gather_right as_items awaited made
   serve_right (OfWait over delay arguments) task made = wait_right over delay arguments made
   serve_right (OfShield inner) task made = shield_right inner made

@@ -31,9 +31,9 @@ pub record MoreRight (n : ℕ) (more : List Drawn) (steps : List ExtraStep) (l :
   pub settles : Each (SettlesAt (next_future l.parts)) steps
   pub own : (i on : ℕ) → own_in (slice_get more i) ≡ Some on
       → (i ≡ 0) × ((on ≡ next_future l.parts) × (on < next_future (made_by_all steps l).parts))
-  pub before : (it : Counts) → counts_in (slice_get more 0) ≡ Some it → (m : ℕ) → IsIn m it.members → m < it.own
+  pub most : (it : Counts) → counts_in (slice_get more 0) ≡ Some it → (m : ℕ) → IsIn m it.members → m ≤ it.own
   pub telling : (i k m : ℕ) → tells_in (slice_get more i) ≡ Some (k, m) → (it : Counts) → counts_in (slice_get more 0) ≡ Some it → IsIn m it.members
-  pub told : (i k m : ℕ) → tells_in (slice_get more i) ≡ Some (k, m) → m < next_future l.parts
+  pub told : (i k m : ℕ) → tells_in (slice_get more i) ≡ Some (k, m) → m < next_future (made_by_all steps l).parts
   pub behind : (on i k m : ℕ) → slice_get more 0 ≡ Some (Shields on) → tells_in (slice_get more i) ≡ Some (k, m) → i ≡ 1
   pub registered : (i k m : ℕ) → tells_in (slice_get more i) ≡ Some (k, m) → is_pending (made_by_all steps l).parts m ≡ true
       → 0 < count_by (is_key (the_key (n + i))) (callbacks_of (made_by_all steps l).parts m)
@@ -112,12 +112,12 @@ module _ (kept : Gathered) (l : Loop) (r : KeepsRight kept l.parts) (c : KeepsCo
         let y = (new_own l_ other b f).0 in
         absurd (omega (arith, h, x, y))
 
-    before : (k : ℕ) (its : Counts) → counts_in (at k) ≡ Some its → (m : ℕ) → IsIn m its.members → (k < n) ⊎ (n ≤ k) → m < its.own
-    before k its e m among (inl h) = r.before k its (sym (ap counts_in (old k h)) ∙ e) m among
-    before k its e m among (inr h) =
+    most : (k : ℕ) (its : Counts) → counts_in (at k) ≡ Some its → (m : ℕ) → IsIn m its.members → (k < n) ⊎ (n ≤ k) → m ≤ its.own
+    most k its e m among (inl h) = r.most k its (sym (ap counts_in (old k h)) ∙ e) m among
+    most k its e m among (inr h) =
         let f = sym (ap counts_in (new k h)) ∙ e in
         let z = fit.counts (k - n) its f in
-        it.before its (ap (λ i. counts_in (slice_get more i)) (sym z) ∙ f) m among
+        it.most its (ap (λ i. counts_in (slice_get more i)) (sym z) ∙ f) m among
 
     telling : (j k m : ℕ) → tells_in (at j) ≡ Some (k, m) → (its : Counts) → counts_in (at k) ≡ Some its → (j < n) ⊎ (n ≤ j) → IsIn m its.members
     telling j k m e its f (inl h) =
@@ -131,7 +131,7 @@ module _ (kept : Gathered) (l : Loop) (r : KeepsRight kept l.parts) (c : KeepsCo
 
     told : (j k m : ℕ) → tells_in (at j) ≡ Some (k, m) → (j < n) ⊎ (n ≤ j) → m < next_future after
     told j k m e (inl h) = let a = r.told j k m (sym (ap tells_in (old j h)) ∙ e) in let b = made_more in omega (arith, a, b)
-    told j k m e (inr h) = let a = it.told (j - n) k m (sym (ap tells_in (new j h)) ∙ e) in let b = made_more in omega (arith, a, b)
+    told j k m e (inr h) = it.told (j - n) k m (sym (ap tells_in (new j h)) ∙ e)
 
     behind : (k on j m : ℕ) → at k ≡ Some (Shields on) → tells_in (at j) ≡ Some (k, m) → (k < n) ⊎ (n ≤ k) → (j < n) ⊎ (n ≤ j) → j ≡ suc k
     behind k on j m e f (inl a) (inl b) = r.behind k on j m (sym (old k a) ∙ e) (sym (ap tells_in (old j b)) ∙ f)
@@ -198,7 +198,7 @@ module _ (kept : Gathered) (l : Loop) (r : KeepsRight kept l.parts) (c : KeepsCo
       single = λ j. single j (cases_lt j n);
       made = λ k on e. made k on e (cases_lt k n);
       rising = λ k l_ on other e f h. rising k l_ on other e f h (cases_lt k n) (cases_lt l_ n);
-      before = λ k its e m among. before k its e m among (cases_lt k n);
+      most = λ k its e m among. most k its e m among (cases_lt k n);
       telling = λ j k m e its f. telling j k m e its f (cases_lt j n);
       told = λ j k m e. told j k m e (cases_lt j n);
       behind = λ k on j m e f. behind k on j m e f (cases_lt k n) (cases_lt j n);

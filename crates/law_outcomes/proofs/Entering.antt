@@ -86,9 +86,9 @@ module _ (n : ℕ) (first : Drawn) (ids : List ℕ) (delay : Option ℤ) (make :
     (single : (j : ℕ) → sum_by (makes (is_key (the_key j))) (registered_from gather_part (suc n) ids ++ more) ≤ 1)
     (settles : Each (SettlesAt (next_future l.parts)) more)
     (own_first : (on : ℕ) → own_in (Some first) ≡ Some on → on ≡ next_future l.parts)
-    (before : (it : Counts) → counts_in (Some first) ≡ Some it → (m : ℕ) → IsIn m it.members → m < it.own)
+    (most : (it : Counts) → counts_in (Some first) ≡ Some it → (m : ℕ) → IsIn m it.members → m ≤ it.own)
     (telling : (it : Counts) → counts_in (Some first) ≡ Some it → (m : ℕ) → IsIn m ids → IsIn m it.members)
-    (are_made : (m : ℕ) → IsIn m ids → m < next_future l.parts) (alone : (on : ℕ) → Some first ≡ Some (Shields on) → length ids ≤ 1)
+    (are_made : (m : ℕ) → IsIn m ids → m ≤ next_future l.parts) (alone : (on : ℕ) → Some first ≡ Some (Shields on) → length ids ≤ 1)
     (here : EntryCame at (made_by_all (make ∷ registered_from gather_part (suc n) ids ++ more) l).parts n (Some first)) where
   abbrev entries_now : List Drawn
   entries_now = first ∷ map (Tells n) ids ++ handle_if_some delay n
@@ -109,7 +109,7 @@ module _ (n : ℕ) (first : Drawn) (ids : List ℕ) (delay : Option ℤ) (make :
           (registered_settles (next_future l.parts) (suc n) ids) settles,
     );
     own = own;
-    before = before;
+    most = most;
     telling = tells_of;
     told = told;
     behind = behind;
@@ -131,9 +131,13 @@ module _ (n : ℕ) (first : Drawn) (ids : List ℕ) (delay : Option ℤ) (make :
       tells_of zero k m e it f = absurd (none-some (k, m) (sym tells_first ∙ e))
       tells_of (suc i) k m e it f = telling it f m (place_in ids i m (tells_back n ids delay i k m e))
 
-      told : (i k m : ℕ) → tells_in (slice_get (first ∷ map (Tells n) ids ++ handle_if_some delay n) i) ≡ Some (k, m) → m < next_future l.parts
+      told : (i k m : ℕ) → tells_in (slice_get (first ∷ map (Tells n) ids ++ handle_if_some delay n) i) ≡ Some (k, m)
+          → m < next_future (made_by_all (make ∷ registered_from gather_part (suc n) ids ++ more) l).parts
       told zero k m e = absurd (none-some (k, m) (sym tells_first ∙ e))
-      told (suc i) k m e = are_made m (place_in ids i m (tells_back n ids delay i k m e))
+      told (suc i) k m e =
+          let a = are_made m (place_in ids i m (tells_back n ids delay i k m e)) in
+          let b = (steps_stay (registered_from gather_part (suc n) ids ++ more) (made_by make l)).made in
+          omega (arith, a, b, makes_one)
 
       behind : (on i k m : ℕ) → Some first ≡ Some (Shields on) → tells_in (slice_get (first ∷ map (Tells n) ids ++ handle_if_some delay n) i) ≡ Some (k, m)
           → i ≡ 1

@@ -6,3 +6,4 @@ mod Counting
 mod Entering
 mod Asking
 mod Acting
+mod Walking

@@ -37,9 +37,14 @@ pub record Uncounted (at : ℕ → Option Drawn) (p : Parts) (k : ℕ) (it : Gat
   pub counted : (j m : ℕ) → tells_in (at j) ≡ Some (k, m) → (IsIn j places → ⊥) → (coming (is_key (the_key j)) p ≡ 0) × HasGoneOn p it m
   pub all : (m : ℕ) → IsIn m it.awaited → ((j : ℕ) × (tells_in (at j) ≡ Some (k, m))) ⊎ HasGoneOn p it m
 
+-- each was made before this one, as in every sound state
+abbrev pub AreBefore : (own : ℕ) → List ℕ → Type 0
+AreBefore own ids = (m : ℕ) → IsIn m ids → m < own
+
 abbrev pub EntryCame : (at : ℕ → Option Drawn) → Parts → ℕ → Option Drawn → Type 0
-EntryCame at p k (Some (Gathers it)) = GatherCame p it (future_outcome p it.outer) × (future_outcome p it.outer ≡ None → Uncounted at p k it)
-EntryCame at p k (Some (Waits it)) = WaitCame at p k it (future_outcome p it.on)
+EntryCame at p k (Some (Gathers it)) =
+    AreBefore it.outer it.awaited → GatherCame p it (future_outcome p it.outer) × (future_outcome p it.outer ≡ None → Uncounted at p k it)
+EntryCame at p k (Some (Waits it)) = AreBefore it.on (futures_of it.arguments) → WaitCame at p k it (future_outcome p it.on)
 EntryCame at p k (Some (Shields on)) = (j inner : ℕ) → tells_in (at j) ≡ Some (k, inner) → ShieldCame p inner (future_outcome p on)
 EntryCame at p k _ = Unit {0}
 
@@ -48,7 +53,7 @@ pub record Right (at : ℕ → Option Drawn) (p : Parts) : Type 0 where
   pub single : (j : ℕ) → coming (is_key (the_key j)) p ≤ 1
   pub made : (k on : ℕ) → own_in (at k) ≡ Some on → on < next_future p
   pub rising : (k l on other : ℕ) → own_in (at k) ≡ Some on → own_in (at l) ≡ Some other → k < l → on < other
-  pub before : (k : ℕ) (it : Counts) → counts_in (at k) ≡ Some it → (m : ℕ) → IsIn m it.members → m < it.own
+  pub most : (k : ℕ) (it : Counts) → counts_in (at k) ≡ Some it → (m : ℕ) → IsIn m it.members → m ≤ it.own
   pub telling : (j k m : ℕ) → tells_in (at j) ≡ Some (k, m) → (it : Counts) → counts_in (at k) ≡ Some it → IsIn m it.members
   pub told : (j k m : ℕ) → tells_in (at j) ≡ Some (k, m) → m < next_future p
   -- the handle of a shield stands right behind it
@@ -67,7 +72,7 @@ pub each_gone : (p q : Parts) → DoneStays p q → (it : Gathering) (ids : List
 each_gone p q stays it [] all = tt
 each_gone p q stays it (id ∷ ids) all = (gone_on p q stays it id all.0, each_gone p q stays it ids all.1)
 
-each_done : (p q : Parts) → DoneStays p q → (ids : List ℕ) → Each (IsDone p) ids → Each (IsDone q) ids
+pub each_done : (p q : Parts) → DoneStays p q → (ids : List ℕ) → Each (IsDone p) ids → Each (IsDone q) ids
 each_done p q stays [] all = tt
 each_done p q stays (id ∷ ids) all = ((all.0.0, stays id all.0.0 all.0.1), each_done p q stays ids all.1)
 
@@ -136,15 +141,15 @@ module _ (at at' : ℕ → Option Drawn) (p q : Parts) (stays : DoneStays p q) (
 
   -- its own future stays, or is cancelled
   gathers_on : (it : Gathering) → StaysOrIsCancelled p q it.outer → EntryCame at p k (Some (Gathers it)) → EntryCame at' q k (Some (Gathers it))
-  gathers_on it (inl still) here = (
-    subst (GatherCame q it) (sym still) (gather_on p q stays it (future_outcome p it.outer) here.0),
-    λ none. uncounted_on it (here.1 (sym still ∙ none)),
+  gathers_on it (inl still) here before = (
+    subst (GatherCame q it) (sym still) (gather_on p q stays it (future_outcome p it.outer) (here before).0),
+    λ none. uncounted_on it ((here before).1 (sym still ∙ none)),
   )
-  gathers_on it (inr gone) here = (subst (GatherCame q it) (sym gone.1) came.is_cancelled, λ none. absurd (none-some Cancelled (sym none ∙ gone.1)))
+  gathers_on it (inr gone) here before = (subst (GatherCame q it) (sym gone.1) came.is_cancelled, λ none. absurd (none-some Cancelled (sym none ∙ gone.1)))
 
   waits_on : (it : Waiting) → StaysOrIsCancelled p q it.on → EntryCame at p k (Some (Waits it)) → EntryCame at' q k (Some (Waits it))
-  waits_on it (inl still) here = subst (WaitCame at' q k it) (sym still) (wait_on it (future_outcome p it.on) here)
-  waits_on it (inr gone) here = subst (WaitCame at' q k it) (sym gone.1) came.is_cancelled
+  waits_on it (inl still) here before = subst (WaitCame at' q k it) (sym still) (wait_on it (future_outcome p it.on) (here before))
+  waits_on it (inr gone) here before = subst (WaitCame at' q k it) (sym gone.1) came.is_cancelled
 
   shield_on : (inner : ℕ) (o : Option Outcome) → ShieldCame p inner o → ShieldCame q inner o
   shield_on inner _ came.still_waits = came.still_waits
@@ -177,7 +182,7 @@ plain_came at p k (Some (Tells place future)) none = tt
 plain_came at p k (Some (Rings place)) none = tt
 plain_came at p k None none = tt
 
-no_more : (at : ℕ → Option Drawn) (p q : Parts) → Onward p q → NoMore at p q
+pub no_more : (at : ℕ → Option Drawn) (p q : Parts) → Onward p q → NoMore at p q
 no_more at p q onward j drawn = onward.fewer (is_key (the_key j)) (key_is_of j)
 
 module _ {at : ℕ → Option Drawn} {p : Parts} (r : Right at p) where
@@ -187,7 +192,7 @@ module _ {at : ℕ → Option Drawn} {p : Parts} (r : Right at p) where
     single = λ j. let a = r.single j in let b = onward.fewer (is_key (the_key j)) (key_is_of j) in omega (arith, a, b);
     made = λ k on e. let a = r.made k on e in let b = onward.stays.made in omega (arith, a, b);
     rising = r.rising;
-    before = r.before;
+    most = r.most;
     telling = r.telling;
     told = λ j k m e. let a = r.told j k m e in let b = onward.stays.made in omega (arith, a, b);
     behind = r.behind;
@@ -252,9 +257,9 @@ module _ {at : ℕ → Option Drawn} {p : Parts} (r : Right at p) where
       single = λ j. let a = r.single j in let b = onward.fewer (is_key (the_key j)) (key_is_of j) in omega (arith, a, b);
       made = λ l on e. let a = r.made l on (sym (own_is l) ∙ e) in let b = onward.stays.made in omega (arith, a, b);
       rising = λ l i on other e f h. r.rising l i on other (sym (own_is l) ∙ e) (sym (own_is i) ∙ f) h;
-      before = λ l it e m among.
+      most = λ l it e m among.
           let w = counts_was l (cases_eq k l) it e in
-          let a = r.before l w.0 w.1.0 m (subst (IsIn m) (sym w.1.1.1) among) in
+          let a = r.most l w.0 w.1.0 m (subst (IsIn m) (sym w.1.1.1) among) in
           let b = w.1.1.0 in
           omega (arith, a, b);
       telling = λ j l m e it f.
