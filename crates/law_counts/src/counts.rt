@@ -1,6 +1,6 @@
-//! A law of what is counted of runs, whatever is open and whatever the outside answers. Each function
-//! has no body: its clauses are the law. `S` is the state of what is added to the loop's own
-//! requests, whatever that is.
+//! A law of what is counted of runs, whatever is open and whatever the outside answers. Each
+//! function has no body: its clauses are the law. `S` is the state of what is added to the loop's
+//! own requests, whatever that is.
 ghost use Rattle.std.specs.Prelude.{◌≡◌, ◌⊎◌, ℕ, List};
 ghost use Rattle.model_tree.specs.Syntax.{Program};
 ghost use Rattle.model_says.specs.Says.{step_limit};

@@ -1,13 +1,13 @@
 -- Each group that a run made is entered: it is made and entered by one request, and nothing else changes that.
-use Rattle.std.proofs.Common.{◌≡◌, ◌⊎◌, inl, inr, ℕ, zero, suc, ◌+◌, ◌<◌, ℤ, Bool, true, false, List, [], ◌∷◌, ◌++◌, Option, Some, None, length, nat_lt, refl, sym}
-use Rattle.std.proofs.Common.{ap, subst, ◌∙◌, arith, slice_index_or, slice_set, not, ◌&&◌}
-use Rattle.std.proofs.lemmas.Bool.{cases_eq}
+use Rattle.std.proofs.Common.{◌≡◌, ◌⊎◌, inl, inr, ℕ, zero, suc, ◌+◌, ◌<◌, ℤ, Bool, true, false, List, [], ◌∷◌, ◌++◌, Option, Some, None, length, refl}
+use Rattle.std.proofs.Common.{nat_lt, sym, ap, subst, ◌∙◌, arith, slice_index_or, slice_set, not, ◌&&◌}
+use Rattle.std.proofs.lemmas.Bool.{cases_eq, eq-eqb}
 use Rattle.model_value.specs.declared.action.Action.TheVariants as action
 use Rattle.model_value.specs.declared.input.Input.TheVariants.{Send, Throw}
 use Rattle.model_value.specs.declared.outcome.Outcome.TheVariants.{Value as Returned}
 use Rattle.model_value.specs.Action.{Action}
 use Rattle.model_value.specs.Input.{Input}
-use Rattle.model_value.specs.Value.{Nothing, Exc, Outcome}
+use Rattle.model_value.specs.Value.{Value, Nothing, Exc, Outcome}
 use Rattle.model_wire.specs.declared.event.Event.TheVariants as event
 use Rattle.model_wire.specs.declared.event.Handed.TheVariants as to
 use Rattle.model_wire.specs.Call.{Answer, Call}
@@ -32,7 +32,8 @@ use Rattle.model_machine.specs.Outcomes.{finished_as, woken_with}
 use Rattle.model_machine.specs.Replies.{most_ids}
 use Rattle.model_machine.specs.State.{Asked, State, generator_of, noted, stands, unbooked_in}
 use Rattle.model_machine.specs.Step.{given_up, most_answers, step}
-use Rattle.model_machine.specs.Turn.{call_of, cancelled_if, effect, finished_if, goes_with, handled_if, is_stalled, made_by as made_handler, ran, run_below, run_first}
+use Rattle.model_machine.specs.Turn.{call_of, cancelled_if, effect, finished_if, goes_with, handled_if, is_stalled, made_by as made_handler, ran}
+use Rattle.model_machine.specs.Turn.{run_below, run_first}
 use Rattle.model_machine.specs.Turn.{has_returned, next_below, run_if, run_pending, streams_act, streams_go, turn, turn_over, turn_unless, turned_by, woken_by}
 use Rattle.model_machine.specs.Went.{Went, Goes, Stops, answered_so, ask_so, fitted, fitted_so, answered_by, went_on}
 use Rattle.law_changes.specs.Blocks.{OfSchedule, gives_up, fires_soon, fires_later, tags}
@@ -44,8 +45,6 @@ use Rattle.law_groups.proofs.Holding.{group_other, group_same}
 use Rattle.law_turns.specs.After.{IsLoopAfter}
 use Rattle.law_turns.proofs.Exits.{exit_begin_loop, exit_woken_loop}
 use Rattle.law_turns.proofs.Loops.{child_done_loop, create_loop}
-use Rattle.std.proofs.lemmas.Bool.{eq-eqb}
-use Rattle.model_value.specs.Value.{Value}
 use Rattle.law_promises.specs.Entered.{AfterTurn, AllEntered, AreEntered, IsRunBetween}
 use Rattle.law_promises.specs.Stays.{AreAll}
 use Rattle.law_promises.proofs.OwnWalk.{StepWalk, decides_comes, serve_comes, taken_ends}

@@ -105,8 +105,8 @@ module _ {S : Type 0} {R E : Loop → Loop → Type 0} (me : ℕ) (w : StepWalk 
   abbrev Comes : State S → RequestReply S → Type 0
   Comes s it = ReplyComes R E s it
 
-  abbrev Goes_ : State S → Went S → Type 0
-  Goes_ s went = WentComes E s went
+  abbrev StepComes : State S → Went S → Type 0
+  StepComes s went = WentComes E s went
 
   abbrev same : (s : State S) → R s.loop s.loop
   same s = w.same s.loop
@@ -396,25 +396,25 @@ module _ {S : Type 0} {R E : Loop → Loop → Type 0} (me : ℕ) (w : StepWalk 
       with_comes t.streams s (hears input (reads_all me from taken) t) (hears_comes input (reads_all me from taken) t (reads_all_comes from taken t))
 
   -- ---- the rest of a step
-  went_after : (s t : State S) (went : Went S) → R s.loop t.loop → Goes_ t went → Goes_ s went
+  went_after : (s t : State S) (went : Went S) → R s.loop t.loop → StepComes t went → StepComes s went
   went_after s t (Goes now) first then_ = w.ends s.loop t.loop now.loop first then_
   went_after s t (Stops end last) first then_ = tt
 
   pub taken_ends : (s : State S) (it : RequestReply S) (fresh : Bool) (go_on : State S → Went S) → Comes s it
-      → ((t : State S) → Goes_ t (go_on t)) → Goes_ s (taken_as it fresh me go_on)
+      → ((t : State S) → StepComes t (go_on t)) → StepComes s (taken_as it fresh me go_on)
   taken_ends s (Answers value now) fresh go_on comes each = went_after s now (go_on _) comes (each _)
   taken_ends s (Raises fault now) fresh go_on comes each = went_after s now (go_on _) comes (each _)
   taken_ends s (Suspends now) fresh go_on comes each = comes
   taken_ends s (Halts end last) fresh go_on comes each = tt
 
-  said_ends : (limit : ℕ) (said : says.Saying) (go_on : State S → Went S) (s : State S) → ((t : State S) → Goes_ t (go_on t))
-      → Goes_ s (served limit added said me go_on s)
+  said_ends : (limit : ℕ) (said : says.Saying) (go_on : State S → Went S) (s : State S) → ((t : State S) → StepComes t (go_on t))
+      → StepComes s (served limit added said me go_on s)
   said_ends limit (says.Asks asked) go_on s each = taken_ends s (reply added me asked s) false go_on (reply_comes asked s) each
   said_ends limit (says.Returns value) go_on s each = w.over (Ok value) s.loop
   said_ends limit (says.Raises fault) go_on s each = w.over (Err fault) s.loop
   said_ends limit says.Runaway go_on s each = tt
 
-  pub serve_comes : (limit answers : ℕ) (s : State S) → Goes_ s (serve limit added answers me s)
+  pub serve_comes : (limit answers : ℕ) (s : State S) → StepComes s (serve limit added answers me s)
   unfolding serve
   serve_comes limit zero s = tt
   serve_comes limit (suc answers) s = said_ends limit (says_of limit added me s) (serve limit added answers me) s (serve_comes limit answers)
