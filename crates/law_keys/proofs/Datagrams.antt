@@ -10,7 +10,7 @@ use Rattle.model_value.specs.declared.input.Input.TheVariants.{Send, Throw}
 use Rattle.model_loop.specs.Futures.{next_future}
 use Rattle.model_loop.specs.Parts.{Parts}
 use Rattle.model_says.specs.Operations.{out_of_range}
-use Rattle.model_machine.specs.Extra.{Answers, Asks, ExtraAnswer, ExtraSaid, ExtraStep, MakesPlain, Raises, Waits}
+use Rattle.model_machine.specs.Extra.{Answers, Asks, ExtraAnswer, ExtraCall, ExtraSaid, ExtraStep, MakesPlain, Raises, Waits}
 use Rattle.model_machine.specs.State.{State}
 use Rattle.model_reach.specs.Part.{can_draw, key_at, only_says, passes, place_of, refuses, stays}
 use Rattle.model_reach.specs.Reach.{OfDgram, OfExec, OfGather, OfSync, part_of_key}
@@ -305,22 +305,24 @@ module _ (key place : ℕ) (p : Parts) (kept : Endpoints) (of : part_of_key key 
   woken_of_dgram input (Some Closes) = (tt, tt)
 
 -- ---- news
-room_of_dgram : (o : Option ℕ) (kept : Endpoints) → Each (IsStepOf OfDgram) (has_room o kept).steps
+abbrev IsCallOfDgram : ExtraCall Endpoints → Type 0
+IsCallOfDgram call = Each (IsStepOf OfDgram) call.steps
+
+room_of_dgram : (o : Option ℕ) (kept : Endpoints) → IsCallOfDgram (has_room o kept)
 room_of_dgram None kept = tt
 room_of_dgram (Some id) kept = at (endpoint_at id kept)
   where
     at : (o : Option Endpoint)
-        → Each (IsStepOf OfDgram)
-        (elim o [ None ↦ stays kept | Some endpoint ↦ record { state = kept; steps = wakes_first kept endpoint.senders } ]).steps
+        → IsCallOfDgram (elim o [ None ↦ stays kept | Some endpoint ↦ record { state = kept; steps = wakes_first kept endpoint.senders } ])
     at None = tt
     at (Some endpoint) = woken_first kept endpoint.senders
 
-came_of_dgram : (o : Option Came) (kept : Endpoints) → Each (IsStepOf OfDgram) (came o kept).steps
+came_of_dgram : (o : Option Came) (kept : Endpoints) → IsCallOfDgram (came o kept)
 came_of_dgram None kept = tt
 came_of_dgram (Some it) kept = at (endpoint_at it.endpoint kept)
   where
     at : (o : Option Endpoint)
-        → Each (IsStepOf OfDgram)
+        → IsCallOfDgram
         (elim o [
           | None ↦ stays kept
           | Some endpoint ↦
@@ -328,20 +330,20 @@ came_of_dgram (Some it) kept = at (endpoint_at it.endpoint kept)
                 state = set_endpoint it.endpoint (record endpoint { held = hold it.datagram endpoint.held }) kept;
                 steps = wakes_receiver kept endpoint.receiver;
               }
-        ]).steps
+        ])
     at None = tt
     at (Some endpoint) = woken_receiver kept endpoint.receiver
 
-told_of_dgram : (code : ℤ) (bytes : List ℕ) (kept : Endpoints) → Each (IsStepOf OfDgram) (told code bytes kept).steps
+told_of_dgram : (code : ℤ) (bytes : List ℕ) (kept : Endpoints) → IsCallOfDgram (told code bytes kept)
 told_of_dgram (negsuc before) bytes kept = tt
 told_of_dgram (pos code) bytes kept = at (code == 401)
   where
-    other : (b : Bool) → Each (IsStepOf OfDgram) (if b then came (came_in bytes) kept else stays kept).steps
+    other : (b : Bool) → IsCallOfDgram (if b then came (came_in bytes) kept else stays kept)
     other true = came_of_dgram (came_in bytes) kept
     other false = tt
 
     at : (b : Bool)
-        → Each (IsStepOf OfDgram) (if b then has_room (number_of bytes) kept else (if code == 402 then came (came_in bytes) kept else stays kept)).steps
+        → IsCallOfDgram (if b then has_room (number_of bytes) kept else (if code == 402 then came (came_in bytes) kept else stays kept))
     at true = room_of_dgram (number_of bytes) kept
     at false = other (code == 402)
 

@@ -8,7 +8,7 @@ use Rattle.model_value.specs.declared.input.Input.TheVariants.{Send, Throw}
 use Rattle.model_loop.specs.Futures.{next_future}
 use Rattle.model_loop.specs.Parts.{Parts}
 use Rattle.model_says.specs.Operations.{out_of_range}
-use Rattle.model_machine.specs.Extra.{Asks, ExtraSaid, MakesPlain, Raises, Waits, unknown_code}
+use Rattle.model_machine.specs.Extra.{Asks, ExtraCall, ExtraSaid, MakesPlain, Raises, Waits, unknown_code}
 use Rattle.model_machine.specs.State.{State}
 use Rattle.model_reach.specs.Part.{can_draw, key_at, only_says, passes, place_of, refuses, stays}
 use Rattle.model_reach.specs.Reach.{OfDgram, OfExec, OfGather, OfSync, part_of_key}
@@ -73,23 +73,25 @@ woken_of_exec key place (Send value) p kept of (Some (Waiting on came)) = (tt, t
 woken_of_exec key place (Throw exception) p kept of (Some (Waiting on came)) = (tt, tt)
 
 -- ---- news
-given_of_exec : (o : Option Standing) (place : ℕ) (result : List ℕ) (kept : Execed) → Each (IsStepOf OfExec) (given_to o place result kept).steps
+abbrev IsCallOfExec : ExtraCall Execed → Type 0
+IsCallOfExec call = Each (IsStepOf OfExec) call.steps
+
+given_of_exec : (o : Option Standing) (place : ℕ) (result : List ℕ) (kept : Execed) → IsCallOfExec (given_to o place result kept)
 given_of_exec None place result kept = tt
 given_of_exec (Some Asking) place result kept = tt
 given_of_exec (Some (Waiting on came)) place result kept = (tt, tt)
 
-told_of_exec : (o : Option (ℕ × List ℕ)) (kept : Execed) → Each (IsStepOf OfExec) (told o kept).steps
+told_of_exec : (o : Option (ℕ × List ℕ)) (kept : Execed) → IsCallOfExec (told o kept)
 told_of_exec None kept = tt
 told_of_exec (Some it) kept = at (place_of_job it.0 kept)
   where
     at : (o : Option ℕ)
-        → Each (IsStepOf OfExec)
-        (elim o [ None ↦ stays kept | Some place ↦ given_to (standing_at place kept) place it.1 (job_over it.0 kept) ]).steps
+        → IsCallOfExec (elim o [ None ↦ stays kept | Some place ↦ given_to (standing_at place kept) place it.1 (job_over it.0 kept) ])
     at None = tt
     at (Some place) = given_of_exec (standing_at place kept) place it.1 (job_over it.0 kept)
 
 item_of_exec : (b : Bool) (bytes : List ℕ) (s : State Execed)
-    → Each (IsStepOf OfExec) (if b then told (numbered bytes) s.extra else stays s.extra).steps
+    → IsCallOfExec (if b then told (numbered bytes) s.extra else stays s.extra)
 item_of_exec true bytes s = told_of_exec (numbered bytes) s.extra
 item_of_exec false bytes s = tt
 
