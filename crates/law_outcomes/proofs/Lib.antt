@@ -7,3 +7,4 @@ mod Entering
 mod Asking
 mod Acting
 mod Walking
+mod Ending

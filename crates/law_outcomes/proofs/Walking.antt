@@ -182,7 +182,7 @@ module _ (s : State Gathered) (scripts : (place id : ℕ) → slice_get s.future
       at (Some wanted) = of (requested s wanted arguments) (made_by_list wanted arguments)
 
 -- ---- its own futures, as what is added keeps them
-own_among : (kept : Gathered) (k on : ℕ) → own_in (slice_get kept.drawn k) ≡ Some on → IsAmong (flat_map plain.own_in kept.drawn) on
+pub own_among : (kept : Gathered) (k on : ℕ) → own_in (slice_get kept.drawn k) ≡ Some on → IsAmong (flat_map plain.own_in kept.drawn) on
 own_among kept k on = at (slice_get kept.drawn k) refl
   where
     at : (o : Option Drawn) → slice_get kept.drawn k ≡ o → own_in o ≡ Some on → IsAmong (flat_map plain.own_in kept.drawn) on
