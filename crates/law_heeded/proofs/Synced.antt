@@ -35,14 +35,14 @@ missing_keeps = record {
 
 -- ---- locks, events and queues
 -- values are any
-abbrev Any : Value → Type 0
+abbrev pub Any : Value → Type 0
 Any value = Unit {0}
 
 any_values : (xs : List Value) → Each Any xs
 any_values [] = tt
 any_values (x ∷ xs) = (tt, any_values xs)
 
-any_puts : (wanted : Wanted) → PutsHold Any wanted
+pub any_puts : (wanted : Wanted) → PutsHold Any wanted
 any_puts (Put queue value) = tt
 any_puts MakesLock = tt
 any_puts (Acquire lock) = tt
@@ -58,13 +58,13 @@ any_puts (Get queue) = tt
 any_puts (Size queue) = tt
 
 module _ (s : State Synced) where
-  abbrev Old : ℕ → Type 0
+  abbrev pub Old : ℕ → Type 0
   Old id = IsAmong (sync_keeps s.extra).own id
 
   abbrev first : ℕ
   first = next_future s.loop.parts
 
-  holds : Holds Old Any s.extra
+  pub holds : Holds Old Any s.extra
   holds =
       holds_from Old Any s.extra (each_from Old (sync_keeps s.extra).own (λ id among. among)) (any_values (sync_keeps s.extra).values)
 
