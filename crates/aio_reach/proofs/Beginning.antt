@@ -3,6 +3,7 @@ use Rattle.std.proofs.Common.{◌≡◌, ℕ, zero, suc, List, [], ◌∷◌, ma
 use Rattle.model_loop.specs.Parts.{Parts}
 use Rattle.model_gather.specs.Gathered.{Gathered, none_gathered}
 use Rattle.model_sync.specs.Synced.{none_synced}
+use Rattle.model_exec.specs.Execed.{none_execed}
 use Rattle.law_runs.specs.Allowed.{IsAmong}
 use Rattle.aio_task.specs.Keeps.{NameMap}
 use Rattle.aio_extra.specs.Added.{KeepsNothing}
@@ -14,6 +15,9 @@ use Rattle.aio_gather.specs.declared.gather.Gather.{Gather}
 use Rattle.aio_sync.specs.Added as sync
 use Rattle.aio_sync.specs.Seen as seen
 use Rattle.aio_sync.specs.declared.requests.Sync.{Sync}
+use Rattle.aio_exec.specs.Added as exec
+use Rattle.aio_exec.specs.Seen as exec_seen
+use Rattle.aio_exec.specs.declared.exec.Exec.{Exec}
 use Rattle.aio_reach.specs.declared.four.Four.{Four}
 use Rattle.aio_reach.specs.Routed.{first_reached, routed}
 
@@ -39,9 +43,17 @@ gather_stands x none t p =
 sync_stands : (x : Sync) → seen.kept_of x ≡ none_synced → (t : NameMap) (p : Parts) → sync.StandsForKept t p x none_synced
 sync_stands x none t p = (none, λ id own. absurd (none_among id own))
 
-pub begins : (x : Four Gather Sync NoExtra NoExtra) → ((tags : ℕ → ℕ) → kept_of tags x.gather ≡ none_gathered)
-    → seen.kept_of x.sync ≡ none_synced → KeepsNothing routed x first_reached
-begins x gathers syncs = record {
-  stands = λ t p. record { gather = gather_stands x.gather gathers t p; sync = sync_stands x.sync syncs t p; exec = tt; dgram = tt };
+exec_stands : (x : Exec) → exec_seen.kept_of x ≡ none_execed → (t : NameMap) (p : Parts) → exec.StandsForKept t p x none_execed
+exec_stands x none t p = (none, λ id own. absurd (none_among id own))
+
+pub begins : (x : Four Gather Sync Exec NoExtra) → ((tags : ℕ → ℕ) → kept_of tags x.gather ≡ none_gathered)
+    → seen.kept_of x.sync ≡ none_synced → exec_seen.kept_of x.exec ≡ none_execed → KeepsNothing routed x first_reached
+begins x gathers syncs execs = record {
+  stands = λ t p. record {
+    gather = gather_stands x.gather gathers t p;
+    sync = sync_stands x.sync syncs t p;
+    exec = exec_stands x.exec execs t p;
+    dgram = tt;
+  };
   names = record { tasks = refl; futures = refl; own = refl; tags = refl; values = refl };
 }

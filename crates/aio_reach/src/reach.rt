@@ -1,6 +1,7 @@
 //! What routes added requests to the parts that there are.
 use crate::four::Four;
 use aio_base::{Input, Memory, Value};
+use aio_exec::Exec;
 use aio_extra::{Asked, Extra, NoExtra};
 use aio_gather::Gather;
 use aio_sync::Sync;
@@ -8,9 +9,9 @@ use aio_task::{FutureId, Parts};
 use std::alloc::Global;
 
 /// The parts that there are. One that isn't built knows no code.
-pub type Reach = Four<Gather, Sync, NoExtra, NoExtra>;
+pub type Reach = Four<Gather, Sync, Exec, NoExtra>;
 
-impl Four<Gather, Sync, NoExtra, NoExtra> {
+impl Four<Gather, Sync, Exec, NoExtra> {
     ghost use Rattle.aio_extra.specs.Added.{KeepsNothing};
     ghost use Rattle.aio_reach.specs.Routed.{first_reached, routed};
 
@@ -21,13 +22,13 @@ impl Four<Gather, Sync, NoExtra, NoExtra> {
         Four {
             gather: Gather::new(alloc),
             sync: Sync::new(alloc),
-            exec: NoExtra,
+            exec: Exec::new(alloc),
             dgram: NoExtra,
         }
     }
 }
 
-impl Extra for Four<Gather, Sync, NoExtra, NoExtra> {
+impl Extra for Four<Gather, Sync, Exec, NoExtra> {
     ghost use Rattle.aio_reach.specs.Routed.{routed};
 
     ghost added = { routed };

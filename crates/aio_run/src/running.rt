@@ -29,7 +29,8 @@ pub fn run<F: Shelf, W: Wire, K: Sink>(
         (MayRunOver (told_by result
         (between (F.seen shelf.old) (F.seen shelf.new) (W.outside.seen wire.old)
         (W.outside.seen wire.new))
-        (wire.new ≡ wire.old) (W.outside.fails wire.old)) script.now (pace_of (option_copied journal.entry) manner))
+        (wire.new ≡ wire.old) (W.outside.fails wire.old)) script.now
+        (pace_of (option_copied journal.entry) manner))
         ((F.seen shelf.new ≡ F.seen shelf.old)
         × AsksOnce (W.outside.seen wire.old) (W.outside.seen wire.new))
         (K.seen out.old) (K.seen out.new) result }
@@ -58,7 +59,8 @@ fn run_program<F: Shelf, W: Wire, K: Sink>(
         (MayRun (told_by result
         (between (F.seen shelf.old) (F.seen shelf.new) (W.outside.seen wire.old)
         (W.outside.seen wire.new))
-        (wire.new ≡ wire.old) (W.outside.fails wire.old)) program.now (pace_of (option_copied journal.entry) manner))
+        (wire.new ≡ wire.old) (W.outside.fails wire.old)) program.now
+        (pace_of (option_copied journal.entry) manner))
         ((F.seen shelf.new ≡ F.seen shelf.old)
         × AsksOnce (W.outside.seen wire.old) (W.outside.seen wire.new))
         (K.seen out.old) (K.seen out.new) result }

@@ -26,8 +26,8 @@ pub fn each_answer_comes_right_after_its_call<S>()
 {}
 
 /// So what the events of a run hand to a connection or a child is the same where an answer is that
-/// of the last call before it, as the theorem has it of a wire, and where it is that of a call right
-/// before it which has none yet, as the laws of connections and children have it.
+/// of the last call before it, as the theorem has it of a wire, and where it is that of a call
+/// right before it which has none yet, as the laws of connections and children have it.
 pub fn what_is_handed_is_said_alike<S>()
     ensures run { (extra : Extra S) (first : S) (program : Program) (answers : List Entry)
         (turns : ℕ) (whom : Handed)

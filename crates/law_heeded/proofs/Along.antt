@@ -132,9 +132,11 @@ module _ {A B C D : Type 0} (gather : Extra A) (sync : Extra B) (exec : Extra C)
             × Leaves (Mine (call_in added it).state) (parts_after added it) q) (AreLeft gather sync exec dgram part p history q)
             → WhereElse o (AreLeft gather sync exec dgram part p history (state_in it).loop.parts
             × Leaves (Mine (call_in added it).state) (parts_after added it) r) (AreLeft gather sync exec dgram part p history r)
-        at true is before left =
-            (left.0, leaves_then (Mine (call_in added it).state) (parts_after added it) q r left.1
-            (subst (λ kept. Leaves (Mine kept) q r) (state_same it b) more))
+        at true is before left = (
+          left.0,
+          leaves_then (Mine (call_in added it).state) (parts_after added it) q r left.1
+              (subst (λ kept. Leaves (Mine kept) q r) (state_same it b) more),
+        )
         at false is before left = before left (subst (λ own. Leaves (is_among own) q r) (own_still it b may is) more)
 
     -- one call more
@@ -318,8 +320,8 @@ module _ {A B C D : Type 0} (gather : Extra A) (sync : Extra B) (exec : Extra C)
         along = record {
           beside = beside_along;
           asks = asks_along;
-          stood = λ task key input s t stood resumed b began none a h. record {
-            inv = inner.stood task key input s t stood resumed b began none a h.inv;
+          stood = λ task key input s t stood resumed b began none alone a h. record {
+            inv = inner.stood task key input s t stood resumed b began none alone a h.inv;
             by = by_wait (past_on s t b.all.kept b.told b.leaves h.past) (inl began);
           };
           done = λ task on key outcome s is h. record {

@@ -6,3 +6,6 @@ pub mod Serving
 pub mod Turning
 pub mod Sharing
 pub mod Along
+pub mod Synced
+pub mod Gathered
+pub mod Starting

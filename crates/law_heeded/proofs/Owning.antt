@@ -2,7 +2,7 @@
 use Rattle.std.proofs.Common.{◌≡◌, inl, inr, ℕ, zero, suc, ◌<◌, ◌≤◌, Bool, true, false, List, [], ◌∷◌, ◌++◌, Option, Some, None, length, slice_get, refl, sym, ap, subst, ◌∙◌}
 use Rattle.std.proofs.Common.{arith, le_refl, length-append}
 use Rattle.std.proofs.Math.ListN.{length-set}
-use Rattle.std.specs.Prelude.{◌&&◌, ◌||◌, ◌==◌, nat_le, nat_lt}
+use Rattle.std.specs.Prelude.{◌-◌, ◌&&◌, ◌||◌, ◌==◌, nat_le, nat_lt}
 use Rattle.std.specs.List.{AllByRecursion as Each}
 use Rattle.std.specs.Option.{option_map_or}
 use Rattle.std.proofs.lemmas.Bool.{false≢true, true≢false, eqb-true, eq-eqb, lt-ltb, le-leb, ltb-true, leb-true, and_parts, or_parts}
@@ -15,7 +15,7 @@ use Rattle.model_loop.specs.Futures.{asked_kind, mark_asked, make_future, next_f
 use Rattle.model_loop.specs.Ledger.{ByExtra}
 use Rattle.model_loop.specs.Loop.{Loop, in_parts}
 use Rattle.model_loop.specs.Parts.{Future, FutureKind, Many, Parts, Plain, Task}
-use Rattle.model_loop.specs.Tasks.{change_task}
+use Rattle.model_loop.specs.Tasks.{change_task, must_still_cancel}
 use Rattle.model_machine.specs.Extra as extra
 use Rattle.model_machine.specs.Extra.{Extra, ExtraCall, ExtraStep, called, made_by, made_by_all}
 use Rattle.model_machine.specs.State.{State}
@@ -117,6 +117,25 @@ request_count _ p (sets_must_cancel task) = task_count task _ p
 cancel_count : (id : ℕ) (p : Parts) → SameCount p (cancel id p).parts
 cancel_count id p = fold SameCount (λ q. refl) (λ q r t a b. b ∙ a) request_count (cancel_in id p)
 
+step_more : (step : ExtraStep) (l : Loop) → next_future l.parts ≤ next_future (made_by step l).parts
+step_more extra.MakesPlain l = let e = length-append l.parts.futures (record { kind = Plain; outcome = None; callbacks = [] } ∷ []) in omega (arith, e)
+step_more (extra.MakesMany members) l =
+    let e = length-append l.parts.futures (record { kind = Many members false; outcome = None; callbacks = [] } ∷ []) in omega (arith, e)
+step_more (extra.Settles future outcome) l = let e = settle_made future outcome l.parts in omega (arith, e)
+step_more (extra.Releases future) l = le_refl _
+step_more (extra.Registers future key) l = let e = register_count future (action.Extra key) l.parts in omega (arith, e)
+step_more (extra.CallsSoon key) l = le_refl _
+step_more (extra.CallsLater when key) l = le_refl _
+step_more (extra.Revokes tag) l = le_refl _
+step_more (extra.Cancels key future) l = let e = cancel_count future l.parts in omega (arith, e)
+step_more (extra.Uncancels key task) l =
+    let e = task_count task (λ it. record it { cancels = it.cancels - 1; must_cancel = must_still_cancel l.profile it }) l.parts in omega (arith, e)
+
+-- none goes
+pub steps_more : (steps : List ExtraStep) (l : Loop) → next_future l.parts ≤ next_future (made_by_all steps l).parts
+steps_more [] l = le_refl _
+steps_more (step ∷ steps) l = let a = step_more step l in let b = steps_more steps (made_by step l) in omega (arith, a, b)
+
 -- ---- other futures are ours then
 module _ (old new : ℕ → Bool) (made made_now next next_now : ℕ) (on : (future : ℕ) → IsTheirs old next future → IsTheirs new next_now future) where
   ends_on : (it : Action) → EndsTheirs old next it → EndsTheirs new next_now it
@@ -168,9 +187,10 @@ module _ (ours : ℕ → Bool) (first : ℕ) (below : (future : ℕ) → ours fu
       → IsTheirs (since ours first later) later future
   since_more last later future le is =
       let parts = or_parts (ours future) (nat_le first future && nat_lt future last) is.0 in
-      let early = at (nat_le first future) (ap (λ b. nat_le first future && b) (sym (lt-ltb future last is.1)) ∙ parts.1) in
-      (ap (λ b. b || (nat_le first future && nat_lt future later)) parts.0 ∙ ap (λ b. b && nat_lt future later) early,
-      let w = is.1 in omega (arith, w, le))
+      let early = at (nat_le first future) (ap (λ b. nat_le first future && b) (sym (lt-ltb future last is.1)) ∙ parts.1) in (
+        ap (λ b. b || (nat_le first future && nat_lt future later)) parts.0 ∙ ap (λ b. b && nat_lt future later) early,
+        let w = is.1 in omega (arith, w, le),
+      )
     where
       at : (b : Bool) → (b && true) ≡ false → b ≡ false
       at true h = absurd (true≢false h)

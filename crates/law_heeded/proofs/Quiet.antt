@@ -1,5 +1,5 @@
 -- What isn't of what is added: it tells nothing of that, and changes what a task waits for in its own step alone.
-use Rattle.std.proofs.Common.{◌≡◌, ℕ, ◌+◌, Bool, true, false, cond, List, [], ◌∷◌, ◌++◌, Option, Some, None, nat_lt, refl, sym, ap, subst, ◌∙◌, le_refl}
+use Rattle.std.proofs.Common.{◌≡◌, ℕ, ◌+◌, Bool, true, false, cond, List, [], ◌∷◌, ◌++◌, Option, Some, None, length, nat_lt, refl, sym, ap, subst, ◌∙◌, le_refl}
 use Rattle.std.proofs.lemmas.Bool.{false≢true}
 use Rattle.std.proofs.lemmas.List.{append-nil, append_assoc}
 use Rattle.model_value.specs.Action.{Action}
@@ -36,7 +36,7 @@ use Rattle.law_calls.specs.Tells.{IsUntold}
 use Rattle.law_calls.specs.Told.{is_of_extra}
 use Rattle.law_calls.proofs.Events.{heard_untold, missed_untold, untold_none, untold_then}
 use Rattle.law_calls.proofs.Rows.{Untold, is_extra_request, reply_same, row_untold, unchanging}
-use Rattle.law_cases.specs.Trees.{Keeping, KeepsStreams, is_aside, is_of_streams}
+use Rattle.law_cases.specs.Trees.{Keeping, KeepsStreams, Owned, is_aside, is_of_streams}
 use Rattle.law_cases.proofs.Asking.{closes}
 use Rattle.law_cases.proofs.Opening.{acts}
 use Rattle.law_changes.proofs.LoopRows as rows
@@ -46,7 +46,7 @@ use Rattle.law_kept.specs.Walks as kept
 use Rattle.law_kept.proofs.Loops.{Row, child_done_row, fire_row}
 use Rattle.law_kept.proofs.Requests as kept_by
 use Rattle.law_reach.specs.Reaches.{left_by}
-use Rattle.law_reach.proofs.Opened.{any, any_kept, decides_comes, reply_comes}
+use Rattle.law_reach.proofs.Opened.{any_kept, any_of, decides_comes, reply_comes}
 use Rattle.law_heeded.specs.Walks.{TellsNone, heard}
 use Rattle.law_heeded.proofs.Still.{Still, answers_still, change_still, row_still, still_same, still_then}
 
@@ -189,7 +189,7 @@ module _ {S : Type 0} where
         by (Refused line cause ∷ entries) = missed
         by (Answered came ∷ entries) = fit (fits it came) came entries
 
-    does_quiet : {A : Type 0} (Left : ℕ → A → Type 0) (own : ℕ → Bool) (number : ℕ) (tree : Doing A) (next : A → State S → Went S) (from s : State S)
+    does_quiet : {A : Type 0} (Left : ℕ → A → Type 0) (own : Owned) (number : ℕ) (tree : Doing A) (next : A → State S → Went S) (from s : State S)
         → IsQuiet from s → Keeping Left own number tree → ((it : A) (t : State S) → IsQuiet from t → Goes from (next it t))
         → Goes from (does Stops tree next s)
     does_quiet Left own number (Ends result) next from s so keeps each = each result s so
@@ -212,15 +212,18 @@ module _ {S : Type 0} where
 
   -- ---- callbacks that step no task and are none of what is added
   go_quiet : (tree : Doing Streams) (s : State S)
-      → Keeping (KeepsStreams any (next_future s.loop.parts) s.streams) any (next_future s.loop.parts) tree → Goes None s (streams_go tree s)
+      → Keeping (KeepsStreams (any_of (length s.streams.connections)) (next_future s.loop.parts) s.streams)
+      (any_of (length s.streams.connections)) (next_future s.loop.parts) tree → Goes None s (streams_go tree s)
   go_quiet tree s keeps =
-      does_quiet None (KeepsStreams any (next_future s.loop.parts) s.streams) any (next_future s.loop.parts) tree goes_with s s (quiet_same None s) keeps
+      does_quiet None (KeepsStreams (any_of (length s.streams.connections)) (next_future s.loop.parts) s.streams)
+      (any_of (length s.streams.connections)) (next_future s.loop.parts) tree goes_with s s (quiet_same None s) keeps
       (λ streams t here. quiet_then None s t (with_streams streams t) here (streams_quiet None streams t))
 
   acts_quiet : (it : Action) (returned : Bool) (s : State S) → Goes None s (streams_go (act (next_future s.loop.parts) returned it s.streams) s)
   acts_quiet it returned s =
       go_quiet (act (next_future s.loop.parts) returned it s.streams) s
-      (acts any (next_future s.loop.parts) returned it s.streams (any_kept s.streams))
+      (acts (any_of (length s.streams.connections)) (next_future s.loop.parts) returned it s.streams (any_kept s.streams)
+      (le_refl _))
 
   handled_quiet : (b : Bool) (coroutine conn : ℕ) (s : State S) → Goes None s (handled_if b coroutine conn s)
   handled_quiet true coroutine conn s =
@@ -232,7 +235,8 @@ module _ {S : Type 0} where
       (quiet_then None t u last (coroutine_quiet None coroutine (Conn conn ∷ []) t)
       (parts_quiet None call u refl (change_still None call u.loop.parts refl)))
   handled_quiet false coroutine conn s =
-      go_quiet (close (to.Conn conn) s.streams) s (closes any (next_future s.loop.parts) (to.Conn conn) s.streams (any_kept s.streams))
+      go_quiet (close (to.Conn conn) s.streams) s
+      (closes (any_of (length s.streams.connections)) (next_future s.loop.parts) (to.Conn conn) s.streams (any_kept s.streams))
 
   made_quiet : (handler : Option ℕ) (conn : ℕ) (s : State S) → Goes None s (made_by handler conn s)
   made_quiet None conn s = quiet_same None s

@@ -101,7 +101,7 @@ module _ {S : Type 0} {limit : ℕ} {added : Extra S} {Holds : State S → Type 
   LeavesBy task (Answers value now) = Inside Holds task now
   LeavesBy task (Raises fault now) = Inside Holds task now
   LeavesBy task (Suspends now) = Outside now
-  LeavesBy task (Halts how last) = IsCut how ⊎ Holds last
+  LeavesBy task (Halts how last) = IsCut how ⊎ Outside last
 
   same_task : (task other : ℕ) → Some task ≡ Some other → task ≡ other
   same_task task other e = cc
@@ -123,14 +123,15 @@ module _ {S : Type 0} {limit : ℕ} {added : Extra S} {Holds : State S → Type 
   comes_in task s (Answers value now) in_ b = inside_on task s now in_ b
   comes_in task s (Raises fault now) in_ b = inside_on task s now in_ b
   comes_in task s (Suspends now) in_ b = record { holds = walks.beside s now b.beside in_.holds; apart = b.apart }
-  comes_in task s (Halts how last) in_ b = inr (walks.beside s last b.beside in_.holds)
+  comes_in task s (Halts how last) in_ b = inr (record { holds = walks.beside s last b.beside in_.holds; apart = b.apart })
 
   module _ (task : ℕ) where
     unmet : (how : End) (last : State S) → IsUnmet how → LeavesBy task (Halts how last)
     unmet how last it = inl (inl it)
 
     -- ---- it stands at a request, and waits
-    module _ (on key : ℕ) (s : State S) (there : task < next_task s.loop.parts) (a : AreApart added s) where
+    module _ (on key : ℕ) (s : State S) (there : task < next_task s.loop.parts) (nowhere : (other : ℕ) → StandsUnder s.generators task other → ⊥)
+        (a : AreApart added s) where
       abbrev stood : State S
       stood = stands (Serving key) task (waits task on s)
 
@@ -150,6 +151,7 @@ module _ {S : Type 0} {limit : ℕ} {added : Extra S} {Holds : State S → Type 
         events = refl;
         leaves = left.leaves;
         waits = λ other key_ st differs. (row_still (Some task) (rows.suspend_row task on s.loop)).waiters other (λ e. differs (same_task task other e));
+        nowhere = nowhere;
         begins = λ none. begins_to_wait task on s.loop.parts there none;
       }
 
@@ -170,8 +172,8 @@ module _ {S : Type 0} {limit : ℕ} {added : Extra S} {Holds : State S → Type 
           there = it.there;
         })
     until_in None wake on key s is wakes it = record {
-      holds = walks.waits task on key s _ (stood_at on key s it.there it.apart) is it.apart it.holds;
-      apart = stood_apart on key s it.there it.apart;
+      holds = walks.waits task on key s _ (stood_at on key s it.there it.nowhere it.apart) is it.apart it.holds;
+      apart = stood_apart on key s it.there it.nowhere it.apart;
     }
 
     heard_apart : (code : ℤ) (bytes : List ℕ) (came : Answer) (others : List Entry) (s : State S) → AreApart added s

@@ -28,7 +28,7 @@ use Rattle.model_machine.specs.Extra.{Extra, ExtraAnswer}
 use Rattle.model_machine.specs.Mids.{mids, mids_below, mids_by, mids_fitted, mids_if, mids_unless, next_mids, then_mids}
 use Rattle.model_machine.specs.Outcomes.{finished_as, input_of, woken_with}
 use Rattle.model_machine.specs.Replies.{RequestReply, Answers, Raises, Suspends, Halts, reply}
-use Rattle.model_machine.specs.Sound.{IsStateSound}
+use Rattle.model_machine.specs.Sound.{IsStateSound, StandsUnder}
 use Rattle.model_machine.specs.State.{State, generator_of, noted, resumed, unbooked_in}
 use Rattle.model_machine.specs.Step.{given_up, says_of, serve, serve_all, served, step, taken_as}
 use Rattle.model_machine.specs.Turn.{call_of, cancelled_if, effect, finished_if, is_stalled, next_below, ran, run_below, run_first, run_if, run_pending}
@@ -123,7 +123,7 @@ module _ {S : Type 0} {added : Extra S} {Holds : State S → Type 0} {Called : (
 
   abbrev LeavesTo : Went S → Type 0
   LeavesTo (Goes now) = Outer now
-  LeavesTo (Stops how last) = IsCut how ⊎ Holds last
+  LeavesTo (Stops how last) = IsCut how ⊎ Outer last
 
   unmet : (how : End) (last : State S) → IsUnmet how → LeavesTo (Stops how last)
   unmet how last it = inl (inl it)
@@ -157,11 +157,11 @@ module _ {S : Type 0} {added : Extra S} {Holds : State S → Type 0} {Called : (
       taken_in task (reply added task asked s) false go_on (reply_in walks owns task asked s said it) each
   served_in (Returns value) task go_on s said it each = ended_in task (Ok value) s it
   served_in (Raised fault) task go_on s said it each = ended_in task (Err fault) s it
-  served_in Runaway task go_on s said it each = inr it.holds
+  served_in Runaway task go_on s said it each = inl (inr tt)
 
   serve_in : (answers task : ℕ) → SaysOn task (serve limit added answers task)
   unfolding serve
-  serve_in zero task s it = inr it.holds
+  serve_in zero task s it = inl (inr tt)
   serve_in (suc answers) task s it =
       served_in (says_of limit added task s) task (serve limit added answers task) s refl it (serve_in answers task)
 
@@ -182,6 +182,14 @@ module _ {S : Type 0} {added : Extra S} {Holds : State S → Type 0} {Called : (
           omega (arith, a, m);
     }
 
+    -- keys are no two tasks'
+    alone : (key : ℕ) → StandsUnder s.generators task key → (other : ℕ)
+        → StandsUnder (awake added task input handle rest s first mine).generators other key → ⊥
+    alone key at other st =
+        awake_nowhere added task input handle rest s first mine key
+        (subst (λ t. StandsUnder (awake added task input handle rest s first mine).generators t key)
+        (sym (sound.keys.once task other key at (begins.beside.all.stands other key st))) st)
+
     abbrev heard_input : Input
     heard_input =
         (begin_step task input (given_up (point added task input handle rest s first mine) (runs handle.action rest s).loop.parts)).input
@@ -193,7 +201,7 @@ module _ {S : Type 0} {added : Extra S} {Holds : State S → Type 0} {Called : (
         (decides_in walks owns task (point added task input handle rest s first mine) heard_input _ inner
         (λ key at. walks.stood task key heard_input s _ at resumed_so begins.beside
         (record { before = s.events; it = handle.action; ends = refl; steps = mine })
-        (awake_nowhere added task input handle rest s first mine) it.apart it.holds))
+        (awake_nowhere added task input handle rest s first mine) (alone key at) it.apart it.holds))
         (λ t there. serve_in _ task t there)
 
   -- ---- callbacks
@@ -204,7 +212,7 @@ module _ {S : Type 0} {added : Extra S} {Holds : State S → Type 0} {Called : (
 
     left_to : (went : Went S) → Both added s (state_of went) → LeavesTo went
     left_to (Goes now) b = outer_on s now it b
-    left_to (Stops how last) b = inr (walks.beside s last b.beside it.holds)
+    left_to (Stops how last) b = inr (outer_on s last it b)
 
     parts_sound : ArePartsSound None None s.loop.parts
     parts_sound = sound.loop.parts
@@ -261,7 +269,7 @@ module _ {S : Type 0} {added : Extra S} {Holds : State S → Type 0} {Called : (
 
   abbrev Stays : Went S → Type 0
   Stays (Goes now) = Between now
-  Stays (Stops how last) = IsCut how ⊎ Holds last
+  Stays (Stops how last) = IsCut how ⊎ Outer last
 
   stays_in : (went : Went S) → LeavesTo went → LeavesStateSound added went → Stays went
   stays_in (Goes now) it sound = record { outer = it; sound = sound }
@@ -303,7 +311,7 @@ module _ {S : Type 0} {added : Extra S} {Holds : State S → Type 0} {Called : (
 
       finished : (o : Option Outcome) (b : Bool) → LeavesTo (finished_if o (cancelled_if b s))
       finished None b = cancelled b
-      finished (Some outcome) b = inr (cancelled b).holds
+      finished (Some outcome) b = inr (cancelled b)
 
       at : (b : Bool) → LeavesTo (finished_if (finished_as (cancelled_if b s)) (cancelled_if b s))
       at b = finished (finished_as (cancelled_if b s)) b
@@ -334,59 +342,78 @@ module _ {S : Type 0} {added : Extra S} {Holds : State S → Type 0} {Called : (
       missed how last is = inl (inl is)
 
       unless : (b : Bool) → Stays (turn_unless limit added b s)
-      unless true = inr it.outer.holds
+      unless true = inr it.outer
       unless false =
           asked_comes Stops Stays missed (call_of added s) (turned_by limit added) s
           (λ came left fit. turned_in came (heard (call_of added s) came left s) (selected came left s it))
 
   -- ---- the states between
-  then_in : (go_on : State S → List (State S)) (went : Went S) → ((t : State S) → Between t → AreAll Holds (go_on t)) → Stays went
-      → AreAll Holds (then_mids go_on went)
-  then_in go_on (Goes now) each it = (it.outer.holds, each now it)
+  then_in : (go_on : State S → List (State S)) (went : Went S) → ((t : State S) → Between t → AreAll Outer (go_on t)) → Stays went
+      → AreAll Outer (then_mids go_on went)
+  then_in go_on (Goes now) each it = (it.outer, each now it)
   then_in go_on (Stops how last) each it = tt
 
   next_all : (bar : ℕ) (handles : List Handle) (go_on : State S → List (State S)) (s : State S) → s.loop.parts.pending ≡ handles → Between s
-      → ((t : State S) → Between t → AreAll Holds (go_on t)) → AreAll Holds (next_mids limit added bar handles go_on s)
+      → ((t : State S) → Between t → AreAll Outer (go_on t)) → AreAll Outer (next_mids limit added bar handles go_on s)
   next_all bar [] go_on s first it each = tt
   next_all bar (handle ∷ rest) go_on s first it each = at (nat_lt handle.stamp bar)
     where
-      at : (b : Bool) → AreAll Holds (mids_if limit added b handle rest go_on s)
+      at : (b : Bool) → AreAll Outer (mids_if limit added b handle rest go_on s)
       at true = then_in go_on (run_first limit added handle rest s) each (callback_stays handle rest s first it)
       at false = tt
 
-  below_all : (bar count : ℕ) (s : State S) → Between s → AreAll Holds (mids_below limit added bar count s)
+  below_all : (bar count : ℕ) (s : State S) → Between s → AreAll Outer (mids_below limit added bar count s)
   unfolding mids_below
   below_all bar zero s it = tt
   below_all bar (suc count) s it = next_all bar s.loop.parts.pending (mids_below limit added bar count) s refl it (below_all bar count)
 
-  mids_in : (s : State S) → Between s → AreAll Holds (mids limit added s)
+  mids_in : (s : State S) → Between s → AreAll Outer (mids limit added s)
   mids_in s it = unless (is_stalled added s)
     where
-      fit : (b : Bool) (came : Answer) (left : List Entry) → AreAll Holds (mids_fitted limit added b came (heard (call_of added s) came left s))
+      fit : (b : Bool) (came : Answer) (left : List Entry) → AreAll Outer (mids_fitted limit added b came (heard (call_of added s) came left s))
       fit true came left =
           let t = unbooked_in (woken_by came) (heard (call_of added s) came left s) in
           let now = woken_on came (heard (call_of added s) came left s) (selected came left s it) in
-          (now.outer.holds, below_all _ _ t now)
+          (now.outer, below_all _ _ t now)
       fit false came left = tt
 
-      by : (entries : List Entry) → AreAll Holds (mids_by limit added entries (call_of added s) (noted (event.Called (call_of added s)) s))
+      by : (entries : List Entry) → AreAll Outer (mids_by limit added entries (call_of added s) (noted (event.Called (call_of added s)) s))
       by [] = tt
       by (Refused line cause ∷ entries) = tt
       by (Answered came ∷ entries) = fit (fits (call_of added s) came) came entries
 
-      unless : (b : Bool) → AreAll Holds (mids_unless limit added b s)
+      unless : (b : Bool) → AreAll Outer (mids_unless limit added b s)
       unless true = tt
       unless false = by s.answers
 
   -- ---- a run
-  after : (goes : State S → Type 0) (went : Went S) → Stays went → ((t : State S) → Between t → goes t) → AfterTurn Holds goes went
+  after : (goes : State S → Type 0) (went : Went S) → Stays went → ((t : State S) → Between t → goes t) → AfterTurn Outer goes went
   after goes (Goes now) it each = each now it
   after goes (Stops how last) it each = it
 
-  run_in : (turns : ℕ) (s : State S) → Between s → IsRunOf Holds limit added turns s
-  run_in zero s it = it.outer.holds
+  run_in : (turns : ℕ) (s : State S) → Between s → IsRunOf Outer limit added turns s
+  run_in zero s it = it.outer
   run_in (suc turns) s it =
-      (it.outer.holds, mids_in s it, after (IsRunOf Holds limit added turns) (turn limit added s) (turn_in s it) (run_in turns))
+      (it.outer, mids_in s it, after (IsRunOf Outer limit added turns) (turn limit added s) (turn_in s it) (run_in turns))
 
-  pub run_on : (turns : ℕ) (s : State S) → IsStateSound added s → AreApart added s → Holds s → IsRunOf Holds limit added turns s
-  run_on turns s sound a holds = run_in turns s (record { outer = record { holds = holds; apart = a }; sound = sound })
+  pub run_outer : (turns : ℕ) (s : State S) → IsStateSound added s → AreApart added s → Holds s → IsRunOf Outer limit added turns s
+  run_outer turns s sound a holds = run_in turns s (record { outer = record { holds = holds; apart = a }; sound = sound })
+
+-- ---- what is less holds too
+module _ {S : Type 0} (P Q : State S → Type 0) (on : (s : State S) → P s → Q s) (limit : ℕ) (added : Extra S) where
+  all_on : (states : List (State S)) → AreAll P states → AreAll Q states
+  all_on [] all = tt
+  all_on (s ∷ states) all = (on s all.0, all_on states all.1)
+
+  after_on : (one other : State S → Type 0) (went : Went S) → ((s : State S) → one s → other s) → AfterTurn P one went → AfterTurn Q other went
+  after_on one other (Goes now) each it = each now it
+  after_on one other (Stops how last) each (inl cut) = inl cut
+  after_on one other (Stops how last) each (inr it) = inr (on last it)
+
+  pub run_of : (turns : ℕ) (s : State S) → IsRunOf P limit added turns s → IsRunOf Q limit added turns s
+  run_of zero s it = on s it
+  run_of (suc turns) s it = (
+    on s it.0,
+    all_on (mids limit added s) it.1,
+    after_on (IsRunOf P limit added turns) (IsRunOf Q limit added turns) (turn limit added s) (run_of turns) it.2,
+  )

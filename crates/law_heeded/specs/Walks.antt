@@ -49,6 +49,8 @@ pub record StoodAt {S : Type 0} (added : Extra S) (task on key : ℕ) (s t : Sta
   pub leaves : Leaves (is_own added s.extra) s.loop.parts t.loop.parts
   pub waits : (other stood : ℕ) → StandsUnder t.generators other stood → (task ≡ other → ⊥)
       → waiter_of t.loop.parts other ≡ waiter_of s.loop.parts other
+  -- it stood at none
+  pub nowhere : (other : ℕ) → StandsUnder s.generators task other → ⊥
   pub begins : cycle s.loop.parts task on ≡ None → waiter_of t.loop.parts task ≡ Some on
 
 -- ---- how a task goes on
@@ -79,10 +81,10 @@ pub record Walks {S : Type 0} (limit : ℕ) (added : Extra S) (Holds : State S �
   -- a task asks
   pub asks : (task : ℕ) (code : ℤ) (arguments : List Value) (s : State S) → IsAskedBy limit added task code arguments s → AreApart added s
       → Holds s → Called task (added.ask task code arguments s).answer (called (added.ask task code arguments s).call s)
-  -- its task stood at the request, and at none any more
+  -- its task stood at the request, and at none any more, and no other stands under its key
   pub stood : (task key : ℕ) (input : Input) (s t : State S) → StandsUnder s.generators task key → IsResumed s.loop.parts task input
-      → Beside added s t → HasBegun task t.events → ((other : ℕ) → StandsUnder t.generators task other → ⊥) → AreApart added s → Holds s
-      → Woken task key input t
+      → Beside added s t → HasBegun task t.events → ((other : ℕ) → StandsUnder t.generators task other → ⊥)
+      → ((other : ℕ) → StandsUnder t.generators other key → ⊥) → AreApart added s → Holds s → Woken task key input t
   -- what it would wait for is done
   pub done : (task on key : ℕ) (outcome : Outcome) (s : State S) → ended s on ≡ Some outcome → Called task (extra.Waits on key) s
       → Woken task key (input_of outcome) s

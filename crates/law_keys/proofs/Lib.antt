@@ -1,1 +1,3 @@
+mod Datagrams
+mod Jobs
 pub mod Keys

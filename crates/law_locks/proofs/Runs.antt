@@ -106,7 +106,7 @@ module _ {A C D : Type 0} (limit : ℕ) (gather : Extra A) (exec : Extra C) (dgr
   woken_by key input s is = ap (λ part. (part_as gather sync_means exec dgram part).wake key input s) is
 
   -- ---- of all
-  tried : {first last : Told S} → (history : IsHistory limit added first last) → kept_after (tries_of history) first.extra.sync ≡ last.extra.sync
+  pub tried : {first last : Told S} → (history : IsHistory limit added first last) → kept_after (tries_of history) first.extra.sync ≡ last.extra.sync
   tried stays = refl
   tried {first = first} (goes history it may) =
       after-append (tries_of history) (tries_in it) first.extra.sync ∙ ap (kept_after (tries_in it)) (tried history) ∙ call_tried it _ may

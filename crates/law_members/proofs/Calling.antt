@@ -32,6 +32,8 @@ use Rattle.model_gather.specs.Wait.{tag_if_some, wait, wait_all}
 use Rattle.model_gather.specs.WaitFor.{bad_timeout, may_time, wait_for, wait_for_all, wait_for_woken}
 use Rattle.law_cancel.proofs.Lookups.{get-set_kept, get-set_other, get-set_same}
 use Rattle.law_waiters.proofs.Drawing.{length_tells}
+use Rattle.law_members.proofs.Asking.{counted_of, gather_fit, gather_steps, open_of, shield_fit, shield_steps, timed_fit, timed_steps, wait_fit, wait_steps}
+use Rattle.law_members.proofs.Asking.{waiting_of}
 use Rattle.law_members.proofs.Coming.{one_of}
 use Rattle.law_members.proofs.Counted.{Counts, IsIn, counted_down, goes_on, is_told, same_counted, taken_left, the_key}
 use Rattle.law_members.proofs.Drawing.{IsWithin, KeepsCounted, counts_at, counts_in, more_counted, rings_within, settled_makes, settled_within, tells_at}
@@ -41,7 +43,7 @@ use Rattle.law_members.proofs.Entering.{CountsAll, counting_fit, counts_all, in_
 use Rattle.law_members.proofs.Onward.{Onward, makes, steps_coming, steps_stay, taken_onward}
 
 -- a shield by what it shields
-abbrev shielded : Option Outcome → (inner : ℕ) → Parts → Gathered → ExtraSaid Gathered
+abbrev pub shielded : Option Outcome → (inner : ℕ) → Parts → Gathered → ExtraSaid Gathered
 shielded o inner p kept =
     elim o [ Some outcome ↦ at_once (passes (input_of outcome)) kept | None ↦ draws 2 (shield_open inner p kept) kept ]
 
@@ -50,20 +52,20 @@ abbrev pub CallCounted : ExtraCall Gathered → Loop → Type 0
 CallCounted call l = KeepsCounted call.state (made_by_all call.steps l).parts
 
 -- ---- steps that make no handle
-still_onward : (steps : List ExtraStep) (l : Loop) → ((test : Action → Bool) → sum_by (makes test) steps ≡ 0) → Onward l.parts (made_by_all steps l).parts
+pub still_onward : (steps : List ExtraStep) (l : Loop) → ((test : Action → Bool) → sum_by (makes test) steps ≡ 0) → Onward l.parts (made_by_all steps l).parts
 still_onward steps l none = record {
   fewer = λ test of. let a = steps_coming test of steps l in let b = none test in omega (arith, a, b);
   stays = steps_stay steps l;
 }
 
-settled_onward : (o : Option Outcome) (id : ℕ) (l : Loop) → Onward l.parts (made_by_all (settled_as o id) l).parts
+pub settled_onward : (o : Option Outcome) (id : ℕ) (l : Loop) → Onward l.parts (made_by_all (settled_as o id) l).parts
 settled_onward o id l = still_onward (settled_as o id) l (λ test. settled_makes test o id)
 
-revoked_makes : (test : Action → Bool) (o : Option ℕ) → sum_by (makes test) (revoked o) ≡ 0
+pub revoked_makes : (test : Action → Bool) (o : Option ℕ) → sum_by (makes test) (revoked o) ≡ 0
 revoked_makes test None = refl
 revoked_makes test (Some tag) = refl
 
-revoked_onward : (o : Option ℕ) (l : Loop) → Onward l.parts (made_by_all (revoked o) l).parts
+pub revoked_onward : (o : Option ℕ) (l : Loop) → Onward l.parts (made_by_all (revoked o) l).parts
 revoked_onward o l = still_onward (revoked o) l (λ test. revoked_makes test o)
 
 module _ (kept : Gathered) (l : Loop) (c : KeepsCounted kept l.parts) where
@@ -86,124 +88,19 @@ module _ (kept : Gathered) (l : Loop) (c : KeepsCounted kept l.parts) where
   gather_keeps : (as_items : Bool) (awaited : List ℕ) → CallCounted (gather as_items awaited l.parts kept).call l
   gather_keeps as_items [] = once_keeps (Answers (Items no_values))
   gather_keeps as_items (id ∷ ids) =
-      drawn_keeps (1 + length open_) (gather_all as_items (id ∷ ids) members l.parts kept)
-      (subst (λ (tail : List Drawn). KeepsCounted (drawn_after (entry ∷ tail) kept) (made_by_all (MakesMany members ∷ handles ++ settled) l).parts)
+      let awaited : List ℕ = id ∷ ids in
+      let counted = counted_of l.parts as_items awaited in
+      let open_ = open_of l.parts awaited in
+      drawn_keeps (1 + length open_) (gather_all as_items awaited (distinct awaited) l.parts kept)
+      (subst
+      (λ (tail : List Drawn). KeepsCounted (drawn_after (Gathers counted.now ∷ tail) kept) (made_by_all (gather_steps n l.parts as_items awaited) l).parts)
       (no_more (map (Tells n) open_))
-      (more_counted kept l c (entry ∷ map (Tells n) open_ ++ []) (MakesMany members ∷ handles ++ settled)
-      (counting_fit n entry its open_ [] (MakesMany members) settled l refl refl (tail_of n open_ None) tt (λ test. refl) makes_one
-      (settled_within n (n + length (entry ∷ map (Tells n) open_ ++ [])) counted.outcome (next_future l.parts))
-      (λ test same. settled_makes test counted.outcome (next_future l.parts)) size left_is all.outer
-      (λ m among pending. in_filter (is_pending l.parts) m members (in_distinct m (id ∷ ids) (subst (IsIn m) all.awaited among)) pending))))
-    where
-      members : List ℕ
-      members = distinct (id ∷ ids)
-
-      open_ : List ℕ
-      open_ = filter (is_pending l.parts) (distinct (id ∷ ids))
-
-      over : List ℕ
-      over = filter (λ id. not (is_pending l.parts id)) (distinct (id ∷ ids))
-
-      whole : Gathering
-      whole = record { outer = next_future l.parts; awaited = id ∷ ids; as_items = as_items; left = length (distinct (id ∷ ids)) }
-
-      counted : Counting
-      counted = count_all l.parts false over whole
-
-      entry : Drawn
-      entry = Gathers counted.now
-
-      its : Counts
-      its = record { own = counted.now.outer; members = counted.now.awaited; left = counted.now.left }
-
-      handles : List ExtraStep
-      handles = registered_from gather_part (suc n) open_
-
-      settled : List ExtraStep
-      settled = settled_as counted.outcome (next_future l.parts)
-
-      all : CountsAll whole counted.now (length over)
-      all = counts_all l.parts false over whole
-
-      makes_one : next_future (made_by (MakesMany members) l).parts ≡ suc (next_future l.parts)
-      makes_one =
-          let e = length-append l.parts.futures (record { kind = Many members false; outcome = None; callbacks = [] } ∷ []) in
-          omega (arith, e)
-
-      size : n + suc (length open_) ≤ n + length (entry ∷ map (Tells n) open_ ++ [])
-      size =
-          let a = length-append (map (Tells n) open_) [] in
-          let b = length_tells n open_ in
-          omega (arith, a, b)
-
-      left_is : length open_ ≤ its.left
-      left_is =
-          let a = length-filter_both (is_pending l.parts) (λ id. not (is_pending l.parts id)) (λ id. refl) members in
-          let b = all.left in
-          omega (arith, a, b)
+      (more_counted kept l c (Gathers counted.now ∷ map (Tells n) open_ ++ []) (gather_steps n l.parts as_items awaited) (gather_fit n l as_items awaited)))
 
   wait_all_keeps : (mode : WaitMode) (delay : Option ℤ) (arguments : List Argument) → CallCounted (wait_all mode delay arguments l.parts kept).call l
   wait_all_keeps mode delay arguments =
-      more_counted kept l c (Waits it ∷ map (Tells n) members ++ handle_if_some delay n) (MakesPlain ∷ handles ++ timer)
-      (counting_fit n (Waits it) its members (handle_if_some delay n) MakesPlain timer l refl refl (tail_of n members delay) tt (λ test. refl) makes_one
-      (within delay) (none delay) (size delay) (omega arith) refl (λ m among pending. among))
-    where
-      members : List ℕ
-      members = futures_of arguments
-
-      it : Waiting
-      it = record {
-        on = next_future l.parts;
-        arguments = arguments;
-        mode = mode;
-        left = length (futures_of arguments);
-        timer = tag_if_some delay (l.parts.next_tag + length (filter (λ id. not (is_pending l.parts id)) (futures_of arguments)));
-      }
-
-      its : Counts
-      its = record { own = next_future l.parts; members = futures_of arguments; left = length (futures_of arguments) }
-
-      handles : List ExtraStep
-      handles = registered_from gather_part (suc n) members
-
-      ring : ℕ
-      ring = suc n + length members
-
-      timer : List ExtraStep
-      timer = rings_after delay (the_key ring) l.parts
-
-      makes_one : next_future (made_by MakesPlain l).parts ≡ suc (next_future l.parts)
-      makes_one =
-          let e = length-append l.parts.futures (record { kind = Plain; outcome = None; callbacks = [] } ∷ []) in
-          omega (arith, e)
-
-      tail_size : (o : Option ℤ) → length (map (Tells n) members ++ handle_if_some o n) ≡ length members + one_if_some o
-      tail_size None = let a = length-append (map (Tells n) members) [] in let b = length_tells n members in omega (arith, a, b)
-      tail_size (Some delay) = let a = length-append (map (Tells n) members) (Rings n ∷ []) in let b = length_tells n members in omega (arith, a, b)
-
-      size : (o : Option ℤ) → n + suc (length members) ≤ n + length (Waits it ∷ map (Tells n) members ++ handle_if_some o n)
-      size o = let a = tail_size o in omega (arith, a)
-
-      within : (o : Option ℤ) → Each (IsWithin n (n + length (Waits it ∷ map (Tells n) members ++ handle_if_some o n))) (rings_after o (the_key ring) l.parts)
-      within None = tt
-      within (Some delay) =
-          let a = tail_size (Some delay) in
-          rings_within n (n + length (Waits it ∷ map (Tells n) members ++ Rings n ∷ [])) ring (Some delay) l.parts (omega arith) (omega (arith, a))
-
-      last : (ids : List ℕ) → slice_get (map (Tells n) ids ++ Rings n ∷ []) (length ids) ≡ Some (Rings n)
-      last [] = refl
-      last (id ∷ ids) = last ids
-
-      none : (o : Option ℤ) (test : Action → Bool)
-          → ((i : ℕ) → test (action.Extra (the_key (n + i))) ≡ is_told n (tells_in (slice_get (Waits it ∷ map (Tells n) members ++ handle_if_some o n) i)))
-          → sum_by (makes test) (rings_after o (the_key ring) l.parts) ≡ 0
-      none None test same = refl
-      none (Some delay) test same =
-          let z : n + suc (length members) ≡ ring = omega arith in
-          let a = ap (λ k. test (action.Extra (the_key k))) (sym z) ∙ same (suc (length members)) ∙ ap (λ o. is_told n (tells_in o)) (last members) in
-          let b = ap one_of a in
-          let d = sum_by-cons (makes test) (CallsLater (rings_at l.parts.time delay) (the_key ring)) [] in
-          omega (arith, b, d)
+      more_counted kept l c (Waits (waiting_of l.parts mode delay arguments) ∷ map (Tells n) (futures_of arguments) ++ handle_if_some delay n)
+      (wait_steps n l.parts delay arguments) (wait_fit n l mode delay arguments)
 
   wait_keeps : (over : Option WaitMode) (delay : Option ℤ) (arguments : List Argument) → CallCounted (wait over delay arguments l.parts kept).call l
   wait_keeps over delay [] = once_keeps (Raises empty_set)
@@ -215,29 +112,23 @@ module _ (kept : Gathered) (l : Loop) (c : KeepsCounted kept l.parts) where
   shield_keeps : (inner : ℕ) → CallCounted (shield inner l.parts kept).call l
   shield_keeps inner = at (future_outcome l.parts inner)
     where
-      steps : List ExtraStep
-      steps = MakesPlain ∷ registered_from gather_part (suc n) (inner ∷ [])
-
       open_keeps : CallCounted (shield_open inner l.parts kept).call l
       open_keeps =
-          more_counted kept l c (Shields (next_future l.parts) ∷ Tells n inner ∷ []) steps
-          (plain_fit n (Shields (next_future l.parts)) (Tells n inner ∷ []) steps l refl refl (tail_alone n (inner ∷ []))
-          (tt, registered_within n (n + 2) (suc n) (inner ∷ []) (omega arith) (omega arith)))
+          more_counted kept l c (Shields (next_future l.parts) ∷ Tells n inner ∷ []) (shield_steps n inner) (shield_fit n inner l)
 
       at : (o : Option Outcome) → CallCounted (shielded o inner l.parts kept).call l
       at (Some outcome) = once_keeps (passes (input_of outcome))
       at None = drawn_keeps 2 (shield_open inner l.parts kept) open_keeps
 
   wait_for_all_keeps : (task id : ℕ) (delay : Option ℤ) → CallCounted (wait_for_all task id delay l.parts kept).call l
-  wait_for_all_keeps task id None =
-      let it : TimedWait = record { task = task; stored = cancelling l.parts task; timer = None; state = Timed } in
-      more_counted kept l c (WaitsFor it ∷ []) [] (plain_fit n (WaitsFor it) [] [] l refl refl (tail_alone n []) tt)
-  wait_for_all_keeps task id (Some delay) =
-      let it : TimedWait = record { task = task; stored = cancelling l.parts task; timer = Some l.parts.next_tag; state = Timed } in
-      let steps = rings_after (Some delay) (key_at gather_part (suc n)) l.parts in
-      more_counted kept l c (WaitsFor it ∷ Rings n ∷ []) steps
-      (plain_fit n (WaitsFor it) (Rings n ∷ []) steps l refl refl (tail_of n [] (Some delay))
-      (rings_within n (n + 2) (suc n) (Some delay) l.parts (omega arith) (omega arith)))
+  wait_for_all_keeps task id delay =
+      let it : TimedWait = record {
+        task = task;
+        stored = cancelling l.parts task;
+        timer = tag_if_some delay l.parts.next_tag;
+        state = Timed;
+      } in
+      more_counted kept l c (WaitsFor it ∷ handle_if_some delay n) (timed_steps n l.parts delay) (timed_fit n it delay l)
 
   wait_for_keeps : (task id : ℕ) (delay : Option ℤ) → CallCounted (wait_for task id delay l.parts kept).call l
   wait_for_keeps task id delay = at (may_time delay)
@@ -327,7 +218,7 @@ module _ (kept : Gathered) (l : Loop) (c : KeepsCounted kept l.parts) (handle : 
       (λ k. get-set_kept tells_in kept.drawn place k old new found tells_same) (length-set kept.drawn place new))
       (made_by_all (settled_as o id) now).parts (settled_onward o id now)
 
-  told_keeps : (place future : ℕ) → tells_at kept j ≡ Some (place, future) → (o : Option Drawn) → slice_get kept.drawn place ≡ o
+  pub told_keeps : (place future : ℕ) → tells_at kept j ≡ Some (place, future) → (o : Option Drawn) → slice_get kept.drawn place ≡ o
       → CallCounted (told o place future (record l.parts { pending = rest }) kept) (record l { parts = record l.parts { pending = rest } })
   told_keeps place future tells (Some (Gathers it)) e =
       let counted = count now.parts (was_asked now.parts it.outer) future it in

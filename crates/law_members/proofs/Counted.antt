@@ -97,7 +97,7 @@ pub record Counted (counts : ℕ → Option Counts) (tells : ℕ → Option (ℕ
       → IsRegistered tells k m p
 
 -- ---- so none is left only where all are done
-pending_found : (p : Parts) (m : ℕ) (o : Option Future) → slice_get p.futures m ≡ o → is_pending_at o ≡ true
+pub pending_found : (p : Parts) (m : ℕ) (o : Option Future) → slice_get p.futures m ≡ o → is_pending_at o ≡ true
     → (future : Future) × (slice_get p.futures m ≡ Some future)
 pending_found p m None e is = absurd (false≢true is)
 pending_found p m (Some future) e is = (future, e)

@@ -1,10 +1,10 @@
 -- Keys are drawn: the handles of a request tell it alone, and so many are registered at most as it counts members.
-use Rattle.std.proofs.Common.{◌≡◌, ◌<◌, ◌≤◌, ◌+◌, ◌-◌, ◌==◌, inl, inr, ℕ, ℤ, suc, Bool, true, false, List, [], ◌∷◌, ◌++◌, Option, Some, None}
+use Rattle.std.proofs.Common.{◌≡◌, ◌<◌, ◌≤◌, ◌+◌, ◌-◌, ◌==◌, inl, inr, ℕ, ℤ, zero, suc, Bool, true, false, List, [], ◌∷◌, ◌++◌, Option, Some, None}
 use Rattle.std.proofs.Common.{length, length-append, slice_get, refl, sym, ap, subst, ◌∙◌, arith}
 use Rattle.std.specs.List.{AllByRecursion as Each, count_by, sum_by}
 use Rattle.std.proofs.lemmas.Bool.{eq-eqb, false≢true, lt-leb, ne_eqb}
 use Rattle.std.proofs.lemmas.List.Sums.{sum_by-cons, sum_by_push}
-use Rattle.std.proofs.lemmas.Option.{slice_get_past}
+use Rattle.std.proofs.lemmas.Option.{none-some, same_Some, slice_get_past}
 use Rattle.model_value.specs.Action.{Action}
 use Rattle.model_value.specs.declared.action.Action.TheVariants as action
 use Rattle.model_value.specs.Value.{Outcome}
@@ -144,40 +144,43 @@ register_there id key p = at (slice_get p.futures id) refl
 abbrev pub IsOn : (place : ℕ) (ids : List ℕ) (m : ℕ) → Parts → Type 0
 IsOn place ids m p = (i : ℕ) × ((slice_get ids i ≡ Some m) × (0 < count_by (is_key (the_key (place + i))) (callbacks_of p m)))
 
-pub registered_on_each : (more : List ExtraStep) (place : ℕ) (ids : List ℕ) (l : Loop) (m : ℕ) → IsIn m ids → m < next_future l.parts
-    → is_pending (made_by_all (registered_from gather_part place ids ++ more) l).parts m ≡ true
-    → IsOn place ids m (made_by_all (registered_from gather_part place ids ++ more) l).parts
-registered_on_each more place [] l m among low pending = absurd among
-registered_on_each more place (id ∷ ids) l m (inl e) low pending =
+-- whichever place that is
+pub registered_at_place : (more : List ExtraStep) (place : ℕ) (ids : List ℕ) (l : Loop) (i m : ℕ) → slice_get ids i ≡ Some m
+    → m < next_future l.parts → is_pending (made_by_all (registered_from gather_part place ids ++ more) l).parts m ≡ true
+    → 0 < count_by (is_key (the_key (place + i))) (callbacks_of (made_by_all (registered_from gather_part place ids ++ more) l).parts m)
+registered_at_place more place [] l i m e low pending = absurd (none-some m e)
+registered_at_place more place (id ∷ ids) l zero m e low pending =
     let step = Registers id (key_at gather_part place) in
     let rest = registered_from gather_part (suc place) ids ++ more in
     let first = made_by step l in
-    let stays = steps_stay rest first in
     let made = (step_stays step l).made in
-    let was = stays.pending m (omega (arith, low, made)) pending in
-    let on = register_there id (the_key place) l.parts (ap (is_pending first.parts) e ∙ was.0) in
+    let same = same_Some id m e in
+    let was = (steps_stay rest first).pending m (omega (arith, low, made)) pending in
+    let on = register_there id (the_key place) l.parts (ap (is_pending first.parts) same ∙ was.0) in
     let a = was.1 (is_key (the_key place)) in
-    let b = ap (λ n. count_by (is_key (the_key place)) (callbacks_of first.parts n)) e in
-    let z : place ≡ place + 0 = omega arith in (
-      0,
-      (
-        ap Some e,
-        subst (λ n. 0 < count_by (is_key (the_key n)) (callbacks_of (made_by_all rest first).parts m)) z (omega (arith, on, a, b)),
-      ),
-    )
-registered_on_each more place (id ∷ ids) l m (inr h) low pending =
+    let b = ap (λ n. count_by (is_key (the_key place)) (callbacks_of first.parts n)) same in
+    let z : place ≡ place + 0 = omega arith in
+    subst (λ n. 0 < count_by (is_key (the_key n)) (callbacks_of (made_by_all rest first).parts m)) z (omega (arith, on, a, b))
+registered_at_place more place (id ∷ ids) l (suc i) m e low pending =
     let step = Registers id (key_at gather_part place) in
     let first = made_by step l in
     let made = (step_stays step l).made in
-    let it = registered_on_each more (suc place) ids first m h (omega (arith, low, made)) pending in
-    let z : suc place + it.0 ≡ place + suc it.0 = omega arith in (
-      suc it.0,
-      (
-        it.1.0,
-        subst (λ n. 0 < count_by (is_key (the_key n))
-            (callbacks_of (made_by_all (registered_from gather_part (suc place) ids ++ more) first).parts m)) z it.1.1,
-      ),
-    )
+    let it = registered_at_place more (suc place) ids first i m e (omega (arith, low, made)) pending in
+    let z : suc place + i ≡ place + suc i = omega arith in
+    subst (λ n. 0 < count_by (is_key (the_key n))
+    (callbacks_of (made_by_all (registered_from gather_part (suc place) ids ++ more) first).parts m)) z it
+
+pub place_of_in : (m : ℕ) (ids : List ℕ) → IsIn m ids → (i : ℕ) × (slice_get ids i ≡ Some m)
+place_of_in m [] h = absurd h
+place_of_in m (id ∷ ids) (inl e) = (0, ap Some e)
+place_of_in m (id ∷ ids) (inr h) = let it = place_of_in m ids h in (suc it.0, it.1)
+
+pub registered_on_each : (more : List ExtraStep) (place : ℕ) (ids : List ℕ) (l : Loop) (m : ℕ) → IsIn m ids → m < next_future l.parts
+    → is_pending (made_by_all (registered_from gather_part place ids ++ more) l).parts m ≡ true
+    → IsOn place ids m (made_by_all (registered_from gather_part place ids ++ more) l).parts
+registered_on_each more place ids l m among low pending =
+    let at = place_of_in m ids among in
+    (at.0, (at.1, registered_at_place more place ids l at.0 m at.1 low pending))
 
 -- ---- entries for keys that are drawn together, and the steps that make their handles
 pub record MoreFit (n : ℕ) (more : List Drawn) (steps : List ExtraStep) (l : Loop) : Type 0 where

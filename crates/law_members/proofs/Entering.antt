@@ -46,13 +46,14 @@ in_distinct m (id ∷ ids) (inr h) = at (cases_eq m id) (in_distinct m ids h)
 pub record CountsAll (it now : Gathering) (counted : ℕ) : Type 0 where
   pub outer : now.outer ≡ it.outer
   pub awaited : now.awaited ≡ it.awaited
+  pub as_items : now.as_items ≡ it.as_items
   pub left : now.left ≡ it.left - counted
 
 pub counts_all : (p : Parts) (asked : Bool) (members : List ℕ) (it : Gathering) → CountsAll it (count_all p asked members it).now (length members)
-counts_all p asked [] it = record { outer = refl; awaited = refl; left = omega arith }
+counts_all p asked [] it = record { outer = refl; awaited = refl; as_items = refl; left = omega arith }
 counts_all p asked (member ∷ members) it =
     let ih = counts_all p asked members (count p asked member it).now in
-    record { outer = ih.outer; awaited = ih.awaited; left = let a = ih.left in omega (arith, a) }
+    record { outer = ih.outer; awaited = ih.awaited; as_items = ih.as_items; left = let a = ih.left in omega (arith, a) }
 
 -- ---- handles that tell of futures, one each
 tells_one : (n : ℕ) (ids : List ℕ) (i m : ℕ) → slice_get ids i ≡ Some m → tells_in (slice_get (map (Tells n) ids) i) ≡ Some (n, m)
@@ -60,7 +61,7 @@ tells_one n [] i m e = absurd (none-some m e)
 tells_one n (id ∷ ids) zero m e = ap (λ (k : ℕ). Some (n, k)) (same_Some id m e)
 tells_one n (id ∷ ids) (suc i) m e = tells_one n ids i m e
 
-tells_with : (n : ℕ) (ids : List ℕ) (tail : List Drawn) (i m : ℕ) → slice_get ids i ≡ Some m
+pub tells_with : (n : ℕ) (ids : List ℕ) (tail : List Drawn) (i m : ℕ) → slice_get ids i ≡ Some m
     → tells_in (slice_get (map (Tells n) ids ++ tail) i) ≡ Some (n, m)
 tells_with n [] tail i m e = absurd (none-some m e)
 tells_with n (id ∷ ids) tail zero m e = ap (λ (k : ℕ). Some (n, k)) (same_Some id m e)

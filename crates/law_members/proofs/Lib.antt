@@ -3,5 +3,6 @@ pub mod Onward
 pub mod Counted
 pub mod Drawing
 pub mod Entering
+pub mod Asking
 pub mod Calling
 pub mod Walking

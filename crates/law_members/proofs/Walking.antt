@@ -144,7 +144,7 @@ module _ {B C D : Type 0} (sync : Extra B) (exec : Extra C) (dgram : Extra D) (o
 
 -- ---- so none is left only where all are done
 module _ (kept : Gathered) (p : Parts) (c : KeepsCounted kept p) where
-  outcome_there : (id : ℕ) → id < next_future p → is_pending p id ≡ false → IsDone p id
+  pub outcome_there : (id : ℕ) → id < next_future p → is_pending p id ≡ false → IsDone p id
   outcome_there id low none = at p.futures id low none
     where
       by : (o : Option Outcome) → is_none o ≡ false → (outcome : Outcome) × (o ≡ Some outcome)
@@ -172,7 +172,7 @@ module _ (kept : Gathered) (p : Parts) (c : KeepsCounted kept p) where
             rest,
           )
 
-  found_under : (key : ℕ) (entry : Drawn) → entry_under kept key ≡ Some entry → slice_get kept.drawn (place_of gather_part key) ≡ Some entry
+  pub found_under : (key : ℕ) (entry : Drawn) → entry_under kept key ≡ Some entry → slice_get kept.drawn (place_of gather_part key) ≡ Some entry
   found_under key entry e = at (was_drawn gather_part (length kept.drawn) key) e
     where
       at : (b : Bool) → cond b (slice_get kept.drawn (place_of gather_part key)) None ≡ Some entry

@@ -12,13 +12,14 @@ use Rattle.model_value.specs.Value.{Outcome}
 use Rattle.model_loop.proofs.FutureCases.{registered, registered_on, settled, settled_as as settled_by}
 use Rattle.model_loop.specs.Futures.{future_outcome, next_future, outcome_at, register, settle, with_future}
 use Rattle.model_loop.specs.Loop.{Loop}
-use Rattle.model_loop.specs.Parts.{Future, Many, Parts, Plain}
+use Rattle.model_loop.specs.Parts.{Future, Many, Parts, Plain, Task}
 use Rattle.model_machine.specs.Extra.{CallsLater, CallsSoon, Cancels, ExtraStep, MakesMany, MakesPlain, Registers, Releases, Revokes, Settles, Uncancels}
 use Rattle.model_machine.specs.Extra.{made_by, made_by_all}
 use Rattle.model_gather.specs.Gathered.{gather_part, registered_from, settled_as}
 use Rattle.model_gather.specs.Wait.{revoked, rings_after}
 use Rattle.law_apart.proofs.Parts.{settle_others}
-use Rattle.law_cancel.proofs.Effects.{done_as, soon_all-futures}
+use Rattle.model_loop.specs.Tasks.{must_still_cancel}
+use Rattle.law_cancel.proofs.Effects.{change_task-futures, done_as, soon_all-futures}
 use Rattle.law_cancel.proofs.Lookups.{get-push_other, get-set_kept, get-set_same}
 use Rattle.law_waiters.specs.Timed.{is_key}
 use Rattle.law_members.proofs.Coming.{one_of}
@@ -149,7 +150,6 @@ register_outcome id it p on = at (slice_get p.futures id) refl
 abbrev pub SettlesAt : ℕ → ExtraStep → Type 0
 SettlesAt on (Settles future outcome) = future ≡ on
 SettlesAt on (Cancels key future) = ⊥
-SettlesAt on (Uncancels key task) = ⊥
 SettlesAt on _ = Unit {0}
 
 step_others : (id : ℕ) (step : ExtraStep) (l : Loop) → SettlesAt id step → (on : ℕ) → (id ≡ on → ⊥) → on < next_future l.parts
@@ -166,7 +166,9 @@ step_others id (CallsSoon key) l at on n low = refl
 step_others id (CallsLater when key) l at on n low = refl
 step_others id (Revokes tag) l at on n low = refl
 step_others id (Cancels key future) l at on n low = absurd at
-step_others id (Uncancels key task) l at on n low = absurd at
+step_others id (Uncancels key task) l at on n low =
+    ap (λ (fs : List Future). outcome_at (slice_get fs on))
+    (change_task-futures task (λ (it : Task). record it { cancels = it.cancels - 1; must_cancel = must_still_cancel l.profile it }) l.parts)
 
 pub steps_others : (id : ℕ) (steps : List ExtraStep) (l : Loop) → Each (SettlesAt id) steps → (on : ℕ) → (id ≡ on → ⊥) → on < next_future l.parts
     → future_outcome (made_by_all steps l).parts on ≡ future_outcome l.parts on

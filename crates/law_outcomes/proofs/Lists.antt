@@ -1,5 +1,5 @@
 -- Numbers in a list: whether one is in it, and the list without one.
-use Rattle.std.proofs.Common.{◌≡◌, ◌+◌, ◌-◌, ◌==◌, ◌⊎◌, inl, inr, ℕ, zero, suc, Bool, true, false, List, [], ◌∷◌, Some, if◌then◌else◌, length, slice_get, refl, sym, ap, subst, ◌∙◌, arith}
+use Rattle.std.proofs.Common.{◌≡◌, ◌+◌, ◌-◌, ◌==◌, ◌⊎◌, inl, inr, ℕ, zero, suc, Bool, true, false, List, [], ◌∷◌, Some, if◌then◌else◌, length, slice_get, slice_set, refl, sym, ap, subst, ◌∙◌, arith}
 use Rattle.std.specs.List.{AllByRecursion as Each}
 use Rattle.std.proofs.lemmas.Bool.{cases_eq, eq-eqb, eqb-true, ne_eqb}
 use Rattle.std.proofs.lemmas.Option.{none-some, same_Some}
@@ -27,6 +27,12 @@ in_or_not id (x ∷ ids) = at (cases_eq x id) (in_or_not id ids)
         neither : IsIn id (x ∷ ids) → ⊥
         neither (inl e) = n e
         neither (inr h) = none h
+
+-- what is there is written once more
+pub set_there : {A : Type 0} (xs : List A) (place : ℕ) (x : A) → slice_get xs place ≡ Some x → slice_set xs place x ≡ xs
+set_there [] place x e = refl
+set_there (y ∷ xs) zero x e = ap (λ z. z ∷ xs) (sym (same_Some y x e))
+set_there (y ∷ xs) (suc place) x e = ap (λ ys. y ∷ ys) (set_there xs place x e)
 
 -- ---- without one, where it comes first
 abbrev pub without : ℕ → List ℕ → List ℕ

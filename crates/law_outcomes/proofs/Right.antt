@@ -37,20 +37,27 @@ pub record Uncounted (at : ℕ → Option Drawn) (p : Parts) (k : ℕ) (it : Gat
   pub counted : (j m : ℕ) → tells_in (at j) ≡ Some (k, m) → (IsIn j places → ⊥) → (coming (is_key (the_key j)) p ≡ 0) × HasGoneOn p it m
   pub all : (m : ℕ) → IsIn m it.awaited → ((j : ℕ) × (tells_in (at j) ≡ Some (k, m))) ⊎ HasGoneOn p it m
 
+-- each was made before this one, as in every sound state
+abbrev pub AreBefore : (own : ℕ) → List ℕ → Type 0
+AreBefore own ids = (m : ℕ) → IsIn m ids → m < own
+
 abbrev pub EntryCame : (at : ℕ → Option Drawn) → Parts → ℕ → Option Drawn → Type 0
-EntryCame at p k (Some (Gathers it)) = GatherCame p it (future_outcome p it.outer) × (future_outcome p it.outer ≡ None → Uncounted at p k it)
-EntryCame at p k (Some (Waits it)) = WaitCame at p k it (future_outcome p it.on)
+EntryCame at p k (Some (Gathers it)) =
+    AreBefore it.outer it.awaited → GatherCame p it (future_outcome p it.outer) × (future_outcome p it.outer ≡ None → Uncounted at p k it)
+EntryCame at p k (Some (Waits it)) = AreBefore it.on (futures_of it.arguments) → WaitCame at p k it (future_outcome p it.on)
 EntryCame at p k (Some (Shields on)) = (j inner : ℕ) → tells_in (at j) ≡ Some (k, inner) → ShieldCame p inner (future_outcome p on)
 EntryCame at p k _ = Unit {0}
 
--- `at` gives what each key was drawn for; so many were drawn.
-pub record Right (at : ℕ → Option Drawn) (n : ℕ) (p : Parts) : Type 0 where
+-- `at` gives what each key was drawn for.
+pub record Right (at : ℕ → Option Drawn) (p : Parts) : Type 0 where
   pub single : (j : ℕ) → coming (is_key (the_key j)) p ≤ 1
   pub made : (k on : ℕ) → own_in (at k) ≡ Some on → on < next_future p
   pub rising : (k l on other : ℕ) → own_in (at k) ≡ Some on → own_in (at l) ≡ Some other → k < l → on < other
-  pub before : (k : ℕ) (it : Counts) → counts_in (at k) ≡ Some it → (m : ℕ) → IsIn m it.members → m < it.own
+  pub most : (k : ℕ) (it : Counts) → counts_in (at k) ≡ Some it → (m : ℕ) → IsIn m it.members → m ≤ it.own
   pub telling : (j k m : ℕ) → tells_in (at j) ≡ Some (k, m) → (it : Counts) → counts_in (at k) ≡ Some it → IsIn m it.members
   pub told : (j k m : ℕ) → tells_in (at j) ≡ Some (k, m) → m < next_future p
+  -- the handle of a shield stands right behind it
+  pub behind : (k on j m : ℕ) → at k ≡ Some (Shields on) → tells_in (at j) ≡ Some (k, m) → j ≡ suc k
   pub registered : (j k m : ℕ) → tells_in (at j) ≡ Some (k, m) → is_pending p m ≡ true → 0 < count_by (is_key (the_key j)) (callbacks_of p m)
   pub came : (k : ℕ) → EntryCame at p k (at k)
 
@@ -65,7 +72,7 @@ pub each_gone : (p q : Parts) → DoneStays p q → (it : Gathering) (ids : List
 each_gone p q stays it [] all = tt
 each_gone p q stays it (id ∷ ids) all = (gone_on p q stays it id all.0, each_gone p q stays it ids all.1)
 
-each_done : (p q : Parts) → DoneStays p q → (ids : List ℕ) → Each (IsDone p) ids → Each (IsDone q) ids
+pub each_done : (p q : Parts) → DoneStays p q → (ids : List ℕ) → Each (IsDone p) ids → Each (IsDone q) ids
 each_done p q stays [] all = tt
 each_done p q stays (id ∷ ids) all = ((all.0.0, stays id all.0.0 all.0.1), each_done p q stays ids all.1)
 
@@ -92,14 +99,24 @@ pub record SameFor (at at' : ℕ → Option Drawn) (k : ℕ) : Type 0 where
 pub same_for : (at : ℕ → Option Drawn) (k : ℕ) → SameFor at at k
 same_for at k = record { to = λ j m e. e; from = λ j m e. e; rings = λ j e. e }
 
-module _ (at at' : ℕ → Option Drawn) (p q : Parts) (onward : Onward p q) (k : ℕ) (same : SameFor at at' k) where
+-- no handle of a key that was drawn comes to be
+abbrev pub NoMore : (at : ℕ → Option Drawn) → Parts → Parts → Type 0
+NoMore at p q = (j : ℕ) → (at j ≡ None → ⊥) → coming (is_key (the_key j)) q ≤ coming (is_key (the_key j)) p
+
+drawn_told : (at : ℕ → Option Drawn) (j : ℕ) (it : ℕ × ℕ) → tells_in (at j) ≡ Some it → at j ≡ None → ⊥
+drawn_told at j it e none = none-some it (sym (ap tells_in none) ∙ e)
+
+drawn_ring : (at : ℕ → Option Drawn) (j k : ℕ) → at j ≡ Some (Rings k) → at j ≡ None → ⊥
+drawn_ring at j k e none = none-some (Rings k) (sym none ∙ e)
+
+module _ (at at' : ℕ → Option Drawn) (p q : Parts) (stays : DoneStays p q) (fewer : NoMore at p q) (k : ℕ) (same : SameFor at at' k) where
   over_on : (it : Waiting) → WaitIsOver at p k it → WaitIsOver at' q k it
-  over_on it (came.all_are_done all) = came.all_are_done (each_done p q onward.stays.done (futures_of it.arguments) all)
-  over_on it (came.one_is_done m among first done) = came.one_is_done m among first (done.0, onward.stays.done m done.0 done.1)
-  over_on it (came.one_has_failed m outcome among first is failed) = came.one_has_failed m outcome among first (onward.stays.done m outcome is) failed
+  over_on it (came.all_are_done all) = came.all_are_done (each_done p q stays (futures_of it.arguments) all)
+  over_on it (came.one_is_done m among first done) = came.one_is_done m among first (done.0, stays m done.0 done.1)
+  over_on it (came.one_has_failed m outcome among first is failed) = came.one_has_failed m outcome among first (stays m outcome is) failed
   over_on it (came.time_is_over timer e none) =
       came.time_is_over timer (same.rings timer e)
-      (let a = onward.fewer (is_key (the_key timer)) (key_is_of timer) in omega (arith, a, none))
+      (let a = fewer timer (drawn_ring at timer k e) in omega (arith, a, none))
 
   wait_on : (it : Waiting) (o : Option Outcome) → WaitCame at p k it o → WaitCame at' q k it o
   wait_on it _ came.still_waits = came.still_waits
@@ -112,31 +129,31 @@ module _ (at at' : ℕ → Option Drawn) (p q : Parts) (onward : Onward p q) (k 
     few = u.few;
     counted = λ j m e out.
         let was = u.counted j m (same.from j m e) out in
-        let a = onward.fewer (is_key (the_key j)) (key_is_of j) in
+        let a = fewer j (drawn_told at j (k, m) (same.from j m e)) in
         let b = was.0 in
-        (omega (arith, a, b), gone_on p q onward.stays.done it m was.1);
+        (omega (arith, a, b), gone_on p q stays it m was.1);
     all = λ m among. by m (u.all m among);
   }
     where
       by : (m : ℕ) → ((j : ℕ) × (tells_in (at j) ≡ Some (k, m))) ⊎ HasGoneOn p it m → ((j : ℕ) × (tells_in (at' j) ≡ Some (k, m))) ⊎ HasGoneOn q it m
       by m (inl handle) = inl (handle.0, same.to handle.0 m handle.1)
-      by m (inr gone) = inr (gone_on p q onward.stays.done it m gone)
+      by m (inr gone) = inr (gone_on p q stays it m gone)
 
   -- its own future stays, or is cancelled
   gathers_on : (it : Gathering) → StaysOrIsCancelled p q it.outer → EntryCame at p k (Some (Gathers it)) → EntryCame at' q k (Some (Gathers it))
-  gathers_on it (inl still) here = (
-    subst (GatherCame q it) (sym still) (gather_on p q onward.stays.done it (future_outcome p it.outer) here.0),
-    λ none. uncounted_on it (here.1 (sym still ∙ none)),
+  gathers_on it (inl still) here before = (
+    subst (GatherCame q it) (sym still) (gather_on p q stays it (future_outcome p it.outer) (here before).0),
+    λ none. uncounted_on it ((here before).1 (sym still ∙ none)),
   )
-  gathers_on it (inr gone) here = (subst (GatherCame q it) (sym gone.1) came.is_cancelled, λ none. absurd (none-some Cancelled (sym none ∙ gone.1)))
+  gathers_on it (inr gone) here before = (subst (GatherCame q it) (sym gone.1) came.is_cancelled, λ none. absurd (none-some Cancelled (sym none ∙ gone.1)))
 
   waits_on : (it : Waiting) → StaysOrIsCancelled p q it.on → EntryCame at p k (Some (Waits it)) → EntryCame at' q k (Some (Waits it))
-  waits_on it (inl still) here = subst (WaitCame at' q k it) (sym still) (wait_on it (future_outcome p it.on) here)
-  waits_on it (inr gone) here = subst (WaitCame at' q k it) (sym gone.1) came.is_cancelled
+  waits_on it (inl still) here before = subst (WaitCame at' q k it) (sym still) (wait_on it (future_outcome p it.on) (here before))
+  waits_on it (inr gone) here before = subst (WaitCame at' q k it) (sym gone.1) came.is_cancelled
 
   shield_on : (inner : ℕ) (o : Option Outcome) → ShieldCame p inner o → ShieldCame q inner o
   shield_on inner _ came.still_waits = came.still_waits
-  shield_on inner _ (came.passes outcome is) = came.passes outcome (onward.stays.done inner outcome is)
+  shield_on inner _ (came.passes outcome is) = came.passes outcome (stays inner outcome is)
   shield_on inner _ came.is_cancelled = came.is_cancelled
 
   shields_on : (on : ℕ) → StaysOrIsCancelled p q on → EntryCame at p k (Some (Shields on)) → EntryCame at' q k (Some (Shields on))
@@ -165,28 +182,33 @@ plain_came at p k (Some (Tells place future)) none = tt
 plain_came at p k (Some (Rings place)) none = tt
 plain_came at p k None none = tt
 
-module _ {at : ℕ → Option Drawn} {n : ℕ} {p : Parts} (r : Right at n p) where
+pub no_more : (at : ℕ → Option Drawn) (p q : Parts) → Onward p q → NoMore at p q
+no_more at p q onward j drawn = onward.fewer (is_key (the_key j)) (key_is_of j)
+
+module _ {at : ℕ → Option Drawn} {p : Parts} (r : Right at p) where
   -- ---- the loop goes on
-  pub goes_right : (q : Parts) → Onward p q → ((k on : ℕ) → own_in (at k) ≡ Some on → StaysOrIsCancelled p q on) → Right at n q
+  pub goes_right : (q : Parts) → Onward p q → ((k on : ℕ) → own_in (at k) ≡ Some on → StaysOrIsCancelled p q on) → Right at q
   goes_right q onward leaves = record {
     single = λ j. let a = r.single j in let b = onward.fewer (is_key (the_key j)) (key_is_of j) in omega (arith, a, b);
     made = λ k on e. let a = r.made k on e in let b = onward.stays.made in omega (arith, a, b);
     rising = r.rising;
-    before = r.before;
+    most = r.most;
     telling = r.telling;
     told = λ j k m e. let a = r.told j k m e in let b = onward.stays.made in omega (arith, a, b);
+    behind = r.behind;
     registered = λ j k m e pending.
         let was = onward.stays.pending m (r.told j k m e) pending in
         let a = r.registered j k m e was.0 in
         let b = was.1 (is_key (the_key j)) in
         omega (arith, a, b);
-    came = λ k. entry_on at at p q onward k (same_for at k) (at k) (leaves k) (r.came k);
+    came = λ k. entry_on at at p q onward.stays.done (no_more at p q onward) k (same_for at k) (at k) (leaves k) (r.came k);
   }
 
   -- ---- one entry is replaced, and the future of its request may get an outcome
   module _ (at' : ℕ → Option Drawn) (k : ℕ) (q : Parts) (onward : Onward p q) (others : (l : ℕ) → (k ≡ l → ⊥) → at' l ≡ at l)
       (own_same : own_in (at' k) ≡ own_in (at k)) (tells_same : tells_in (at' k) ≡ tells_in (at k))
       (rings_same : (l : ℕ) → at k ≡ Some (Rings l) → at' k ≡ Some (Rings l))
+      (shields_same : (on : ℕ) → at' k ≡ Some (Shields on) → at k ≡ Some (Shields on))
       (counts_same : (it : Counts) → counts_in (at' k) ≡ Some it
       → (was : Counts) × ((counts_in (at k) ≡ Some was) × ((was.own ≡ it.own) × (was.members ≡ it.members))))
       (leaves : (l on : ℕ) → (k ≡ l → ⊥) → own_in (at l) ≡ Some on → StaysOrIsCancelled p q on) (here : EntryCame at' q k (at' k)) where
@@ -219,26 +241,32 @@ module _ {at : ℕ → Option Drawn} {n : ℕ} {p : Parts} (r : Right at n p) wh
     entry_now l (inl e) = subst (λ i. EntryCame at' q i (at' i)) e here
     entry_now l (inr d) =
         subst (EntryCame at' q l) (sym (others l d))
-        (entry_on at at' p q onward l (record {
+        (entry_on at at' p q onward.stays.done (no_more at p q onward) l (record {
           to = λ j m e. tells_is j ∙ e;
           from = λ j m e. sym (tells_is j) ∙ e;
           rings = λ j e. rings_is l j (cases_eq k j) e;
         }) (at l) (λ on e. leaves l on d e) (r.came l))
 
-    pub replaced_right : Right at' n q
+    shield_was : (l on : ℕ) → (k ≡ l) ⊎ (k ≡ l → ⊥) → at' l ≡ Some (Shields on) → at l ≡ Some (Shields on)
+    shield_was l on (inl e) is =
+        subst (λ i. at i ≡ Some (Shields on)) e (shields_same on (subst (λ i. at' i ≡ Some (Shields on)) (sym e) is))
+    shield_was l on (inr d) is = sym (others l d) ∙ is
+
+    pub replaced_right : Right at' q
     replaced_right = record {
       single = λ j. let a = r.single j in let b = onward.fewer (is_key (the_key j)) (key_is_of j) in omega (arith, a, b);
       made = λ l on e. let a = r.made l on (sym (own_is l) ∙ e) in let b = onward.stays.made in omega (arith, a, b);
       rising = λ l i on other e f h. r.rising l i on other (sym (own_is l) ∙ e) (sym (own_is i) ∙ f) h;
-      before = λ l it e m among.
+      most = λ l it e m among.
           let w = counts_was l (cases_eq k l) it e in
-          let a = r.before l w.0 w.1.0 m (subst (IsIn m) (sym w.1.1.1) among) in
+          let a = r.most l w.0 w.1.0 m (subst (IsIn m) (sym w.1.1.1) among) in
           let b = w.1.1.0 in
           omega (arith, a, b);
       telling = λ j l m e it f.
           let w = counts_was l (cases_eq k l) it f in
           subst (IsIn m) w.1.1.1 (r.telling j l m (sym (tells_is j) ∙ e) w.0 w.1.0);
       told = λ j l m e. let a = r.told j l m (sym (tells_is j) ∙ e) in let b = onward.stays.made in omega (arith, a, b);
+      behind = λ l on j m e f. r.behind l on j m (shield_was l on (cases_eq k l) e) (sym (tells_is j) ∙ f);
       registered = λ j l m e pending.
           let was = onward.stays.pending m (r.told j l m (sym (tells_is j) ∙ e)) pending in
           let a = r.registered j l m (sym (tells_is j) ∙ e) was.0 in

@@ -6,7 +6,9 @@ mod MustCancelStays
 mod TakingBack
 mod Apart
 mod OwnStep
+mod OwnWalk
 mod OwnRequests
+mod GroupsEntered
 mod ToldStays
 mod Turning
 mod Later

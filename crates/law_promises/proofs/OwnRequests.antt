@@ -1,418 +1,75 @@
--- How each request of a task, and what it stood at, goes on within its own step, and the rest of that step.
-use Rattle.std.proofs.Common.{◌≡◌, ℕ, zero, suc, ◌&&◌, ℤ, pos, negsuc, Bool, true, false, List, [], ◌∷◌, ◌++◌, Option, Some, None, Ok, Err, refl}
-use Rattle.std.proofs.Common.{nat_lt}
-use Rattle.std.proofs.lemmas.Bool.{false≢true}
-use Rattle.model_value.specs.declared.input.Input.TheVariants.{Send, Throw}
-use Rattle.model_value.specs.declared.request.Request.TheVariants as request
+-- How must_cancel of a task goes on within its own step, by each of its requests and the whole rest of it.
+use Rattle.std.proofs.Common.{◌≡◌, ℕ, true, List, None, refl, ap, slice_get}
+use Rattle.std.specs.Option.{option_map_or}
 use Rattle.model_value.specs.Input.{Input}
 use Rattle.model_value.specs.Request.{Request}
-use Rattle.model_value.specs.Value.{Value, Nothing, Exc, Outcome}
-use Rattle.model_says.specs.Endings as says
-use Rattle.model_wire.specs.declared.call.Call.TheVariants as call
-use Rattle.model_wire.specs.declared.event.Event.TheVariants as event
-use Rattle.model_wire.specs.declared.event.Handed.{Handed}
-use Rattle.model_wire.specs.Call.{Answer, Call}
-use Rattle.model_wire.specs.Fits.{fits}
-use Rattle.model_wire.specs.Journal.{Entry, Answered, Refused}
-use Rattle.model_wire.specs.Trace.{End}
-use Rattle.model_loop.specs.Futures.{next_future}
-use Rattle.model_loop.specs.Groups.{GroupExit, Waits, Passes, Raises as RaisedBy, exit_begin, exit_woken}
-use Rattle.model_loop.specs.Ledger.{ByScript}
 use Rattle.model_loop.specs.Loop.{Loop}
-use Rattle.model_loop.specs.Parts.{Parts}
+use Rattle.model_loop.specs.Parts.{Parts, Task}
 use Rattle.model_loop.specs.Tasks.{must_cancel_of}
-use Rattle.model_loop.specs.Timeouts.{exit_timeout}
-use Rattle.model_stream.specs.declared.answers.ChildWait.{ChildWait}
-use Rattle.model_stream.specs.declared.answers.ChildWait.TheVariants as wait_as
-use Rattle.model_stream.specs.declared.answers.Drain.TheVariants as drain_as
-use Rattle.model_stream.specs.declared.answers.StreamGot.TheVariants as got
-use Rattle.model_stream.specs.declared.answers.Wrote.{Wrote}
-use Rattle.model_stream.specs.declared.answers.Wrote.TheVariants as wrote
-use Rattle.model_stream.specs.declared.put.Limited.{Limited}
-use Rattle.model_stream.specs.declared.put.Limited.TheVariants as limited
-use Rattle.model_stream.specs.declared.read_op.ReadOp.TheVariants.{UpTo, Exactly, Until, Line}
-use Rattle.model_stream.specs.Doing.{Change, MakeFuture, CallSoon, Settle, Doing, Ends, Changes, Asks}
-use Rattle.model_stream.specs.Reading.{ReadOp}
-use Rattle.model_stream.specs.Receivers.{StreamGot}
-use Rattle.model_stream.specs.Requests.{StreamReader, write, drain, limits, write_eof, close, closed_future, drop_connect, read, read_all}
-use Rattle.model_stream.specs.Requests.{wait, kill}
-use Rattle.model_stream.specs.Senders.{Drain}
-use Rattle.model_stream.specs.Streams.{Streams, may_listen, may_connect, may_launch, listen, connect, launch, close_server}
-use Rattle.model_machine.specs.Arguments.{AServer, AWriter, Closable, as_bytes, as_child, as_closable, as_conn, as_delay, as_int, as_reader, as_words}
-use Rattle.model_machine.specs.Arguments.{as_writer}
-use Rattle.model_machine.specs.Does.{changed, does}
-use Rattle.model_machine.specs.Extra as extra
-use Rattle.model_machine.specs.Extra.{Extra, ExtraAnswer, ExtraCall, ExtraSaid, called}
-use Rattle.model_machine.specs.Outcomes.{input_of}
-use Rattle.model_machine.specs.Replies.{RequestReply, Answers, Raises, Suspends, Halts, Wake, alarmed, awaits, awaits_as, awaits_closed_as, awaits_exit_as}
-use Rattle.model_machine.specs.Replies.{closes, connects, connects_as, decides, drains, drains_as, ended, exits_as, exits_timeout, given, hears, input_by}
-use Rattle.model_machine.specs.Replies.{launches, launches_as, limits_as, listens, listens_as, numbered_if, reads, reads_all, reads_all_as, reads_as}
-use Rattle.model_machine.specs.Replies.{reads_count}
-use Rattle.model_machine.specs.Replies.{replied, reply, serves, serves_as, serves_until, streams_change, streams_do, timed_out_if, to_port, to_port_if, waits}
-use Rattle.model_machine.specs.Replies.{waits_no_more, woken, woken_within, writes_as}
-use Rattle.model_machine.specs.State.{ResumePoint, Asked, Sleeping, Leaving, Serving, Connecting, Yielding, Reading, ReadingAll, State, noted, unbooked_in}
-use Rattle.model_machine.specs.State.{with_loop, with_streams}
-use Rattle.model_machine.specs.Step.{says_of, serve, served, taken_as}
-use Rattle.model_machine.specs.Went.{Went, Goes, Stops, answered_so, ask_so, fitted_so}
+use Rattle.model_machine.specs.Extra.{Extra}
+use Rattle.model_machine.specs.Replies.{RequestReply, Answers, Raises, Suspends, Halts, decides, reply}
+use Rattle.model_machine.specs.State.{ResumePoint, State}
+use Rattle.model_machine.specs.Step.{serve}
+use Rattle.model_machine.specs.Went.{Went, Goes, Stops}
 use Rattle.law_changes.specs.Changes.{MakesTask, OfParts, Settles}
 use Rattle.law_changes.specs.Reaches.{LoopReaches}
 use Rattle.law_changes.proofs.Folds.{one}
 use Rattle.law_changes.proofs.LoopRows.{asks_row, create_row, enter_group_row, enter_row, exit_begin_row, exit_timeout_row, exit_woken_row, reschedule_row}
 use Rattle.law_changes.proofs.LoopRows.{takes_row}
-use Rattle.law_cases.specs.Cases.{Replies, raises, leaves_none, exits_none, tells, names_itself, hands_on, pauses_on, alarms, prints, makes, sets}
-use Rattle.law_cases.specs.Cases as cases
-use Rattle.law_cases.specs.Cases.{fails, cancels, uncancels, spawns_it, enters, leaves, moves, enters_one, exits, creates_it, serves_it}
-use Rattle.law_cases.specs.Closed.{is_to_streams}
-use Rattle.law_cases.proofs.Cases.{reply_is}
 use Rattle.law_reach.proofs.Extras.{all_row}
 use Rattle.law_promises.specs.OwnStep.{ReplyFalls, WentFalls}
-use Rattle.law_promises.proofs.MustCancelStays.{nobody}
+use Rattle.law_promises.proofs.MustCancelStays.{as_tasks, nobody}
 use Rattle.law_promises.proofs.OwnStep.{StepEnds, ends_after, ends_over, ends_so, ends_waiting, falls}
+use Rattle.law_promises.proofs.OwnWalk.{ReplyComes, StepWalk, WentComes, decides_comes, reply_comes, serve_comes}
 use Rattle.law_promises.proofs.TakingBack.{IsFollowed, followed_refl, followed_then, row_followed, unbooked}
 
--- what a request comes to
-abbrev ReplyEnds : {S : Type 0} → (me : ℕ) → State S → RequestReply S → Type 0
-ReplyEnds me s (Answers value now) = IsFollowed me s.loop now.loop
-ReplyEnds me s (Raises fault now) = IsFollowed me s.loop now.loop
-ReplyEnds me s (Suspends now) = StepEnds me s.loop now.loop
-ReplyEnds me s (Halts end last) = Unit {0}
-
--- and the rest of a step
-abbrev WentEnds : {S : Type 0} → (me : ℕ) → State S → Went S → Type 0
-WentEnds me s (Goes now) = StepEnds me s.loop now.loop
-WentEnds me s (Stops end last) = Unit {0}
-
-module _ {S : Type 0} (added : Extra S) (me : ℕ) where
-  abbrev Comes : State S → RequestReply S → Type 0
-  Comes s it = ReplyEnds me s it
-
-  abbrev same : (s : State S) → IsFollowed me s.loop s.loop
-  same s = followed_refl me s.loop
-
+module _ (me : ℕ) where
   row : {l q : Loop} → LoopReaches None l q → IsFollowed me l q
   row reaches = row_followed me reaches (nobody me)
 
-  after : (s t : State S) (it : RequestReply S) → IsFollowed me s.loop t.loop → Comes t it → Comes s it
-  after s t (Answers value now) first then_ = followed_then me s.loop t.loop now.loop first then_
-  after s t (Raises fault now) first then_ = followed_then me s.loop t.loop now.loop first then_
-  after s t (Suspends now) first then_ = ends_after me s.loop t.loop now.loop first then_
-  after s t (Halts end last) first then_ = tt
+  own_walk : StepWalk me (IsFollowed me) (StepEnds me)
+  own_walk = record {
+    same = followed_refl me;
+    next = followed_then me;
+    ends = ends_after me;
+    rests = ends_so me;
+    waits = λ on l. ends_waiting me on l l (followed_refl me l);
+    over = λ end l. ends_over me end l;
+    parts = λ l q tasks. unbooked me l (record l { parts = q }) refl refl
+        (ap (λ (ts : List Task). option_map_or (λ (t : Task). t.cancels) (slice_get ts me) 0) tasks) (as_tasks l.parts q tasks me);
+    settles = λ future outcome l. row (one (OfParts (Settles future outcome)) tt);
+    asks = λ by on l. row (asks_row None by on l);
+    takes = λ by task l. row (takes_row None by task l);
+    spawns = λ l. row (one (OfParts MakesTask) tt);
+    enters = λ delay l. row (enter_row None me delay l);
+    leaves = λ raised id l. row (exit_timeout_row None raised id l);
+    moves = λ id when l. row (reschedule_row None id when l);
+    enters_group = λ l. row (enter_group_row None me l);
+    begins = λ raised id l. row (exit_begin_row None raised id l);
+    wakes = λ input id l. row (exit_woken_row None input id l);
+    creates = λ id l. row (create_row None id l);
+    added = λ steps l. row (all_row None steps l);
+  }
 
-  replied_comes : (input : Input) (s : State S) → Comes s (replied input s)
-  replied_comes (Send value) s = same s
-  replied_comes (Throw fault) s = same s
-
-  waits_comes : (on : ℕ) (s : State S) → StepEnds me s.loop (waits me on s).loop
-  waits_comes on s = ends_waiting me on s.loop s.loop (same s)
-
-  -- ---- blocks
-  timeout_comes : (raised : Option Exc) (id : ℕ) (s : State S) → Comes s (exits_timeout raised id s)
-  timeout_comes raised id s = at (exit_timeout raised id s.loop).timed_out
-    where
-      at : (b : Bool) → Comes s (timed_out_if b (with_loop (exit_timeout raised id s.loop).loop s))
-      at true = row (exit_timeout_row None raised id s.loop)
-      at false = row (exit_timeout_row None raised id s.loop)
-
-  exits_comes : (answer : GroupExit) (id : ℕ) (l : Loop) (s : State S) → LoopReaches None s.loop l → Comes s (exits_as answer me id (with_loop l s))
-  exits_comes (Waits on) id l s reaches = ends_waiting me on s.loop l (row reaches)
-  exits_comes Passes id l s reaches = row reaches
-  exits_comes (RaisedBy fault) id l s reaches = row reaches
-
-  -- ---- a call on the outside
-  asked_comes : (it : Call) (next : Answer → State S → RequestReply S) (s : State S)
-      → ((came : Answer) (t : State S) → t.loop ≡ s.loop → Comes t (next came t)) → Comes s (ask_so Halts it next s)
-  asked_comes it next s each = by s.answers
-    where
-      fit : (b : Bool) (came : Answer) (left : List Entry)
-          → Comes s (fitted_so Halts b it came next (noted (event.Got came) (record (noted (event.Called it) s) { answers = left })))
-      fit true came left =
-          let t = noted (event.Got came) (record (noted (event.Called it) s) { answers = left }) in after s t (next came t) (same s) (each came t refl)
-      fit false came left = tt
-
-      by : (entries : List Entry) → Comes s (answered_so Halts entries it next (noted (event.Called it) s))
-      by [] = tt
-      by (Refused line cause ∷ entries) = tt
-      by (Answered came ∷ entries) = fit (fits it came) came entries
-
-  -- ---- what is added
-  abbrev WakeComes : Wake S → Type 0
-  WakeComes wake = (key : ℕ) (input : Input) (s : State S) → Comes s (wake key input s)
-
-  until_comes : (o : Option Outcome) (wake : Wake S) (on key : ℕ) (s : State S) → WakeComes wake → Comes s (serves_until o wake me on key s)
-  until_comes (Some outcome) wake on key s wakes = wakes key (input_of outcome) s
-  until_comes None wake on key s wakes = waits_comes on s
-
-  as_comes : (answer : ExtraAnswer) (wake : Wake S) (s : State S) → WakeComes wake → Comes s (serves_as answer wake me s)
-  as_comes (extra.Answers value) wake s wakes = same s
-  as_comes (extra.Raises fault) wake s wakes = same s
-  as_comes (extra.Waits on key) wake s wakes = until_comes (ended s on) wake on key s wakes
-  as_comes (extra.Asks code bytes key) wake s wakes =
-      asked_comes (call.Extra code bytes) (λ said. wake key (input_by said)) s (λ said t is. wakes key (input_by said) t)
-
-  serves_comes : (said : ExtraSaid S) (wake : Wake S) (s : State S) → WakeComes wake → Comes s (serves said wake me s)
-  serves_comes said wake s wakes =
-      let t = called said.call s in
-      after s t (serves_as said.answer wake me t) (row (all_row None said.call.steps s.loop)) (as_comes said.answer wake t wakes)
-
-  within_comes : (wakes : ℕ) → WakeComes (woken_within added wakes me)
-  within_comes zero key input s = tt
-  within_comes (suc wakes) key input s = serves_comes (added.wake key input s) (woken_within added wakes me) s (within_comes wakes)
-
-  woken_comes : WakeComes (woken added me)
-  woken_comes key input s = within_comes (suc (added.wakes_left key s.extra)) key input s
-
-  -- ---- the table, where no listener, connection or child is asked
-  case_comes : (s : State S) {asked : Request} {it : RequestReply S} → Replies added me s asked it → Comes s it
-  case_comes s (raises fault f) = same s
-  case_comes s (leaves_none timeout raised fault e) = same s
-  case_comes s (exits_none group raised fault e) = same s
-  case_comes s (tells value none b) = same s
-  case_comes s names_itself = same s
-  case_comes s (hands_on on outcome e b) = replied_comes (input_of outcome) s
-  case_comes s (pauses_on may b) = ends_so me s.loop _ (unbooked me s.loop _ refl refl refl (λ m. m))
-  case_comes s (alarms x delay) =
-      ends_waiting me (next_future s.loop.parts) s.loop (unbooked_in (alarmed me (pos (suc delay))) s).loop
-      (unbooked me s.loop _ refl refl refl (λ m. m))
-  case_comes s (cases.awaits x on e none) = waits_comes on s
-  case_comes s (prints values) = same s
-  case_comes s (makes few) = unbooked me s.loop _ refl refl refl (λ m. m)
-  case_comes s (sets future value on e) = row (one (OfParts (Settles on _)) tt)
-  case_comes s (fails future fault on it e) = row (one (OfParts (Settles on _)) tt)
-  case_comes s (cancels x on) = row (asks_row None (ByScript me) on s.loop)
-  case_comes s (uncancels x other) = row (takes_row None (ByScript me) other s.loop)
-  case_comes s (spawns_it coroutine arguments few) = row (one (OfParts MakesTask) tt)
-  case_comes s (enters x delay few) = row (enter_row None me delay s.loop)
-  case_comes s (leaves timeout raised id e) = timeout_comes raised id s
-  case_comes s (moves timeout x id when e) = row (reschedule_row None id when s.loop)
-  case_comes s (enters_one few) = row (enter_group_row None me s.loop)
-  case_comes s (exits group raised id e) =
-      exits_comes (exit_begin raised id s.loop).answer id (exit_begin raised id s.loop).loop s (exit_begin_row None raised id s.loop)
-  case_comes s (creates_it group id coroutine arguments few e) = row (create_row None id s.loop)
-  case_comes s (serves_it code arguments number items) = serves_comes (added.ask me number items s) (woken added me) s woken_comes
-
-  -- ---- trees of listeners, connections and children
-  change_followed : (change : Change) (s : State S) → IsFollowed me s.loop (unbooked_in (changed change) s).loop
-  change_followed MakeFuture s = unbooked me s.loop _ refl refl refl (λ m. m)
-  change_followed (CallSoon action) s = unbooked me s.loop _ refl refl refl (λ m. m)
-  change_followed (Settle future outcome) s = row (one (OfParts (Settles future outcome)) tt)
-
-  does_comes : {A : Type 0} (tree : Doing A) (next : A → State S → RequestReply S) (s : State S)
-      → ((it : A) (t : State S) → Comes t (next it t)) → Comes s (does Halts tree next s)
-  does_comes (Ends result) next s each = each result s
-  does_comes (Changes change rest) next s each =
-      let t = unbooked_in (changed change) s in after s t (does Halts rest next t) (change_followed change s) (does_comes rest next t each)
-  does_comes (Asks it rest) next s each =
-      asked_comes it (λ came. does Halts (rest came) next) s (λ came t is. does_comes (rest came) next t each)
-
-  given_comes : {A : Type 0} (o : Option A) (next : A → State S → RequestReply S) (s : State S) → ((a : A) → Comes s (next a s))
-      → Comes s (given o next s)
-  given_comes None next s each = same s
-  given_comes (Some a) next s each = each a
-
-  numbered_comes : (b : Bool) (next : State S → RequestReply S) (s : State S) → Comes s (next s) → Comes s (numbered_if b next s)
-  numbered_comes true next s it = it
-  numbered_comes false next s it = same s
-
-  port_comes : (number : ℤ) (next : ℕ → State S → RequestReply S) (s : State S) → ((port : ℕ) → Comes s (next port s))
-      → Comes s (to_port number next s)
-  port_comes (negsuc before) next s each = same s
-  port_comes (pos port) next s each = at (nat_lt 0 port && nat_lt port 65536)
-    where
-      at : (b : Bool) → Comes s (to_port_if b port next s)
-      at true = each port
-      at false = same s
-
-  -- streams that change leave the loop as it is
-  with_comes : (streams : Streams) (t : State S) (it : RequestReply S) → Comes (with_streams streams t) it → Comes t it
-  with_comes streams t it comes = after t (with_streams streams t) it (same t) comes
-
-  do_comes : {R : Type 0} (tree : Doing (Streams × R)) (next : R → State S → RequestReply S) (s : State S)
-      → ((answer : R) (t : State S) → Comes t (next answer t)) → Comes s (streams_do tree next s)
-  do_comes tree next s each =
-      does_comes tree (λ done now. next done.1 (with_streams done.0 now)) s
-      (λ done t. with_comes done.0 t (next done.1 (with_streams done.0 t)) (each done.1 (with_streams done.0 t)))
-
-  go_comes : (tree : Doing Streams) (next : State S → RequestReply S) (s : State S) → ((t : State S) → Comes t (next t))
-      → Comes s (streams_change tree next s)
-  go_comes tree next s each =
-      does_comes tree (λ streams now. next (with_streams streams now)) s
-      (λ streams t. with_comes streams t (next (with_streams streams t)) (each (with_streams streams t)))
-
-  -- ---- what follows
-  listened : (server : Option ℕ) (s : State S) → Comes s (listens_as server s)
-  listened None s = same s
-  listened (Some id) s = same s
-
-  connected : (begun : Option (ℕ × ℕ)) (s : State S) → Comes s (connects_as me begun s)
-  connected None s = same s
-  connected (Some begun) s = waits_comes begun.1 s
-
-  wrote_so : (it : Wrote) (s : State S) → Comes s (writes_as it s)
-  wrote_so wrote.Done s = same s
-  wrote_so wrote.AfterEof s = same s
-
-  awaited : (o : Option Outcome) (on : ℕ) (s : State S) → Comes s (awaits_as o me on s)
-  awaited (Some outcome) on s = replied_comes (input_of outcome) s
-  awaited None on s = waits_comes on s
-
-  closed : (on : Option ℕ) (s : State S) → Comes s (awaits_closed_as on me s)
-  closed None s = same s
-  closed (Some on) s = awaited (ended s on) on s
-
-  drained : (whom : Handed) (it : Drain) (s : State S) → Comes s (drains_as me whom it s)
-  drained whom drain_as.Goes s = same s
-  drained whom drain_as.Yields s = ends_so me s.loop _ (unbooked me s.loop _ refl refl refl (λ m. m))
-  drained whom (drain_as.Waits on) s = waits_comes on s
-  drained whom (drain_as.Raises fault) s = same s
-
-  limited_so : (it : Limited) (s : State S) → Comes s (limits_as it s)
-  limited_so limited.Set s = same s
-  limited_so limited.BadLimits s = same s
-
-  read_so : (op : ReadOp) (from : StreamReader) (it : StreamGot) (s : State S) → Comes s (reads_as me op from it s)
-  read_so op from (got.Bytes bytes) s = same s
-  read_so op from (got.Raises fault) s = same s
-  read_so op from (got.Waits on) s = waits_comes on s
-
-  read_all_so : (from : StreamReader) (taken : List ℕ) (it : StreamGot) (s : State S) → Comes s (reads_all_as me from taken it s)
-  read_all_so from taken (got.Bytes bytes) s = same s
-  read_all_so from taken (got.Raises fault) s = same s
-  read_all_so from taken (got.Waits on) s = waits_comes on s
-
-  launched : (child : Option ℕ) (s : State S) → Comes s (launches_as child s)
-  launched None s = same s
-  launched (Some id) s = same s
-
-  exited : (it : ChildWait) (s : State S) → Comes s (awaits_exit_as me it s)
-  exited (wait_as.Code code) s = same s
-  exited (wait_as.Waits on) s = waits_comes on s
-
-  drains_comes : (yielded : Bool) (whom : Handed) (s : State S) → Comes s (drains yielded me whom s)
-  drains_comes yielded whom s = do_comes (drain yielded (next_future s.loop.parts) whom s.streams) (drains_as me whom) s (drained whom)
-
-  reads_comes : (op : ReadOp) (from : StreamReader) (s : State S) → Comes s (reads me op from s)
-  reads_comes op from s = do_comes (read (next_future s.loop.parts) op from s.streams) (reads_as me op from) s (read_so op from)
-
-  reads_all_comes : (from : StreamReader) (taken : List ℕ) (s : State S) → Comes s (reads_all me from taken s)
-  reads_all_comes from taken s =
-      do_comes (read_all (next_future s.loop.parts) from s.streams) (λ said. reads_all_as me from (taken ++ said.taken) said.got) s
-      (λ said t. read_all_so from (taken ++ said.taken) said.got t)
-
-  counts_comes : (number : ℤ) (from : StreamReader) (s : State S) → Comes s (reads_count me number from s)
-  counts_comes (pos count) from s = reads_comes (UpTo count) from s
-  counts_comes (negsuc before) from s = reads_all_comes from [] s
-
-  streams_comes : (asked : Request) (s : State S) → is_to_streams asked ≡ true → Comes s (reply added me asked s)
-  unfolding reply
-  streams_comes (request.Listen port handler) s is =
-      given_comes (as_int port) _ s (λ number. numbered_comes (may_listen s.streams) _ s (port_comes number (listens handler) s
-      (λ at. do_comes {R = Option ℕ} (listen at handler s.streams) listens_as s listened)))
-  streams_comes (request.Connect port) s is =
-      given_comes (as_int port) _ s (λ number. numbered_comes (may_connect s.streams) _ s (port_comes number (connects me) s
-      (λ at. do_comes {R = Option (ℕ × ℕ)} (connect at (next_future s.loop.parts) s.streams) (connects_as me) s connected)))
-  streams_comes (request.Launch words) s is =
-      given_comes (as_words words) _ s (λ program. numbered_comes (may_launch s.streams) (launches program) s
-      (do_comes {R = Option ℕ} (launch program (next_future s.loop.parts) s.streams) launches_as s launched))
-  streams_comes (request.Write stream bytes) s is =
-      given_comes (as_writer s stream) _ s (λ whom. given_comes (as_bytes bytes) _ s
-      (λ piece. do_comes {R = Wrote} (write whom piece s.streams) writes_as s wrote_so))
-  streams_comes (request.WriteEof stream) s is =
-      given_comes (as_conn s stream) _ s (λ conn. go_comes (write_eof conn s.streams) (Answers Nothing) s same)
-  streams_comes (request.Close x) s is = given_comes (as_closable s x) closes s shut
-    where
-      shut : (it : Closable) → Comes s (closes it s)
-      shut (AServer id) = go_comes (close_server id s.streams) (Answers Nothing) s same
-      shut (AWriter whom) = go_comes (close whom s.streams) (Answers Nothing) s same
-  streams_comes (request.WaitClosed stream) s is =
-      given_comes (as_writer s stream) _ s (λ whom. closed (closed_future whom s.streams) s)
-  streams_comes (request.Drain stream) s is = given_comes (as_writer s stream) (drains false me) s (λ whom. drains_comes false whom s)
-  streams_comes (request.Limits stream high low) s is =
-      given_comes (as_writer s stream) _ s (λ whom. given_comes (as_delay high) _ s (λ most. given_comes (as_delay low) _ s
-      (λ least. do_comes {R = Limited} (limits most least whom s.streams) limits_as s limited_so)))
-  streams_comes (request.Read stream count) s is =
-      given_comes (as_reader s stream) _ s (λ from. given_comes (as_int count) _ s (λ number. counts_comes number from s))
-  streams_comes (request.ReadExactly stream count) s is =
-      given_comes (as_reader s stream) _ s (λ from. given_comes (as_int count) _ s (λ number. reads_comes (Exactly number) from s))
-  streams_comes (request.ReadUntil stream separator) s is =
-      given_comes (as_reader s stream) _ s (λ from. given_comes (as_bytes separator) _ s (λ bytes. reads_comes (Until bytes) from s))
-  streams_comes (request.ReadLine stream) s is = given_comes (as_reader s stream) _ s (λ from. reads_comes Line from s)
-  streams_comes (request.StandardError child) s is = given_comes (as_child s child) _ s (λ id. same s)
-  streams_comes (request.WaitChild child) s is =
-      given_comes (as_child s child) _ s
-      (λ id. do_comes {R = ChildWait} (wait (next_future s.loop.parts) id s.streams) (awaits_exit_as me) s exited)
-  streams_comes (request.ReturnCode child) s is = given_comes (as_child s child) _ s (λ id. same s)
-  streams_comes (request.Kill child) s is = given_comes (as_child s child) _ s (λ id. go_comes (kill id s.streams) (Answers Nothing) s same)
-  streams_comes _ s is = absurd (false≢true is)
-
-  reply_comes : (asked : Request) (s : State S) → Comes s (reply added me asked s)
-  reply_comes asked s = at (is_to_streams asked) refl
-    where
-      at : (b : Bool) → is_to_streams asked ≡ b → Comes s (reply added me asked s)
-      at true is = streams_comes asked s is
-      at false is = case_comes s (reply_is added me s asked is)
-
-  -- ---- what the task stood at
-  hears_comes : (input : Input) (next : State S → RequestReply S) (s : State S) → Comes s (next s) → Comes s (hears input next s)
-  hears_comes (Send value) next s it = it
-  hears_comes (Throw fault) next s it = same s
-
-  decides_comes : (resume_point : ResumePoint) (input : Input) (s : State S) → Comes s (decides added resume_point me input s)
-  decides_comes Asked input s = replied_comes input s
-  decides_comes (Sleeping tag) input s = replied_comes input s
-  decides_comes (Leaving group) input s =
-      exits_comes (exit_woken input group s.loop).answer group (exit_woken input group s.loop).loop s (exit_woken_row None input group s.loop)
-  decides_comes (Serving key) input s = woken_comes key input s
-  decides_comes (Connecting conn) (Send value) s = same s
-  decides_comes (Connecting conn) (Throw fault) s = go_comes (drop_connect conn s.streams) (Raises fault) s same
-  decides_comes (Yielding whom) input s = hears_comes input (drains true me whom) s (drains_comes true whom s)
-  decides_comes (Reading from op on) input s =
-      let t = waits_no_more on from s in
-      with_comes t.streams s (hears input (reads me op from) t) (hears_comes input (reads me op from) t (reads_comes op from t))
-  decides_comes (ReadingAll from taken on) input s =
-      let t = waits_no_more on from s in
-      with_comes t.streams s (hears input (reads_all me from taken) t) (hears_comes input (reads_all me from taken) t (reads_all_comes from taken t))
-
-  -- ---- the rest of a step
-  went_after : (s t : State S) (went : Went S) → IsFollowed me s.loop t.loop → WentEnds me t went → WentEnds me s went
-  went_after s t (Goes now) first then_ = ends_after me s.loop t.loop now.loop first then_
-  went_after s t (Stops end last) first then_ = tt
-
-  taken_ends : (s : State S) (it : RequestReply S) (fresh : Bool) (go_on : State S → Went S) → Comes s it
-      → ((t : State S) → WentEnds me t (go_on t)) → WentEnds me s (taken_as it fresh me go_on)
-  taken_ends s (Answers value now) fresh go_on comes each = went_after s now (go_on _) comes (each _)
-  taken_ends s (Raises fault now) fresh go_on comes each = went_after s now (go_on _) comes (each _)
-  taken_ends s (Suspends now) fresh go_on comes each = comes
-  taken_ends s (Halts end last) fresh go_on comes each = tt
-
-  said_ends : (limit : ℕ) (said : says.Saying) (go_on : State S → Went S) (s : State S) → ((t : State S) → WentEnds me t (go_on t))
-      → WentEnds me s (served limit added said me go_on s)
-  said_ends limit (says.Asks asked) go_on s each = taken_ends s (reply added me asked s) false go_on (reply_comes asked s) each
-  said_ends limit (says.Returns value) go_on s each = ends_over me (Ok value) s.loop
-  said_ends limit (says.Raises fault) go_on s each = ends_over me (Err fault) s.loop
-  said_ends limit says.Runaway go_on s each = tt
-
-  serve_ends : (limit answers : ℕ) (s : State S) → WentEnds me s (serve limit added answers me s)
-  unfolding serve
-  serve_ends limit zero s = tt
-  serve_ends limit (suc answers) s = said_ends limit (says_of limit added me s) (serve limit added answers me) s (serve_ends limit answers)
-
-  -- ---- so must_cancel falls there alone
-  reply_falls : (s : State S) (it : RequestReply S) → must_cancel_of s.loop.parts me ≡ true → Comes s it → ReplyFalls me s it
+module _ {S : Type 0} (added : Extra S) (me : ℕ) where
+  reply_falls : (s : State S) (it : RequestReply S) → must_cancel_of s.loop.parts me ≡ true → ReplyComes (IsFollowed me) (StepEnds me) s it
+      → ReplyFalls me s it
   reply_falls s (Answers value now) must comes = comes.keeps must
   reply_falls s (Raises fault now) must comes = comes.keeps must
   reply_falls s (Suspends now) must comes = falls me s.loop now.loop must comes
   reply_falls s (Halts end last) must comes = tt
 
-  went_falls : (s : State S) (it : Went S) → must_cancel_of s.loop.parts me ≡ true → WentEnds me s it → WentFalls me s it
+  went_falls : (s : State S) (it : Went S) → must_cancel_of s.loop.parts me ≡ true → WentComes (StepEnds me) s it → WentFalls me s it
   went_falls s (Goes now) must ends = falls me s.loop now.loop must ends
   went_falls s (Stops end last) must ends = tt
 
   pub asks_falls : (asked : Request) (s : State S) → must_cancel_of s.loop.parts me ≡ true → ReplyFalls me s (reply added me asked s)
-  asks_falls asked s must = reply_falls s (reply added me asked s) must (reply_comes asked s)
+  asks_falls asked s must = reply_falls s (reply added me asked s) must (reply_comes me (own_walk me) added asked s)
 
   pub resumed_falls : (resume_point : ResumePoint) (input : Input) (s : State S) → must_cancel_of s.loop.parts me ≡ true
       → ReplyFalls me s (decides added resume_point me input s)
-  resumed_falls resume_point input s must = reply_falls s (decides added resume_point me input s) must (decides_comes resume_point input s)
+  resumed_falls resume_point input s must =
+      reply_falls s (decides added resume_point me input s) must (decides_comes me (own_walk me) added resume_point input s)
 
   pub rest_falls : (limit answers : ℕ) (s : State S) → must_cancel_of s.loop.parts me ≡ true → WentFalls me s (serve limit added answers me s)
-  rest_falls limit answers s must = went_falls s (serve limit added answers me s) must (serve_ends limit answers s)
+  rest_falls limit answers s must = went_falls s (serve limit added answers me s) must (serve_comes me (own_walk me) added limit answers s)

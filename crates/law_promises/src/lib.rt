@@ -4,6 +4,7 @@
 
 pub mod cancels;
 pub mod counts;
+pub mod entered;
 pub mod events;
 pub mod exits;
 pub mod groups;

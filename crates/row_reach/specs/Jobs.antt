@@ -1,5 +1,5 @@
 -- Scripts whose jobs are done beside the loop.
-use Rattle.std.specs.Prelude.{ℕ, List, [], ◌∷◌, ◌++◌, Option, Some, None, codes}
+use Rattle.std.specs.Prelude.{ℕ, pos, List, [], ◌∷◌, Some, None, codes}
 use Rattle.model_value.specs.declared.kind.Kind.TheVariants as kind
 use Rattle.model_value.specs.Value.{Nothing, Bytes, Exception, exception_of}
 use Rattle.model_wire.specs.declared.answer.Answer.TheVariants as answer
@@ -37,7 +37,7 @@ abbrev pub selects : Call
 selects = call.Select (Some 0) []
 
 abbrev pub asks : Call
-asks = call.Extra 300 (codes "1 abc")
+asks = call.Extra (pos 300) (codes "1 abc")
 
 -- ---- a job that is done
 abbrev pub done_text : List ℕ
@@ -52,7 +52,7 @@ abbrev pub done_journal : List Entry
 done_journal =
     Answered (answer.Turn 0 [])
     ∷ Answered (answer.Extra (codes "0"))
-    ∷ Answered (answer.Turn 0 (item.Extra 300 (codes "0 cba") ∷ []))
+    ∷ Answered (answer.Turn 0 (item.Extra (pos 300) (codes "0 cba") ∷ []))
     ∷ Answered (answer.Turn 0 [])
     ∷ Answered (answer.Turn 0 []) ∷ []
 

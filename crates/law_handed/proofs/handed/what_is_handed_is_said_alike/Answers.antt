@@ -11,7 +11,7 @@ pub returns : goal.returns
 returns c laws = record {
   run = λ extra first program answers turns whom.
       handed_alike (run_over extra first program answers turns).events
-          (run_follows step_limit extra turns turns (start most_ids first program answers) refl) whom;
+      (run_follows step_limit extra turns turns (start most_ids first program answers) refl) whom;
   program = λ program answers turns whom.
       handed_alike (run program answers turns).events (run_follows step_limit added turns turns (start most_ids first_added program answers) refl) whom;
   events = handed_alike;

@@ -1,0 +1,5 @@
+pub mod Drawn
+pub mod Code
+pub mod Keeps
+pub mod Seen
+pub mod Added

@@ -1,0 +1,204 @@
+//! Jobs beside the loop: as they are asked for, as the outside answers, as they come to something,
+//! and as their tasks go on.
+ghost use Rattle.std.specs.Prelude.{◌≡◌, ◌<◌, None, Some, true, IfOk, OnOk};
+ghost use Rattle.std.specs.Fmt.{decimal};
+ghost use Rattle.model_reach.specs.Part.{drawing, key_at, no_key};
+ghost use Rattle.model_exec.specs.Execed as execed;
+ghost use Rattle.model_exec.specs.Execed.{exec_part, none_execed, standing_at};
+ghost use Rattle.model_exec.specs.Serving as serving;
+ghost use Rattle.model_fields.specs.Fields as fields;
+ghost use Rattle.aio_task.specs.View.{parts as parts_of};
+ghost use Rattle.aio_exec.specs.Seen.{CallsSeen, SaysSeen, are_free, kept_of, own_of};
+
+use crate::jobs::Jobs;
+use crate::requests::{Found, Requests};
+use crate::said::{bad_argument, no_job, out_of_range, passed, strange_answer, unknown};
+use crate::wanted::{JOB, is_job, is_job_code, job_text, wanted};
+use aio_base::{Input, Memory, Outcome, Value, ValueCase};
+use aio_extra::Asked;
+use aio_fields::numbered;
+use aio_task::{FutureId, Parts};
+use std::alloc::Global;
+use std::rc::RcSlice;
+
+/// What serves jobs beside the loop.
+#[derive(Drop)]
+pub struct Exec {
+    pub requests: Requests,
+    pub jobs: Jobs,
+}
+
+// Whether these bytes are a number in decimal.
+fn is_decimal(alloc: Global, number: u64, bytes: &[u8]) -> Result<bool, Memory> {
+    let text = format!(in alloc; "{number}")?;
+    let same = text.as_bytes() == bytes;
+    drop(text);
+    Ok(same)
+}
+
+// What came, or else what was sent.
+fn came_as(came: Option<RcSlice<u8>>, value: Value) -> Value {
+    match came {
+        Some(bytes) => {
+            drop(value);
+            Value::bytes(bytes)
+        }
+        None => value,
+    }
+}
+
+fn forget(_came: Option<RcSlice<u8>>) {}
+
+impl Exec {
+    /// Nothing was asked.
+    pub fn new(alloc: Global) -> Exec
+        ensures { kept_of result ≡ none_execed }
+    {
+        Exec {
+            requests: Requests::new(alloc),
+            jobs: Jobs::new(alloc),
+        }
+    }
+
+    // The outside is asked, unless it is no job.
+    fn ask_to(&mut self, alloc: Global, kind: i64, input: &[u8]) -> Result<Asked, Memory> {
+        if !is_job(kind, input) {
+            let raised = no_job(alloc)?;
+            self.requests.draw();
+            return Ok(raised);
+        }
+        let bytes = job_text(alloc, kind, input)?;
+        match self.requests.ask() {
+            Ok(key) => Ok(Asked::Outside {
+                code: JOB,
+                bytes,
+                key,
+            }),
+            Err(refused) => {
+                drop(bytes);
+                Err(refused)
+            }
+        }
+    }
+
+    /// A task's request.
+    pub fn ask_for(
+        &mut self,
+        alloc: Global,
+        code: i64,
+        items: &[Value],
+    ) -> Result<Asked, Memory> {
+        if !is_job_code(code) {
+            return unknown(alloc, code);
+        }
+        let Some((kind, input)) = wanted(items) else {
+            return bad_argument(alloc);
+        };
+        if !self.requests.can_draw() {
+            return out_of_range(alloc);
+        }
+        self.ask_to(alloc, kind, input)
+    }
+
+    // Whether the outside answered the number of the next job.
+    fn is_next(&self, alloc: Global, value: &Value) -> Result<bool, Memory> {
+        match value.case() {
+            ValueCase::Bytes(bytes) => is_decimal(alloc, self.jobs.accepted(), bytes.as_slice()),
+            _ => Ok(false),
+        }
+    }
+
+    // The outside did: the task waits on a future of its own.
+    fn accepted(
+        &mut self,
+        alloc: Global,
+        key: u64,
+        place: u64,
+        parts: &mut Parts,
+    ) -> Result<Asked, Memory> {
+        let on = parts.new_plain(alloc)?;
+        self.jobs.accept(place)?;
+        self.requests.wait(place, on);
+        Ok(Asked::Wait { on, key })
+    }
+
+    // What the outside answered.
+    fn answered(
+        &mut self,
+        alloc: Global,
+        key: u64,
+        place: u64,
+        input: Input,
+        parts: &mut Parts,
+    ) -> Result<Asked, Memory> {
+        match input {
+            Input::Send(value) => {
+                let next = self.is_next(alloc, &value);
+                drop(value);
+                if next? {
+                    return self.accepted(alloc, key, place, parts);
+                }
+                forget(self.requests.end(place));
+                strange_answer(alloc)
+            }
+            Input::Throw(fault) => {
+                forget(self.requests.end(place));
+                Ok(Asked::Raise(fault))
+            }
+        }
+    }
+
+    // The task goes on.
+    fn waited(&mut self, place: u64, input: Input) -> Asked {
+        let came = self.requests.end(place);
+        match input {
+            Input::Send(value) => Asked::Answer(came_as(came, value)),
+            Input::Throw(fault) => {
+                forget(came);
+                Asked::Raise(fault)
+            }
+        }
+    }
+
+    /// What the wait of the request under the key at this place came to, or what the outside
+    /// answered.
+    pub fn woken(
+        &mut self,
+        alloc: Global,
+        key: u64,
+        place: u64,
+        input: Input,
+        parts: &mut Parts,
+    ) -> Result<Asked, Memory> {
+        match self.requests.find(place) {
+            Found::Nothing => Ok(passed(input)),
+            Found::Asking => self.answered(alloc, key, place, input, parts),
+            Found::Waiting => Ok(self.waited(place, input)),
+        }
+    }
+
+    // A request is given what its job came to, and its task is woken.
+    fn give(&mut self, place: u64, came: RcSlice<u8>, parts: &mut Parts) {
+        if let Some(on) = self.requests.give(place, came) {
+            let _was_pending = parts.resolve(on, Outcome::Value(Value::nothing()));
+        }
+    }
+
+    /// News of a job. What is no number and a result, or names no job that goes on, is passed over.
+    pub fn told(
+        &mut self,
+        alloc: Global,
+        bytes: &[u8],
+        parts: &mut Parts,
+    ) -> Result<(), Memory> {
+        let Some((number, told)) = numbered(bytes) else {
+            return Ok(());
+        };
+        let Some(place) = self.jobs.end(number) else {
+            return Ok(());
+        };
+        let came = RcSlice::from_slice(alloc, told)?;
+        self.give(place, came, parts);
+        Ok(())
+    }
+}

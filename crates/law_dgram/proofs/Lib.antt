@@ -1,0 +1,5 @@
+pub mod Holding
+pub mod Comes
+pub mod Keys
+pub mod Allowed
+pub mod Falling

@@ -1,0 +1,5 @@
+pub mod Keys
+pub mod Waitings
+pub mod Standing
+pub mod Holding
+pub mod Keeping

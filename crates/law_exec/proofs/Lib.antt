@@ -1,0 +1,4 @@
+pub mod Holding
+pub mod Keys
+pub mod Allowed
+pub mod Falling

@@ -1,0 +1,10 @@
+mod Lists
+mod Handles
+mod Right
+mod Drawing
+mod Counting
+mod Entering
+mod Asking
+mod Acting
+mod Walking
+mod Ending
