@@ -3,3 +3,5 @@ pub mod Waitings
 pub mod Standing
 pub mod Holding
 pub mod Keeping
+pub mod Heeding
+pub mod Running
