@@ -1,4 +1,5 @@
 pub mod Keys
+pub mod Others
 pub mod Waitings
 pub mod Standing
 pub mod Holding

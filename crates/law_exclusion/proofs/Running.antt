@@ -5,19 +5,23 @@ use Rattle.model_tree.specs.Syntax.{Program}
 use Rattle.model_says.specs.Says.{step_limit}
 use Rattle.model_wire.specs.Journal.{Entry}
 use Rattle.model_loop.specs.Futures.{future_outcome}
-use Rattle.model_machine.specs.Extra.{Extra, NamesNothing, no_extra}
+use Rattle.model_machine.specs.Extra.{Extra, NamesNothing}
 use Rattle.model_machine.specs.Sound.{StandsUnder}
 use Rattle.model_machine.specs.State.{Asked, Serving, State, start}
 use Rattle.model_gather.specs.Serving.{gather_means}
 use Rattle.model_program.specs.Added.{added, first_added}
 use Rattle.model_reach.specs.Reach.{OfDgram, OfExec, OfGather, OfSync, Parted, reach}
 use Rattle.model_sync.specs.Serving.{sync_means}
+use Rattle.model_exec.specs.Serving.{exec_means}
+use Rattle.model_dgram.specs.Serving.{dgram_means}
 use Rattle.model_sync.specs.Synced.{Synced, Waiting, none_synced, on_of}
 use Rattle.law_gather.proofs.Allowed.{gather_allowed}
 use Rattle.law_gather.proofs.Keys.{of_gather}
 use Rattle.law_heeded.proofs.Gathered.{gather_keeps_to}
 use Rattle.law_heeded.proofs.Starting.{Held, runs_along, start_past}
-use Rattle.law_heeded.proofs.Synced.{missing_keeps, sync_keeps_to}
+use Rattle.law_heeded.proofs.Synced.{sync_keeps_to}
+use Rattle.law_heeded.proofs.Jobs.{exec_keeps_to}
+use Rattle.law_heeded.proofs.Datagrams.{dgram_keeps_to}
 use Rattle.law_heeded.proofs.Turning.{run_of}
 use Rattle.law_heeded.specs.Owned.{KeepsToItsFutures}
 use Rattle.law_heeded.specs.Runs.{IsRunOf}
@@ -25,7 +29,12 @@ use Rattle.law_locks.proofs.Heeded.{locks_keep}
 use Rattle.law_locks.specs.Locks.{LocksKeep}
 use Rattle.law_locks.specs.Runs.{tries_of}
 use Rattle.law_locks.specs.Tries.{replies}
-use Rattle.law_parted.proofs.Missing.{missing_allowed, missing_keys}
+use Rattle.law_exec.proofs.Allowed.{exec_allowed}
+use Rattle.law_exec.proofs.Keys.{of_exec}
+use Rattle.law_dgram.proofs.Allowed.{dgram_allowed}
+use Rattle.law_dgram.proofs.Keys.{of_dgram}
+use Rattle.law_keys.proofs.Jobs.{exec_keeps_to_keys}
+use Rattle.law_keys.proofs.Datagrams.{dgram_keeps_to_keys}
 use Rattle.law_parted.proofs.Reaching.{reach_allowed}
 use Rattle.law_replies.specs.Added.{KeepsSound}
 use Rattle.law_runs.proofs.Calls.{allowed_keeps}
@@ -37,7 +46,8 @@ use Rattle.law_exclusion.proofs.Heeding.{after_tries, heeded}
 use Rattle.law_exclusion.proofs.Holding.{HeardFact, Inv}
 use Rattle.law_exclusion.proofs.Keeping.{inv_facts, inv_walks}
 use Rattle.law_exclusion.proofs.Standing.{IsNoFailure}
-use Rattle.law_exclusion.proofs.Keys.{gather_waits, missing_waits}
+use Rattle.law_exclusion.proofs.Keys.{gather_waits}
+use Rattle.law_exclusion.proofs.Others.{waits_of}
 
 module _ {A C D : Type 0} (gather : Extra A) (exec : Extra C) (dgram : Extra D) (keeps_gather : KeepsToItsFutures gather)
     (keeps_exec : KeepsToItsFutures exec) (keeps_dgram : KeepsToItsFutures dgram) (keys_gather : WaitsUnderItsKeys OfGather gather)
@@ -92,14 +102,15 @@ module _ {A C D : Type 0} (gather : Extra A) (exec : Extra C) (dgram : Extra D) 
 pub program_sound : KeepsSound added
 program_sound =
     allowed_keeps added
-    (reach_allowed gather_means sync_means no_extra no_extra of_gather of_sync (missing_keys OfExec) (missing_keys OfDgram) gather_allowed sync_allowed
-    missing_allowed missing_allowed)
+    (reach_allowed gather_means sync_means exec_means dgram_means of_gather of_sync of_exec of_dgram gather_allowed sync_allowed exec_allowed
+    dgram_allowed)
 
 names_nothing : NamesNothing (added.keeps first_added)
 names_nothing = record { tasks = refl; futures = refl; own = refl; tags = refl; values = refl }
 
 pub program_runs : (most : ℕ) (program : Program) (answers : List Entry) (turns : ℕ)
-    → IsRunOf (KeepsLocks step_limit gather_means no_extra no_extra first_added) step_limit added turns (start most first_added program answers)
+    → IsRunOf (KeepsLocks step_limit gather_means exec_means dgram_means first_added) step_limit added turns (start most first_added program answers)
 program_runs most program answers turns =
-    locks_run gather_means no_extra no_extra gather_keeps_to missing_keeps missing_keeps gather_waits (missing_waits OfExec) (missing_waits OfDgram)
+    locks_run gather_means exec_means dgram_means gather_keeps_to exec_keeps_to dgram_keeps_to gather_waits (waits_of OfExec exec_means exec_keeps_to_keys)
+    (waits_of OfDgram dgram_means dgram_keeps_to_keys)
     program_sound first_added refl names_nothing most program answers turns
