@@ -10,6 +10,7 @@ use Rattle.model_loop.specs.Parts.{Parts}
 use Rattle.model_loop.specs.Tasks.{waiter_of}
 use Rattle.model_machine.specs.Extra as extra
 use Rattle.model_machine.specs.Extra.{Extra, ExtraAnswer, ExtraCall, ExtraSaid, ExtraStep, MakesPlain, called, key_of, made_by_all, unknown_code}
+use Rattle.model_machine.specs.Replies.{input_by}
 use Rattle.model_machine.specs.Sound.{StandsUnder}
 use Rattle.model_machine.specs.State.{State}
 use Rattle.model_reach.specs.Part.{place_of}
@@ -17,6 +18,7 @@ use Rattle.model_reach.specs.Reach.{OfSync, Part, Parted, part_of_key, reach}
 use Rattle.model_sync.specs.Serving.{sync_means}
 use Rattle.model_sync.specs.Synced.{Synced, Waiting, on_of, sync_keeps, sync_part, waiting_at}
 use Rattle.law_apart.specs.Apart.{Leaves}
+use Rattle.law_calls.specs.Told.{Happening, Hears, Wakes}
 use Rattle.law_heeded.specs.Between.{AreDisjoint, own_of}
 use Rattle.law_heeded.specs.Owned.{AreApart, is_among, is_own}
 use Rattle.law_heeded.specs.Walks.{Beside}
@@ -31,6 +33,16 @@ use Rattle.law_sync.proofs.Lists.{each_both, each_from, each_on}
 use Rattle.law_exclusion.specs.Beside.{WaitsAs}
 use Rattle.law_exclusion.proofs.Standing.{IsFresh, IsNoFailure, left_fine, made_fresh, next_fine, plain_fine, wakes_fine}
 use Rattle.law_exclusion.proofs.Waitings.{ListChange, each_now, others_stay, waits_there}
+
+-- ---- what is so of each call: who is woken hears what its own future came to
+abbrev pub HeardFact : {A C D : Type 0} → Happening (Parted A Synced C D) → Type 0
+HeardFact (Wakes task key input s) =
+    part_of_key key ≡ OfSync → (it : Waiting) → waiting_at (place_of sync_part key) s.extra.sync ≡ Some it
+    → HearsOf input (future_outcome s.loop.parts (on_of it))
+HeardFact (Hears question answer s) =
+    part_of_key question.key ≡ OfSync → (it : Waiting) → waiting_at (place_of sync_part question.key) s.extra.sync ≡ Some it
+    → HearsOf (input_by answer) (future_outcome s.loop.parts (on_of it))
+HeardFact _ = Unit {0}
 
 module _ {A C D : Type 0} (gather : Extra A) (exec : Extra C) (dgram : Extra D) where
   abbrev pub S : Type 0

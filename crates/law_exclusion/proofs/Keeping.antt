@@ -17,7 +17,6 @@ use Rattle.model_loop.specs.Tasks.{future_of, waiter_of}
 use Rattle.model_says.specs.Operations.{out_of_range}
 use Rattle.model_machine.specs.Extra as extra
 use Rattle.model_machine.specs.Extra.{Extra, ExtraAnswer, ExtraCall, ExtraSaid, called, made_by_all, unknown_code}
-use Rattle.model_machine.specs.Replies.{input_by}
 use Rattle.model_machine.specs.Sound.{StandsUnder}
 use Rattle.model_machine.specs.State.{State}
 use Rattle.model_reach.specs.Part.{can_draw, passes, place_of, refuses, stays as still}
@@ -28,7 +27,6 @@ use Rattle.model_sync.specs.Queues.{getting, putting}
 use Rattle.model_sync.specs.Serving.{Wanted, asked_for, named, served, sync_means, wanted_of, woken}
 use Rattle.model_sync.specs.Synced.{Acquires, Awaits, Gets, Puts, Synced, Waiting, next_key, on_of, sync_keeps, sync_part, waiting_at}
 use Rattle.law_apart.specs.Apart.{Leaves, TaskApart}
-use Rattle.law_calls.specs.Told.{Happening, Hears, Wakes}
 use Rattle.law_heeded.specs.Between.{AreDisjoint}
 use Rattle.law_heeded.specs.Owned.{AreApart, KeepsToItsFutures, is_own}
 use Rattle.law_heeded.specs.Walks.{Beside, GivesFacts, IsResumed, StoodAt, Walks, hears, runs, waits_for_none}
@@ -43,7 +41,7 @@ use Rattle.law_sync.proofs.Comes.{Comes, acquired_comes, getting_comes, putting_
 use Rattle.law_sync.proofs.Holding.{EventHolds, LockHolds, QueueHolds}
 use Rattle.law_sync.proofs.Lists.{each_at, each_found}
 use Rattle.law_exclusion.specs.Beside.{WaitsUnderItsKeys}
-use Rattle.law_exclusion.proofs.Holding.{Any, HeardAt, Inv, InvCalled, InvWoken, IsNew, Mine, Old, WaitsSo, after, beside_inv, fine_on, mine_on, no_steps, of_all}
+use Rattle.law_exclusion.proofs.Holding.{Any, HeardAt, Inv, InvCalled, InvWoken, HeardFact, IsNew, Mine, Old, WaitsSo, after, beside_inv, fine_on, mine_on, no_steps, of_all}
 use Rattle.law_exclusion.proofs.Holding.{other_inv, others_wait, said_inv, still_inv}
 use Rattle.law_exclusion.proofs.Keys.{key_sync, place_at, same_key}
 use Rattle.law_exclusion.proofs.Standing.{IsNoFailure, fresh_none, heard_of, no_cycle}
@@ -430,16 +428,6 @@ module _ {A C D : Type 0} (gather : Extra A) (exec : Extra C) (dgram : Extra D) 
         news_inv code bytes (runs (action.ExtraItem code bytes) rest s) (ran_apart added (action.ExtraItem code bytes) handle rest s first a)
         (out_inv (action.ExtraItem code bytes) rest s h);
   }
-
-  -- ---- what is so of each call: who is woken hears what its own future came to
-  abbrev pub HeardFact : Happening (Parted A Synced C D) → Type 0
-  HeardFact (Wakes task key input s) =
-      part_of_key key ≡ OfSync → (it : Waiting) → waiting_at (place_of sync_part key) s.extra.sync ≡ Some it
-      → HearsOf input (future_outcome s.loop.parts (on_of it))
-  HeardFact (Hears question answer s) =
-      part_of_key question.key ≡ OfSync → (it : Waiting) → waiting_at (place_of sync_part question.key) s.extra.sync ≡ Some it
-      → HearsOf (input_by answer) (future_outcome s.loop.parts (on_of it))
-  HeardFact _ = Unit {0}
 
   pub inv_facts : (limit : ℕ) → GivesFacts limit (reach gather sync_means exec dgram) (Inv gather exec dgram) (InvWoken gather exec dgram) HeardFact
   inv_facts limit = record {

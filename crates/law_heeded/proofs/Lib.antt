@@ -7,5 +7,7 @@ pub mod Turning
 pub mod Sharing
 pub mod Along
 pub mod Synced
+pub mod Jobs
+pub mod Datagrams
 pub mod Gathered
 pub mod Starting

@@ -11,16 +11,20 @@ ghost use Rattle.model_machine.specs.State.{start};
 ghost use Rattle.model_reach.specs.Reach.{Part, Parted, reach};
 ghost use Rattle.model_gather.specs.Serving.{gather_means};
 ghost use Rattle.model_sync.specs.Serving.{sync_means};
+ghost use Rattle.model_exec.specs.Serving.{exec_means};
+ghost use Rattle.model_dgram.specs.Serving.{dgram_means};
 ghost use Rattle.law_replies.specs.Added.{KeepsSound};
 ghost use Rattle.law_heeded.specs.Between.{IsLeftAlone};
 ghost use Rattle.law_heeded.specs.Owned.{AreApart, KeepsToItsFutures};
 ghost use Rattle.law_heeded.specs.Runs.{IsRunOf};
 
-/// Waits for several, locks, events and queues, and a part that isn't there, settle futures of their
-/// own alone, and what is their own was so or is made by the call.
+/// Waits for several, locks, events and queues, jobs, datagrams, and a part that isn't there, settle
+/// futures of their own alone, and what is their own was so or is made by the call.
 pub fn parts_keep_to_their_futures()
     ensures gather { KeepsToItsFutures gather_means }
     ensures sync { KeepsToItsFutures sync_means }
+    ensures exec { KeepsToItsFutures exec_means }
+    ensures dgram { KeepsToItsFutures dgram_means }
     ensures missing { KeepsToItsFutures no_extra }
 {}
 

@@ -11,7 +11,6 @@ use Rattle.model_loop.specs.Futures.{next_future}
 use Rattle.model_loop.specs.Parts.{Parts}
 use Rattle.model_says.specs.Operations.{out_of_range}
 use Rattle.model_machine.specs.Extra.{Answers, Asks, ExtraAnswer, ExtraCall, ExtraSaid, ExtraStep, MakesPlain, Raises, Waits}
-use Rattle.model_machine.specs.State.{State}
 use Rattle.model_reach.specs.Part.{can_draw, key_at, only_says, passes, place_of, refuses, stays}
 use Rattle.model_reach.specs.Reach.{OfDgram, OfExec, OfGather, OfSync, part_of_key}
 use Rattle.model_sync.specs.Synced.{wakes, without}

@@ -1,3 +1,3 @@
-mod Datagrams
-mod Jobs
+pub mod Datagrams
+pub mod Jobs
 pub mod Keys

@@ -25,7 +25,7 @@ use Rattle.law_calls.proofs.Turning.{run_in}
 use Rattle.law_locks.specs.Runs.{ComesByTries, is_of_sync, is_sync_code, served_in, tries_in, tries_of}
 use Rattle.law_locks.specs.Tries.{Asks, GoesOn, Reply, Try, kept_after, replies, said_of}
 
-after-append : (first next : List Try) (kept : Synced) → kept_after (first ++ next) kept ≡ kept_after next (kept_after first kept)
+pub after-append : (first next : List Try) (kept : Synced) → kept_after (first ++ next) kept ≡ kept_after next (kept_after first kept)
 after-append [] next kept = refl
 after-append (it ∷ first) next kept = after-append first next (said_of it kept).call.state
 
