@@ -1,8 +1,7 @@
 -- Jobs beside the loop make allowed steps alone, and what they keep stays right.
-use Rattle.std.proofs.Common.{◌≡◌, ℕ, ℤ, pos, ◌+◌, ◌<◌, ◌≤◌, ◌⊎◌, inl, inr, Bool, true, false, List, [], ◌∷◌, Option, Some, None, length}
+use Rattle.std.proofs.Common.{◌≡◌, ℕ, ℤ, pos, ◌+◌, ◌≤◌, ◌⊎◌, inl, inr, Bool, true, false, List, [], ◌∷◌, Option, Some, None}
 use Rattle.std.proofs.Common.{refl, sym, ap, subst, ◌∙◌, arith, le_refl, length-append}
 use Rattle.std.specs.Prelude.{if◌then◌else◌}
-use Rattle.std.specs.List.{AllByRecursion as Each}
 use Rattle.std.specs.Option.{option_map_or}
 use Rattle.model_value.specs.Input.{Input}
 use Rattle.model_value.specs.Value.{Nothing, Value}
@@ -15,7 +14,6 @@ use Rattle.model_loop.specs.Parts.{Parts, Plain}
 use Rattle.model_loop.specs.Tasks.{next_task}
 use Rattle.model_says.specs.Operations.{out_of_range}
 use Rattle.model_says.specs.Requests.{bad_argument}
-use Rattle.model_machine.specs.Extra as extra
 use Rattle.model_machine.specs.Extra.{Answers, Asks, ExtraAnswer, ExtraStep, MakesPlain, Raises, Settles, Waits, called, key_of, made_by, made_by_all, unknown_code}
 use Rattle.model_machine.specs.Sound.{IsNoneOf, IsOwned, names_made, sends_made}
 use Rattle.model_machine.specs.State.{State}
@@ -24,7 +22,6 @@ use Rattle.law_cancel.proofs.Lookups.{get-push_last}
 use Rattle.law_steps.proofs.CancelSound.{plain_within}
 use Rattle.law_runs.specs.Allowed.{AreAllowed, IsAllowed, IsAmong, IsAnswerAllowed, IsCallAllowed, IsKeyAllowed, IsOwn, IsSaidAllowed, MakesAllowedSteps, MayCall}
 use Rattle.law_runs.specs.Allowed.{Owns, owns_at}
-use Rattle.law_runs.proofs.Called.{steps_keep}
 use Rattle.law_runs.proofs.Steps.{all_after}
 use Rattle.model_fields.specs.Fields.{numbered}
 use Rattle.model_exec.specs.Jobs.{is_job, job_code, job_text}
