@@ -111,7 +111,8 @@ woken_fit : (key place : ℕ) (input : Input) (p : Parts) (kept : Execed) (o : O
 woken_fit key place (Send value) p kept None e = record { older = tt; waits = tt }
 woken_fit key place (Throw exception) p kept None e = record { older = tt; waits = tt }
 woken_fit key place input p kept (Some Asking) e = answered_fit key place input p kept e
-woken_fit key place (Send value) p kept (Some (Waiting on came)) e = record { older = tt; waits = tt }
+woken_fit key place (Send value) p kept (Some (Waiting on None)) e = record { older = tt; waits = tt }
+woken_fit key place (Send value) p kept (Some (Waiting on (Some result))) e = record { older = tt; waits = tt }
 woken_fit key place (Throw exception) p kept (Some (Waiting on came)) e = record { older = tt; waits = tt }
 
 given_older : (bound place : ℕ) (result : List ℕ) (kept : Execed) (o : Option Standing) → AreOlder bound (given_to o place result kept).steps

@@ -12,7 +12,7 @@ ghost use Rattle.model_exec.specs.Serving as serving;
 ghost use Rattle.model_fields.specs.Fields.{numbered as plain_numbered};
 ghost use Rattle.aio_task.specs.View.{View, parts as parts_of};
 ghost use Rattle.aio_exec.specs.Keeps.{came_in};
-ghost use Rattle.aio_exec.specs.Seen.{CallsSeen, SaysSeen, are_free, kept_of, own_of};
+ghost use Rattle.aio_exec.specs.Seen.{CallsSeen, Says, SaysSeen, are_free, kept_of, own_of};
 ghost use Rattle.aio_exec.specs.Wants.{wanted_as};
 
 use crate::jobs::Jobs;
@@ -43,16 +43,14 @@ fn is_decimal(alloc: Global, number: u64, bytes: &[u8]) -> Result<bool, Memory>
     Ok(same)
 }
 
-// What came, or else what was sent.
-fn came_as(came: Option<RcSlice<u8>>, value: Value) -> Value
-    ensures { result ≡ serving.came_as (option_map rc_slice_items came) value }
+// What came is the answer.
+fn came_as(alloc: Global, came: Option<RcSlice<u8>>) -> Result<Asked, Memory>
+    ensures { IfOk result (λ asked. Says asked
+        (serving.came_as (option_map rc_slice_items came))) }
 {
     match came {
-        Some(bytes) => {
-            drop(value);
-            Value::bytes(bytes)
-        }
-        None => value,
+        Some(bytes) => Ok(Asked::Answer(Value::bytes(bytes))),
+        None => strange_answer(alloc),
     }
 }
 
@@ -172,17 +170,20 @@ impl Exec {
     }
 
     // The task goes on.
-    fn waited(&mut self, place: u64, input: Input) -> Asked
-        ensures { (v : View) → SaysSeen (kept_of self.new) v v result
+    fn waited(&mut self, alloc: Global, place: u64, input: Input) -> Result<Asked, Memory>
+        ensures { IfOk result (λ asked. (v : View) → SaysSeen (kept_of self.new) v v asked
             (serving.waited place (came_in (standing_at place (kept_of self.old))) input
-            (kept_of self.old)) }
+            (kept_of self.old))) }
     {
         let came = self.requests.end(place);
         match input {
-            Input::Send(value) => Asked::Answer(came_as(came, value)),
+            Input::Send(value) => {
+                drop(value);
+                came_as(alloc, came)
+            }
             Input::Throw(fault) => {
                 forget(came);
-                Asked::Raise(fault)
+                Ok(Asked::Raise(fault))
             }
         }
     }
@@ -205,7 +206,7 @@ impl Exec {
         match self.requests.find(place) {
             Found::Nothing => Ok(passed(input)),
             Found::Asking => self.answered(alloc, key, place, input, parts),
-            Found::Waiting => Ok(self.waited(place, input)),
+            Found::Waiting => self.waited(alloc, place, input),
         }
     }
 

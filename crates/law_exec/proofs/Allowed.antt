@@ -4,7 +4,7 @@ use Rattle.std.proofs.Common.{refl, sym, ap, subst, ◌∙◌, arith, le_refl, l
 use Rattle.std.specs.Prelude.{if◌then◌else◌}
 use Rattle.std.specs.Option.{option_map_or}
 use Rattle.model_value.specs.Input.{Input}
-use Rattle.model_value.specs.Value.{Nothing, Value}
+use Rattle.model_value.specs.Value.{Bytes, Nothing, Value}
 use Rattle.model_value.specs.declared.input.Input.TheVariants.{Send, Throw}
 use Rattle.model_value.specs.declared.outcome.Outcome.TheVariants.{Value as Returned}
 use Rattle.model_loop.specs.Futures.{next_future}
@@ -206,20 +206,19 @@ module _ (running : Option ℕ) (s : State Execed) (may : MayCall exec_means run
         at false = no_more (Raises strange_answer) tt tt
     answered_allowed (Throw exception) = no_more (Raises exception) tt tt
 
-    waited_allowed : (came : Option (List ℕ)) (input : Input) → sends_made n input ≡ true
-        → IsSaidAllowed exec_means (Some key) (waited place came input s.extra) s
-    waited_allowed came (Send value) made = no_more (Answers (came_as came value)) (came_made came) tt
-      where
-        came_made : (came : Option (List ℕ)) → names_made n (came_as came value) ≡ true
-        came_made None = made
-        came_made (Some result) = refl
-    waited_allowed came (Throw exception) made = no_more (Raises exception) tt tt
+    came_allowed : (came : Option (List ℕ)) → IsSaidAllowed exec_means (Some key) (says (stand_no_more place s.extra) [] (came_as came)) s
+    came_allowed None = no_more (Raises strange_answer) tt tt
+    came_allowed (Some result) = no_more (Answers (Bytes result)) refl tt
+
+    waited_allowed : (came : Option (List ℕ)) (input : Input) → IsSaidAllowed exec_means (Some key) (waited place came input s.extra) s
+    waited_allowed came (Send value) = came_allowed came
+    waited_allowed came (Throw exception) = no_more (Raises exception) tt tt
 
     wake_allowed : (input : Input) → sends_made n input ≡ true → (o : Option Standing)
         → IsSaidAllowed exec_means (Some key) (woken o key place input p s.extra) s
     wake_allowed input made None = passes_allowed key input made
     wake_allowed input made (Some Asking) = answered_allowed input
-    wake_allowed input made (Some (Waiting on came)) = waited_allowed came input made
+    wake_allowed input made (Some (Waiting on came)) = waited_allowed came input
 
   -- ---- news
   given_allowed : (number place : ℕ) (result : List ℕ) (o : Option Standing) → standing_at place s.extra ≡ o

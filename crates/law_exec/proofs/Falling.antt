@@ -42,7 +42,8 @@ module _ (key place : ℕ) (s : State Execed) where
   again (Send value) None = (λ next e. no_key key next e, refl)
   again (Throw exception) None = (λ next e. no_key key next e, refl)
   again input (Some Asking) = answered_again input
-  again (Send value) (Some (Waiting on came)) = (λ next e. no_key key next e, refl)
+  again (Send value) (Some (Waiting on None)) = (λ next e. no_key key next e, refl)
+  again (Send value) (Some (Waiting on (Some result))) = (λ next e. no_key key next e, refl)
   again (Throw exception) (Some (Waiting on came)) = (λ next e. no_key key next e, refl)
 
 pub exec_falls : WakesFall exec_means

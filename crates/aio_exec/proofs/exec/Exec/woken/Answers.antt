@@ -1,4 +1,5 @@
 use Rattle.std.proofs.Common.{sym, ◌∙◌}
+use Rattle.std.proofs.lemmas.Result.{IfOk-weaker}
 use Rattle.model_exec.specs.Execed.{standing_at}
 use Rattle.aio_task.specs.View.{parts}
 use Rattle.aio_exec.specs.Seen.{kept_of}
@@ -9,5 +10,6 @@ pub returns-in-Waiting : goal.returns-in-Waiting
 returns-in-Waiting c =
     let a = c.args in
     let x = kept_of a.self.now in
-    woken_waiting x (kept_of c.waited.new.self) a.parts.now a.parts.now a.key a.place a.input c.waited.result (parts a.parts.now)
-    (standing_at a.place x) (sym c.find.ensures ∙ c.in-Waiting.is) (c.waited.ensures a.parts.now)
+    IfOk-weaker c.waited.result _ _
+    (λ asked seen. woken_waiting x (kept_of c.waited.new.self) a.parts.now a.parts.now a.key a.place a.input asked (parts a.parts.now)
+    (standing_at a.place x) (sym c.find.ensures ∙ c.in-Waiting.is) (seen a.parts.now)) c.waited.ensures
