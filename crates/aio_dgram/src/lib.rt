@@ -3,13 +3,9 @@
 
 mod datagram;
 mod endpoint;
-mod fields;
-mod keys;
-mod receiving;
-mod requests;
-mod sending;
-mod serving;
-mod table;
-mod wanted;
+mod said;
+mod waiting;
 
-pub use serving::Dgram;
+pub use datagram::{Came, Datagram};
+pub use endpoint::Endpoint;
+pub use waiting::Waiting;

@@ -3,3 +3,4 @@ pub mod Comes
 pub mod Keys
 pub mod Allowed
 pub mod Falling
+pub mod Tidying

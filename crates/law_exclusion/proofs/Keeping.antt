@@ -1,5 +1,6 @@
 -- What is so of those who wait goes on with each call of a run: what that owes.
-use Rattle.std.proofs.Common.{◌≡◌, ◌⊎◌, inl, inr, ℕ, ◌+◌, ◌<◌, ℤ, Bool, true, false, List, [], Option, Some, None, slice_get, refl, sym, ap, subst, ◌∙◌, arith, le_refl}
+use Rattle.std.proofs.Common.{◌≡◌, ◌⊎◌, inl, inr, ℕ, ◌+◌, ◌<◌, ℤ, Bool, true, false, List, [], Option, Some, None, slice_get, refl, sym, ap, subst, ◌∙◌}
+use Rattle.std.proofs.Common.{arith, le_refl}
 use Rattle.std.proofs.Common.{if◌then◌else◌}
 use Rattle.std.specs.List.{AllByRecursion as Each}
 use Rattle.std.specs.Option.{option_map_or}
@@ -25,7 +26,7 @@ use Rattle.model_sync.specs.Events.{waited}
 use Rattle.model_sync.specs.Locks.{acquired}
 use Rattle.model_sync.specs.Queues.{getting, putting}
 use Rattle.model_sync.specs.Serving.{Wanted, asked_for, named, served, sync_means, wanted_of, woken}
-use Rattle.model_sync.specs.Synced.{Acquires, Awaits, Gets, Puts, Synced, Waiting, next_key, on_of, sync_keeps, sync_part, waiting_at}
+use Rattle.model_sync.specs.Synced.{Acquires, Awaits, Event, Gets, Lock, Puts, Queue, Synced, Waiting, next_key, on_of, sync_keeps, sync_part, waiting_at}
 use Rattle.law_apart.specs.Apart.{Leaves, TaskApart}
 use Rattle.law_heeded.specs.Between.{AreDisjoint}
 use Rattle.law_heeded.specs.Owned.{AreApart, KeepsToItsFutures, is_own}
@@ -41,7 +42,8 @@ use Rattle.law_sync.proofs.Comes.{Comes, acquired_comes, getting_comes, putting_
 use Rattle.law_sync.proofs.Holding.{EventHolds, LockHolds, QueueHolds}
 use Rattle.law_sync.proofs.Lists.{each_at, each_found}
 use Rattle.law_exclusion.specs.Beside.{WaitsUnderItsKeys}
-use Rattle.law_exclusion.proofs.Holding.{Any, HeardAt, Inv, InvCalled, InvWoken, HeardFact, IsNew, Mine, Old, WaitsSo, after, beside_inv, fine_on, mine_on, no_steps, of_all}
+use Rattle.law_exclusion.proofs.Holding.{Any, HeardAt, Inv, InvCalled, InvWoken, HeardFact, IsNew, Mine, Old, WaitsSo, after, beside_inv, fine_on, mine_on}
+use Rattle.law_exclusion.proofs.Holding.{no_steps, of_all}
 use Rattle.law_exclusion.proofs.Holding.{other_inv, others_wait, said_inv, still_inv}
 use Rattle.law_exclusion.proofs.Keys.{key_sync, place_at, same_key}
 use Rattle.law_exclusion.proofs.Standing.{IsNoFailure, fresh_none, heard_of, no_cycle}
@@ -190,6 +192,23 @@ module _ {A C D : Type 0} (gather : Extra A) (exec : Extra C) (dgram : Extra D) 
     named_inv None next is each = nothing_said task _ s is refl (passes_waits input _) a inv
     named_inv (Some it) next is each = each it refl is
 
+    lock_there : (id : ℕ) (lock : Lock) → slice_get s.extra.sync.locks id ≡ Some lock
+        → LockHolds (Old gather exec dgram s.extra) (Any gather exec dgram) lock
+    lock_there id lock found =
+        each_at (LockHolds (Old gather exec dgram s.extra) (Any gather exec dgram)) s.extra.sync.locks id lock found (holds (seen_by s.extra.sync s)).locks
+
+    event_there : (id : ℕ) (event : Event) → slice_get s.extra.sync.events id ≡ Some event
+        → EventHolds (Old gather exec dgram s.extra) (Any gather exec dgram) event
+    event_there id event found =
+        each_at (EventHolds (Old gather exec dgram s.extra) (Any gather exec dgram)) s.extra.sync.events id event found
+        (holds (seen_by s.extra.sync s)).events
+
+    queue_there : (id : ℕ) (queue : Queue) → slice_get s.extra.sync.queues id ≡ Some queue
+        → QueueHolds (Old gather exec dgram s.extra) (Any gather exec dgram) queue
+    queue_there id queue found =
+        each_at (QueueHolds (Old gather exec dgram s.extra) (Any gather exec dgram)) s.extra.sync.queues id queue found
+        (holds (seen_by s.extra.sync s)).queues
+
     woken_inv : (o : Option Waiting) → waiting_at (place_of sync_part key) s.extra.sync ≡ o
         → PartKept OfSync (after gather exec dgram (woken o key (place_of sync_part key) input s.loop.parts s.extra.sync) s) s
         → Called task (woken o key (place_of sync_part key) input s.loop.parts s.extra.sync).answer
@@ -199,14 +218,14 @@ module _ {A C D : Type 0} (gather : Extra A) (exec : Extra C) (dgram : Extra D) 
         named_inv (slice_get s.extra.sync.locks id) (λ lock. acquired (place_of sync_part key) id on input lock s.extra.sync) is
         (λ lock found. goes_inv _
         (acquired_comes _ _ tt (λ is_. tt) (λ number. tt) s.loop.parts s.extra.sync (holds (seen_by s.extra.sync s)) key (place_of sync_part key) id on input
-        lock (each_at (LockHolds (Old gather exec dgram s.extra) (Any gather exec dgram)) s.extra.sync.locks id lock found (holds (seen_by s.extra.sync s)).locks))
+        lock (lock_there id lock found))
         (resumes_list s.loop.parts s.extra.sync key (place_of sync_part key) (Acquires id on) input _
         (acquired_is s.loop.parts s.extra.sync key (place_of sync_part key) id on input lock found)))
     woken_inv (Some (Awaits id on)) e is =
         named_inv (slice_get s.extra.sync.events id) (λ event. waited (place_of sync_part key) id on input event s.extra.sync) is
         (λ event found. goes_inv _
         (waited_comes _ _ tt (λ is_. tt) (λ number. tt) s.loop.parts s.extra.sync (holds (seen_by s.extra.sync s)) key (place_of sync_part key) id on input
-        event (each_at (EventHolds (Old gather exec dgram s.extra) (Any gather exec dgram)) s.extra.sync.events id event found (holds (seen_by s.extra.sync s)).events))
+        event (event_there id event found))
         (resumes_list s.loop.parts s.extra.sync key (place_of sync_part key) (Awaits id on) input _
         (waited_is s.loop.parts s.extra.sync key (place_of sync_part key) id on input event found)))
     woken_inv (Some (Puts id value on)) e is =
@@ -214,14 +233,14 @@ module _ {A C D : Type 0} (gather : Extra A) (exec : Extra C) (dgram : Extra D) 
         (λ queue. putting key (place_of sync_part key) id on value input queue s.loop.parts s.extra.sync) is
         (λ queue found. goes_inv _
         (putting_comes _ _ tt (λ is_. tt) (λ number. tt) s.loop.parts s.extra.sync (holds (seen_by s.extra.sync s)) key (place_of sync_part key) id on value
-        tt input queue (each_at (QueueHolds (Old gather exec dgram s.extra) (Any gather exec dgram)) s.extra.sync.queues id queue found (holds (seen_by s.extra.sync s)).queues) (Puts id value on) e)
+        tt input queue (queue_there id queue found) (Puts id value on) e)
         (resumes_list s.loop.parts s.extra.sync key (place_of sync_part key) (Puts id value on) input _
         (putting_is s.loop.parts s.extra.sync key (place_of sync_part key) id on value input queue found)))
     woken_inv (Some (Gets id on)) e is =
         named_inv (slice_get s.extra.sync.queues id) (λ queue. getting key (place_of sync_part key) id on input queue s.loop.parts s.extra.sync) is
         (λ queue found. goes_inv _
         (getting_comes _ _ tt (λ is_. tt) (λ number. tt) s.loop.parts s.extra.sync (holds (seen_by s.extra.sync s)) key (place_of sync_part key) id on input
-        queue (each_at (QueueHolds (Old gather exec dgram s.extra) (Any gather exec dgram)) s.extra.sync.queues id queue found (holds (seen_by s.extra.sync s)).queues) (Gets id on) e)
+        queue (queue_there id queue found) (Gets id on) e)
         (resumes_list s.loop.parts s.extra.sync key (place_of sync_part key) (Gets id on) input _
         (getting_is s.loop.parts s.extra.sync key (place_of sync_part key) id on input queue found)))
 

@@ -15,7 +15,8 @@ use Rattle.model_reach.specs.Part.{can_draw, place_of, refuses, stays}
 use Rattle.model_sync.specs.Events.{waited}
 use Rattle.model_sync.specs.Locks.{acquired}
 use Rattle.model_sync.specs.Queues.{getting, putting}
-use Rattle.model_sync.specs.Serving.{Acquire, Clear, Get, IsLocked, IsSet, MakesEvent, MakesLock, MakesQueue, Put, Release, Set, Size, Wait, Wanted, asked_for, named}
+use Rattle.model_sync.specs.Serving.{Acquire, Clear, Get, IsLocked, IsSet, MakesEvent, MakesLock, MakesQueue, Put, Release, Set, Size, Wait, Wanted}
+use Rattle.model_sync.specs.Serving.{asked_for, named}
 use Rattle.model_sync.specs.Serving.{served, sync_means, wanted_of, woken}
 use Rattle.model_sync.specs.Synced.{Acquires, Awaits, Gets, Puts, Synced, Waiting, sync_keeps, sync_part, waiting_at}
 use Rattle.law_runs.specs.Allowed.{IsAmong}

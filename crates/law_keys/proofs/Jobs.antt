@@ -69,7 +69,8 @@ woken_of_exec key place (Send value) p kept of (Some Asking) = at (is_next kept 
     at true = ((tt, tt), of)
     at false = (tt, tt)
 woken_of_exec key place (Throw exception) p kept of (Some Asking) = (tt, tt)
-woken_of_exec key place (Send value) p kept of (Some (Waiting on came)) = (tt, tt)
+woken_of_exec key place (Send value) p kept of (Some (Waiting on None)) = (tt, tt)
+woken_of_exec key place (Send value) p kept of (Some (Waiting on (Some result))) = (tt, tt)
 woken_of_exec key place (Throw exception) p kept of (Some (Waiting on came)) = (tt, tt)
 
 -- ---- news

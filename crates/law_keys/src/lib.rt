@@ -1,12 +1,15 @@
-//! That locks, events and queues keep to keys of their own, and so what is promised of waiters is
-//! so of the program itself. There is no code: each function's clauses are the law.
+//! That locks, events and queues, jobs and datagrams keep to keys of their own, and so what is
+//! promised of waiters is so of the program itself. There is no code: each function's clauses are
+//! the law.
 #![tactic(auto)]
 
 ghost use Rattle.std.specs.Prelude.{ℕ, List};
 ghost use Rattle.model_tree.specs.Syntax.{Program};
 ghost use Rattle.model_wire.specs.Journal.{Entry};
 ghost use Rattle.model_machine.specs.State.{start};
-ghost use Rattle.model_reach.specs.Reach.{OfSync};
+ghost use Rattle.model_dgram.specs.Serving.{dgram_means};
+ghost use Rattle.model_exec.specs.Serving.{exec_means};
+ghost use Rattle.model_reach.specs.Reach.{OfDgram, OfExec, OfSync};
 ghost use Rattle.model_sync.specs.Serving.{sync_means};
 ghost use Rattle.model_program.specs.Added.{added, first_added};
 ghost use Rattle.law_kept.specs.Runs.{IsRunOf};
@@ -16,6 +19,12 @@ ghost use Rattle.law_waiters.specs.Timed.{AsksOnce, KeepsToKeys};
 /// theirs that waits stands under the key that it drew.
 pub fn locks_events_and_queues_keep_to_their_keys()
     ensures { KeepsToKeys OfSync sync_means }
+{}
+
+/// Nor do jobs and datagrams; each of their requests stands under the key that it drew.
+pub fn jobs_and_datagrams_keep_to_their_keys()
+    ensures jobs { KeepsToKeys OfExec exec_means }
+    ensures datagrams { KeepsToKeys OfDgram dgram_means }
 {}
 
 /// In each state of each run of every script in the program, over whatever the outside answers: a

@@ -1,45 +1,41 @@
 -- What is so of all gathers and waits stays so, whatever is called of them.
-use Rattle.std.proofs.Common.{◌≡◌, ◌≤◌, ◌+◌, ◌-◌, ℕ, ℤ, suc, Bool, true, false, List, [], ◌∷◌, ◌++◌, Option, Some, None}
-use Rattle.std.proofs.Common.{if◌then◌else◌, length, length-append, map, filter, not, slice_get, slice_set, refl, sym, ap, subst, ◌∙◌, arith}
+use Rattle.std.proofs.Common.{◌≡◌, ◌+◌, ◌-◌, ℕ, ℤ, Bool, true, false, List, [], ◌∷◌, ◌++◌, Option, Some, None}
+use Rattle.std.proofs.Common.{if◌then◌else◌, length, map, slice_get, slice_set, refl, ap, subst, ◌∙◌, arith}
 use Rattle.std.proofs.Math.ListN.{length-set}
-use Rattle.std.specs.List.{AllByRecursion as Each, sum_by}
+use Rattle.std.specs.List.{sum_by}
 use Rattle.std.specs.Option.{option_map_or}
-use Rattle.std.proofs.lemmas.List.Filters.{length-filter_both}
-use Rattle.std.proofs.lemmas.List.Sums.{sum_by-append, sum_by-cons}
+use Rattle.std.proofs.lemmas.List.Sums.{sum_by-append}
 use Rattle.model_value.specs.Action.{Action}
 use Rattle.model_value.specs.declared.action.Action.TheVariants as action
 use Rattle.model_value.specs.Input.{Input}
 use Rattle.model_value.specs.Value.{Items, Outcome, Value, no_values}
-use Rattle.model_loop.specs.Futures.{future_outcome, is_pending, next_future}
+use Rattle.model_loop.specs.Futures.{future_outcome, next_future}
 use Rattle.model_loop.specs.Loop.{Loop}
-use Rattle.model_loop.specs.Parts.{Handle, Many, Parts, Plain}
+use Rattle.model_loop.specs.Parts.{Handle, Parts}
 use Rattle.model_loop.specs.Tasks.{cancelling, future_of}
 use Rattle.model_says.specs.Operations.{out_of_range}
-use Rattle.model_machine.specs.Extra.{Answers, Cancels, ExtraAnswer, ExtraCall, ExtraSaid, ExtraStep, MakesMany, MakesPlain, Raises, Uncancels}
-use Rattle.model_machine.specs.Extra.{CallsLater, made_by, made_by_all}
+use Rattle.model_machine.specs.Extra.{Answers, Cancels, ExtraAnswer, ExtraCall, ExtraSaid, ExtraStep, Raises, Uncancels}
+use Rattle.model_machine.specs.Extra.{made_by_all}
 use Rattle.model_machine.specs.Outcomes.{input_of}
 use Rattle.model_machine.specs.State.{State}
 use Rattle.model_reach.specs.Part.{can_draw, key_at, passes, refuses}
-use Rattle.model_gather.specs.Gathered.{Argument, Answered, Drawn, Expired, Expiring, Finished, Gathered, Gathering, Gathers, Rings, Shields, Tells, Timed}
+use Rattle.model_gather.specs.Gathered.{Argument, Answered, Drawn, Expired, Expiring, Finished, Gathered, Gathers, Rings, Shields, Tells, Timed}
 use Rattle.model_gather.specs.Gathered.{TimedState, TimedWait, WaitMode, Waiting, Waits, WaitsFor, at_once, distinct, distinct_arguments, drawn_after, drawn_at}
-use Rattle.model_gather.specs.Gathered.{draws, futures_of, gather_part, registered_from, resolved, settled_as}
-use Rattle.model_gather.specs.Gather.{Counted as Counting, count, count_all, gather, gather_all, was_asked}
+use Rattle.model_gather.specs.Gathered.{draws, futures_of, gather_part, resolved, settled_as}
+use Rattle.model_gather.specs.Gather.{count, gather, gather_all, was_asked}
 use Rattle.model_gather.specs.Serving.{OfGather, OfShield, OfWait, OfWaitFor, Request, Wanted, acted, asked, gather_means, requested, rung, serve, served, told}
 use Rattle.model_gather.specs.Serving.{wanted_of, woken}
 use Rattle.model_gather.specs.Shield.{shield, shield_open}
-use Rattle.model_gather.specs.Wait.{bad_mode, empty_set, handle_if_some, is_over, one_if_some, revoked, rings_after, rings_at}
+use Rattle.model_gather.specs.Wait.{bad_mode, empty_set, handle_if_some, is_over, one_if_some, revoked}
 use Rattle.model_gather.specs.Wait.{tag_if_some, wait, wait_all}
 use Rattle.model_gather.specs.WaitFor.{bad_timeout, may_time, wait_for, wait_for_all, wait_for_woken}
 use Rattle.law_cancel.proofs.Lookups.{get-set_kept, get-set_other, get-set_same}
-use Rattle.law_waiters.proofs.Drawing.{length_tells}
 use Rattle.law_members.proofs.Asking.{counted_of, gather_fit, gather_steps, open_of, shield_fit, shield_steps, timed_fit, timed_steps, wait_fit, wait_steps}
 use Rattle.law_members.proofs.Asking.{waiting_of}
-use Rattle.law_members.proofs.Coming.{one_of}
-use Rattle.law_members.proofs.Counted.{Counts, IsIn, counted_down, goes_on, is_told, same_counted, taken_left, the_key}
-use Rattle.law_members.proofs.Drawing.{IsWithin, KeepsCounted, counts_at, counts_in, more_counted, rings_within, settled_makes, settled_within, tells_at}
+use Rattle.law_members.proofs.Counted.{Counts, counted_down, goes_on, same_counted, taken_left, the_key}
+use Rattle.law_members.proofs.Drawing.{KeepsCounted, counts_at, counts_in, more_counted, settled_makes, tells_at}
 use Rattle.law_members.proofs.Drawing.{tells_in}
-use Rattle.law_members.proofs.Drawing.{registered_within}
-use Rattle.law_members.proofs.Entering.{CountsAll, counting_fit, counts_all, in_distinct, in_filter, no_more, plain_fit, tail_alone, tail_of}
+use Rattle.law_members.proofs.Entering.{no_more, plain_fit, tail_alone}
 use Rattle.law_members.proofs.Onward.{Onward, makes, steps_coming, steps_stay, taken_onward}
 
 -- a shield by what it shields

@@ -14,7 +14,8 @@ use Rattle.model_value.specs.declared.action.Action.TheVariants as action
 use Rattle.model_value.specs.Value.{Outcome}
 use Rattle.model_loop.proofs.FutureCases.{registered as registered_by, registered_on, settled, settled_as}
 use Rattle.model_loop.specs.Cancel.{cancel}
-use Rattle.model_loop.specs.Futures.{asked_kind, future_outcome, is_pending, is_pending_at, make_future, mark_asked, next_future, outcome_at, register, settle, with_future}
+use Rattle.model_loop.specs.Futures.{asked_kind, future_outcome, is_pending, is_pending_at, make_future, mark_asked, next_future, outcome_at, register}
+use Rattle.model_loop.specs.Futures.{settle, with_future}
 use Rattle.model_loop.specs.Handles.{due, later, revoke, soon, soon_all}
 use Rattle.model_loop.specs.Loop.{Loop}
 use Rattle.model_loop.specs.Parts.{FutureKind, Plain, OfTask, Many, Future, Handle, Parts, Task}

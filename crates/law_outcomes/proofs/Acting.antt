@@ -1,73 +1,60 @@
--- What is so of the futures stays so as a handle runs, and as a task goes on.
-use Rattle.std.proofs.Common.{◌≡◌, ◌<◌, ◌≤◌, ◌+◌, ◌-◌, ◌==◌, ◌||◌, ◌&&◌, ◌⊎◌, inl, inr, ℕ, suc, Bool, true, false, cond, not, List, [], ◌∷◌, ◌++◌, Option, Some, None}
+-- What is so of the futures stays so as a handle runs.
+use Rattle.std.proofs.Common.{◌≡◌, ◌<◌, ◌≤◌, ◌+◌, ◌-◌, ◌==◌, ◌||◌, ◌&&◌, ◌⊎◌, inl, inr, ℕ, Bool, true, false, not, List, [], ◌∷◌, Option, Some, None}
 use Rattle.std.proofs.Common.{if◌then◌else◌, length, slice_get, slice_set, refl, sym, ap, subst, ◌∙◌, arith}
-use Rattle.std.specs.List.{AllByRecursion as Each, count_by, sum_by}
+use Rattle.std.specs.List.{AllByRecursion as Each, count_by}
 use Rattle.std.specs.Option.{option_map_or}
 use Rattle.std.proofs.lemmas.Bool.{cases_eq, cases_lt, eq-eqb, eqb-true, false≢true}
-use Rattle.std.proofs.lemmas.List.Sums.{sum_by-append}
 use Rattle.std.proofs.lemmas.Option.{none-some, same_Some}
-use Rattle.model_value.specs.Action.{Action}
 use Rattle.model_value.specs.declared.action.Action.TheVariants as action
-use Rattle.model_value.specs.Input.{Input}
 use Rattle.model_value.specs.Value.{Outcome}
 use Rattle.model_loop.specs.Futures.{future_outcome, is_pending, next_future}
 use Rattle.model_loop.specs.Loop.{Loop}
 use Rattle.model_loop.specs.Parts.{Handle, Parts}
 use Rattle.model_loop.specs.Tasks.{future_of}
-use Rattle.model_loop.specs.Totals.{callbacks_at, callbacks_of}
-use Rattle.model_machine.specs.Extra.{Cancels, ExtraCall, ExtraStep, Uncancels, made_by, made_by_all}
+use Rattle.model_loop.specs.Totals.{callbacks_at}
+use Rattle.model_machine.specs.Extra.{Cancels, made_by_all}
 use Rattle.model_reach.specs.Part.{key_at}
-use Rattle.model_gather.specs.Gathered.{AllCompleted, Drawn, Expired, Expiring, Finished, FirstCompleted, FirstException, Gathered, Gathering, Gathers, Rings, Shields}
-use Rattle.model_gather.specs.Gathered.{Tells, Timed, TimedState, TimedWait, WaitMode, Waiting, Waits, WaitsFor, drawn_at, futures_of, gather_part, resolved, settled_as}
-use Rattle.model_gather.specs.Gather.{count, is_value, items_of, result_of, was_asked}
-use Rattle.model_gather.specs.Serving.{acted, rung, told, woken}
-use Rattle.model_gather.specs.Wait.{is_failure, is_over, revoked}
-use Rattle.model_gather.specs.WaitFor.{wait_for_woken}
+use Rattle.model_gather.specs.Gathered.{AllCompleted, Drawn, Expiring, FirstCompleted, FirstException, Gathered, Gathering, Gathers, Rings}
+use Rattle.model_gather.specs.Gathered.{Shields}
+use Rattle.model_gather.specs.Gathered.{Tells, WaitMode, Waiting, Waits, WaitsFor, drawn_at, futures_of, gather_part, resolved}
+use Rattle.model_gather.specs.Gathered.{settled_as}
+use Rattle.model_gather.specs.Gather.{count, was_asked}
+use Rattle.model_gather.specs.Serving.{acted, rung, told}
+use Rattle.model_gather.specs.Wait.{is_failure, is_over}
 use Rattle.law_apart.specs.Apart.{StaysOrIsCancelled}
 use Rattle.law_runs.specs.Allowed.{IsAmong}
 use Rattle.law_cancel.proofs.Lookups.{get-set_kept, get-set_other, get-set_same}
 use Rattle.law_waiters.proofs.Counting.{count_decides}
 use Rattle.law_waiters.proofs.Drawing.{ring_in}
-use Rattle.law_waiters.proofs.Fitting.{each_append}
 use Rattle.law_waiters.specs.Answers as gets
 use Rattle.law_waiters.specs.Answers.{GatherGets}
 use Rattle.law_waiters.specs.Timed.{is_key}
-use Rattle.law_members.specs.Handles.{coming, registered}
+use Rattle.law_members.specs.Handles.{coming}
 use Rattle.law_members.specs.Members.{IsDone}
-use Rattle.law_members.proofs.Calling.{revoked_makes, told_keeps, revoked_onward, settled_onward, still_onward}
+use Rattle.law_members.proofs.Calling.{told_keeps, settled_onward, still_onward}
 use Rattle.law_members.proofs.Coming.{one_of, registered_there, taken_coming}
 use Rattle.law_members.proofs.Counted.{Counts, IsIn, none_pending, pending_found, the_key}
 use Rattle.law_members.proofs.Drawing.{KeepsCounted, counts_in, tells_in}
-use Rattle.law_members.proofs.Onward.{Onward, makes, onward_then, taken_onward}
+use Rattle.law_members.proofs.Onward.{Onward, onward_then, taken_onward}
 use Rattle.law_members.proofs.Walking.{outcome_there}
 use Rattle.law_outcomes.specs.Came as came
 use Rattle.law_outcomes.specs.Came.{GatherCame, HasGoneOn, ShieldCame, WaitCame, WaitIsOver}
 use Rattle.law_outcomes.proofs.Asking.{CallRight, none_in, shield_in}
 use Rattle.law_outcomes.proofs.Counting.{gather_same, gone_same}
 use Rattle.law_outcomes.proofs.Drawing.{KeepsRight}
-use Rattle.law_outcomes.proofs.Handles.{SettlesAt, key_is_of, revoked_settles, settle_gives, settled_settles, steps_others}
+use Rattle.law_outcomes.proofs.Handles.{key_is_of, settle_gives, settled_settles, steps_others}
 use Rattle.law_outcomes.proofs.Lists.{each_in, in_among, in_or_not, set_there, without, without_one, without_others}
-use Rattle.law_outcomes.proofs.Right.{AreBefore, EntryCame, Right, Uncounted, each_done, entry_on, gather_on, no_more, same_for, goes_right, gone_on, own_in, replaced_right}
+use Rattle.law_outcomes.proofs.Right.{AreBefore, EntryCame, Right, Uncounted, each_done, entry_on, gather_on, no_more, same_for, goes_right, own_in}
+use Rattle.law_outcomes.proofs.Right.{replaced_right}
+use Rattle.law_outcomes.proofs.Waking.{plain_at}
 
 -- a wait of which others are left
-wait_fewer : (at at' : ℕ → Option Drawn) (p q : Parts) (k left : ℕ) (it : Waiting) (o : Option Outcome) → (WaitIsOver at p k it → WaitIsOver at' q k (record it { left = left }))
+wait_fewer : (at at' : ℕ → Option Drawn) (p q : Parts) (k left : ℕ) (it : Waiting) (o : Option Outcome)
+    → (WaitIsOver at p k it → WaitIsOver at' q k (record it { left = left }))
     → WaitCame at p k it o → WaitCame at' q k (record it { left = left }) o
 wait_fewer at at' p q k left it _ on came.still_waits = came.still_waits
 wait_fewer at at' p q k left it _ on (came.goes_on over) = came.goes_on (on over)
 wait_fewer at at' p q k left it _ on came.is_cancelled = came.is_cancelled
-
--- an entry is replaced that has no future
-pub plain_at : (kept : Gathered) (p : Parts) → KeepsRight kept p → (k : ℕ) (old new : TimedWait) (q : Parts) → slice_get kept.drawn k ≡ Some (WaitsFor old)
-    → Onward p q → ((i on : ℕ) → own_in (slice_get kept.drawn i) ≡ Some on → StaysOrIsCancelled p q on)
-    → KeepsRight (drawn_at k (WaitsFor new) kept) q
-plain_at kept p r k old new q found onward leaves =
-    let is_new = get-set_same kept.drawn k (WaitsFor old) (WaitsFor new) found in
-    replaced_right r (slice_get (slice_set kept.drawn k (WaitsFor new))) k q onward (λ l apart. get-set_other kept.drawn k l (WaitsFor new) apart)
-    (ap own_in is_new ∙ sym (ap own_in found)) (ap tells_in is_new ∙ sym (ap tells_in found))
-    (λ l e. absurd (none-some l (sym (ap ring_in found) ∙ ap ring_in e)))
-    (λ on e. absurd (none-some on (sym (ap shield_in is_new) ∙ ap shield_in e)))
-    (λ it e. absurd (none-some it (sym (ap counts_in is_new) ∙ e))) (λ l on apart e. leaves l on e)
-    (subst (EntryCame (slice_get (slice_set kept.drawn k (WaitsFor new))) q k) (sym is_new) tt)
 
 -- ---- a handle that is first runs
 module _ (kept : Gathered) (l : Loop) (r : KeepsRight kept l.parts) (c : KeepsCounted kept l.parts) (handle : Handle) (rest : List Handle) (j : ℕ)
@@ -233,7 +220,8 @@ module _ (kept : Gathered) (l : Loop) (r : KeepsRight kept l.parts) (c : KeepsCo
         by n (inr gone_) = gone_
 
     -- what its future came to where it was pending
-    newly : AreBefore it.outer it.awaited → (asked : Bool) (counted : Outcome) → future_outcome l.parts m ≡ Some counted → future_outcome l.parts it.outer ≡ None
+    newly : AreBefore it.outer it.awaited → (asked : Bool) (counted : Outcome) → future_outcome l.parts m ≡ Some counted
+        → future_outcome l.parts it.outer ≡ None
         → (outcome : Outcome) → GatherGets now.parts asked counted fewer (Some outcome) → GatherCame l.parts it (Some outcome)
     newly before asked counted done none _ (gets.raises raised no_value) = came.raises m counted (in_among m it.awaited among) done raised no_value
     newly before asked counted done none _ (gets.is_cancelled may left was_asked_) = came.is_cancelled
@@ -364,12 +352,12 @@ module _ (kept : Gathered) (l : Loop) (r : KeepsRight kept l.parts) (c : KeepsCo
       all_done : AreBefore it.on (futures_of it.arguments) → less.left ≡ 0 → Each (IsDone (heard_after (Some resolved))) (futures_of it.arguments)
       all_done before none =
           each_in (IsDone (heard_after (Some resolved))) (futures_of it.arguments) (λ n h.
-              let its : Counts = record { own = it.on; members = futures_of it.arguments; left = it.left - 1 } in
-              let low = before n h in
-              let own = made k it.on (Waits it) (Waits less) found refl refl refl refl refl counts_less in
-              let more = (heard_onward (Some resolved)).stays.made in
-              outcome_there (drawn_at k (Waits less) kept) (heard_after (Some resolved)) c' n (omega (arith, low, own, more))
-              (none_pending c' k its (ap counts_in (get-set_same kept.drawn k (Waits it) (Waits less) found)) none n h low))
+          let its : Counts = record { own = it.on; members = futures_of it.arguments; left = it.left - 1 } in
+          let low = before n h in
+          let own = made k it.on (Waits it) (Waits less) found refl refl refl refl refl counts_less in
+          let more = (heard_onward (Some resolved)).stays.made in
+          outcome_there (drawn_at k (Waits less) kept) (heard_after (Some resolved)) c' n (omega (arith, low, own, more))
+          (none_pending c' k its (ap counts_in (get-set_same kept.drawn k (Waits it) (Waits less) found)) none n h low))
 
       why : AreBefore it.on (futures_of it.arguments) → (outcome : Outcome) → future_outcome l.parts m ≡ Some outcome → is_over outcome less ≡ true
           → WaitIsOver heard_at (heard_after (Some resolved)) k less
@@ -395,7 +383,8 @@ module _ (kept : Gathered) (l : Loop) (r : KeepsRight kept l.parts) (c : KeepsCo
           → future_outcome l.parts it.on ≡ o → EntryCame heard_at (heard_after (Some resolved)) k (Some (Waits less))
       resolved_as outcome done over None e before =
           subst (WaitCame heard_at (heard_after (Some resolved)) k less)
-          (sym (outcome_then k it.on (Waits it) (Waits less) found refl refl refl refl refl counts_less resolved e)) (came.goes_on (why before outcome done over))
+          (sym (outcome_then k it.on (Waits it) (Waits less) found refl refl refl refl refl counts_less resolved e))
+          (came.goes_on (why before outcome done over))
       resolved_as outcome done over (Some earlier) e before =
           subst (WaitCame heard_at (heard_after (Some resolved)) k less)
           (sym (outcome_still k it.on (Waits it) (Waits less) found refl refl refl refl refl counts_less (Some resolved) earlier e))
@@ -471,8 +460,8 @@ module _ (kept : Gathered) (l : Loop) (r : KeepsRight kept l.parts) (c : KeepsCo
         (settled_right k on (Shields on) (Shields on) found refl refl refl refl refl counts_nothing (future_outcome now.parts m)
         (subst (λ o. EntryCame (slice_get (slice_set kept.drawn k (Shields on))) (passed_after o) k (Some (Shields on))) (sym done.1)
         (λ i n e.
-            let f = sym (tells_is k on (Shields on) (Shields on) found refl refl refl refl refl counts_nothing i) ∙ e in
-            pass_came done.0 done.1 (future_outcome l.parts on) refl n (one_alone i n f) (shielded_was i n f))))
+        let f = sym (tells_is k on (Shields on) (Shields on) found refl refl refl refl refl counts_nothing i) ∙ e in
+        pass_came done.0 done.1 (future_outcome l.parts on) refl n (one_alone i n f) (shielded_was i n f))))
 
   -- ---- the time of a wait is over
   module _ (k : ℕ) (it : Waiting) (found : at k ≡ Some (Waits it)) (rings : at j ≡ Some (Rings k)) where
@@ -523,9 +512,9 @@ module _ (kept : Gathered) (l : Loop) (r : KeepsRight kept l.parts) (c : KeepsCo
     told_right k m e (Some (Waits it)) found =
         wait_told_right k m it found (ap tells_in e)
         (λ over over_.
-            subst (λ b. KeepsCounted (drawn_at k (Waits (record it { left = it.left - 1 })) kept)
-            (made_by_all (settled_as (if b then Some resolved else None) it.on) now).parts) over_
-            (told_keeps kept l c handle rest j first live is k m (ap tells_in e) (Some (Waits it)) found))
+        subst (λ b. KeepsCounted (drawn_at k (Waits (record it { left = it.left - 1 })) kept)
+        (made_by_all (settled_as (if b then Some resolved else None) it.on) now).parts) over_
+        (told_keeps kept l c handle rest j first live is k m (ap tells_in e) (Some (Waits it)) found))
     told_right k m e (Some (Shields on)) found = shield_told_right k m on found (ap tells_in e)
     told_right k m e _ found = taken_right
 
@@ -533,43 +522,3 @@ module _ (kept : Gathered) (l : Loop) (r : KeepsRight kept l.parts) (c : KeepsCo
     acted_right (Some (Tells k m)) e = told_right k m e (at k) refl
     acted_right (Some (Rings k)) e = rung_right k e (at k) refl
     acted_right _ e = taken_right
-
--- ---- a task goes on
-module _ (kept : Gathered) (l : Loop) (r : KeepsRight kept l.parts) where
-  -- by steps that settle nothing and make no handle
-  stays_as : (steps : List ExtraStep) → ((on : ℕ) → Each (SettlesAt (suc on)) steps) → (i on : ℕ) → own_in (slice_get kept.drawn i) ≡ Some on
-      → StaysOrIsCancelled l.parts (made_by_all steps l).parts on
-  stays_as steps settles i on e = inl (steps_others (suc on) steps l (settles on) on (λ same. absurd (omega (arith, same))) (r.made i on e))
-
-  module _ (place : ℕ) (input : Input) (it : TimedWait) where
-    abbrev as_is : TimedState → TimedWait
-    as_is state = record it { state = state }
-
-    finished : (state : TimedState) → slice_get kept.drawn place ≡ Some (WaitsFor (as_is state))
-        → CallRight (record { state = drawn_at place (WaitsFor (record it { state = Finished; timer = None })) kept; steps = revoked it.timer }) l
-    finished state found =
-        plain_at kept l.parts r place (as_is state) (record it { state = Finished; timer = None }) (made_by_all (revoked it.timer) l).parts found
-        (revoked_onward it.timer l) (stays_as (revoked it.timer) (λ on. revoked_settles (suc on) it.timer))
-
-    timed_right : (state : TimedState) → slice_get kept.drawn place ≡ Some (WaitsFor (as_is state))
-        → CallRight (wait_for_woken place input (as_is state) l.parts kept).call l
-    timed_right Expiring found =
-        let steps = revoked it.timer ++ Uncancels (key_at gather_part place) it.task ∷ [] in
-        plain_at kept l.parts r place (as_is Expiring) (as_is Expired) (made_by_all steps l).parts found
-        (still_onward steps l (λ test.
-            let a = sum_by-append (makes test) (revoked it.timer) (Uncancels (key_at gather_part place) it.task ∷ []) in
-            let b = revoked_makes test it.timer in
-            omega (arith, a, b)))
-        (stays_as steps (λ on.
-            each_append (SettlesAt (suc on)) (revoked it.timer) (Uncancels (key_at gather_part place) it.task ∷ [])
-            (revoked_settles (suc on) it.timer) (tt, tt)))
-    timed_right Timed found = finished Timed found
-    timed_right Expired found = finished Expired found
-    timed_right Finished found = finished Finished found
-
-  pub woken_right : (place : ℕ) (input : Input) (o : Option Drawn) → slice_get kept.drawn place ≡ o → CallRight (woken o place input l.parts kept).call l
-  woken_right place input (Some (Waits it)) e =
-      goes_right r (made_by_all (revoked it.timer) l).parts (revoked_onward it.timer l)
-      (stays_as (revoked it.timer) (λ on. revoked_settles (suc on) it.timer))
-  woken_right place input (Some (WaitsFor it)) e = timed_right place input it it.state e
-  woken_right place input _ e = r

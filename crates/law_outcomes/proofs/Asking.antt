@@ -1,5 +1,5 @@
 -- What each request comes to that is asked of futures that were made.
-use Rattle.std.proofs.Common.{◌≡◌, ◌<◌, ◌≤◌, ◌+◌, ◌-◌, ◌⊎◌, inl, inr, ℕ, ℤ, zero, suc, Bool, true, false, List, [], ◌∷◌, ◌++◌, Option, Some, None}
+use Rattle.std.proofs.Common.{◌≡◌, ◌≤◌, ◌+◌, ◌⊎◌, inl, inr, ℕ, ℤ, zero, suc, Bool, true, false, List, [], ◌∷◌, ◌++◌, Option, Some, None}
 use Rattle.std.proofs.Common.{if◌then◌else◌, length, map, not, slice_get, refl, sym, ap, subst, ◌∙◌, arith}
 use Rattle.std.specs.List.{AllByRecursion as Each, sum_by}
 use Rattle.std.proofs.lemmas.Bool.{false≢true}
@@ -15,9 +15,9 @@ use Rattle.model_loop.specs.Tasks.{cancelling}
 use Rattle.model_machine.specs.Extra.{Answers, ExtraAnswer, ExtraCall, ExtraSaid, ExtraStep, MakesMany, MakesPlain, Raises, made_by, made_by_all}
 use Rattle.model_machine.specs.Outcomes.{input_of}
 use Rattle.model_reach.specs.Part.{can_draw, passes, refuses}
-use Rattle.model_gather.specs.Gathered.{Answered, Argument, Drawn, Gathered, Gathering, Gathers, Rings, Shields, Tells, Timed, TimedWait, WaitMode, Waits, WaitsFor}
+use Rattle.model_gather.specs.Gathered.{Answered, Argument, Drawn, Gathered, Gathering, Gathers, Shields, Tells, Timed, TimedWait, WaitMode, Waits, WaitsFor}
 use Rattle.model_gather.specs.Gathered.{at_once, distinct, distinct_arguments, draws, drawn_after, futures_of, gather_part, registered_from, settled_as}
-use Rattle.model_gather.specs.Gather.{Counted as Counting, gather, gather_all, items_of, result_of}
+use Rattle.model_gather.specs.Gather.{Counted as Counting, gather, gather_all}
 use Rattle.model_gather.specs.Serving.{OfGather, OfShield, OfWait, OfWaitFor, Request, serve}
 use Rattle.model_gather.specs.Shield.{shield, shield_open}
 use Rattle.model_gather.specs.Wait.{bad_mode, empty_set, handle_if_some, one_if_some, rings_after, tag_if_some, wait, wait_all}
@@ -25,7 +25,8 @@ use Rattle.model_gather.specs.WaitFor.{bad_timeout, may_time, wait_for, wait_for
 use Rattle.law_waiters.proofs.Fitting.{each_append}
 use Rattle.law_waiters.specs.Timed.{is_key}
 use Rattle.law_members.specs.Members.{IsDone}
-use Rattle.law_members.proofs.Asking.{counted_of, gather_fit, gather_steps, open_of, over_of, shield_fit, shield_steps, timed_fit, timed_steps, wait_fit, wait_steps}
+use Rattle.law_members.proofs.Asking.{counted_of, gather_fit, gather_steps, open_of, over_of, shield_fit, shield_steps, timed_fit, timed_steps, wait_fit}
+use Rattle.law_members.proofs.Asking.{wait_steps}
 use Rattle.law_members.proofs.Asking.{waiting_of, whole_of}
 use Rattle.law_members.proofs.Calling.{shielded}
 use Rattle.law_members.proofs.Counted.{Counts, IsIn, the_key}
@@ -38,7 +39,8 @@ use Rattle.law_outcomes.specs.Came.{GatherCame, HasGoneOn, ShieldCame, WaitCame}
 use Rattle.law_outcomes.proofs.Counting.{AllCounted, all_counted, gather_same, all_over, goes_on, gone_same, raises}
 use Rattle.law_outcomes.proofs.Drawing.{KeepsRight, MoreRight, more_right, new_told, told_new}
 use Rattle.law_outcomes.proofs.Entering.{distinct_in, filter_in, making_right, many_is_new, new_pending, pending_within, plain_is_new, tells_back}
-use Rattle.law_outcomes.proofs.Handles.{SettlesAt, made_append, registered_settles, registered_single, rings_settles, rings_single, settle_gives, settled_settles}
+use Rattle.law_outcomes.proofs.Handles.{SettlesAt, made_append, registered_settles, registered_single, rings_settles, rings_single, settle_gives}
+use Rattle.law_outcomes.proofs.Handles.{settled_settles}
 use Rattle.law_outcomes.proofs.Lists.{each_in, in_among}
 use Rattle.law_outcomes.proofs.Right.{AreBefore, EntryCame, Uncounted, gather_on, gone_on, own_in, plain_came}
 
@@ -172,8 +174,8 @@ module _ (kept : Gathered) (l : Loop) (r : KeepsRight kept l.parts) (c : KeepsCo
     done_made : AreBefore (next_future l.parts) awaited → Each (IsDone p) done_
     done_made made =
         each_in (IsDone p) done_ (λ m h.
-            let it = filter_in (λ id. not (is_pending p id)) m members h in
-            outcome_there kept p c m (made m (distinct_in m awaited it.0)) (untrue (is_pending p m) it.1))
+        let it = filter_in (λ id. not (is_pending p id)) m members h in
+        outcome_there kept p c m (made m (distinct_in m awaited it.0)) (untrue (is_pending p m) it.1))
       where
         untrue : (b : Bool) → not b ≡ true → b ≡ false
         untrue true e = absurd (false≢true e)
@@ -261,8 +263,11 @@ module _ (kept : Gathered) (l : Loop) (r : KeepsRight kept l.parts) (c : KeepsCo
                 → ((j : ℕ) × (tells_in (at j) ≡ Some (n, m))) ⊎ HasGoneOn (after_as None) counted.now m
             by m h true pending =
                 let i = place_of_in m open_ (in_open m h pending) in
-                inl (n + suc i.0, new_told kept p c more (gather_steps n p as_items awaited) l (gather_fit n l as_items awaited) (suc i.0) m
-                (tells_with n open_ [] i.0 m i.1))
+                inl (
+                  n + suc i.0,
+                  new_told kept p c more (gather_steps n p as_items awaited) l (gather_fit n l as_items awaited) (suc i.0) m
+                      (tells_with n open_ [] i.0 m i.1),
+                )
             by m h false pending =
                 inr (gone_same (after_as None) whole counted.now all.as_items m
                 (gone_on p (after_as None) (stays_as None) whole m (each_at (HasGoneOn p whole) done_ m (in_done m h pending) gone)))
@@ -343,10 +348,10 @@ module _ (kept : Gathered) (l : Loop) (r : KeepsRight kept l.parts) (c : KeepsCo
       (slice_get (kept.drawn ++ more)) refl (λ j. refl) tt new.0 (λ j. rings_single j (suc n) ids delay l.parts)
       (rings_settles (next_future l.parts) ring delay l.parts) (λ on e. sym (same_Some (next_future l.parts) on e))
       (λ it e m h.
-          let same = same_Some its it e in
-          let a = made m (subst (IsIn m) (ap (λ (w : Counts). w.members) (sym same)) h) in
-          let b = ap (λ (w : Counts). w.own) same in
-          omega (arith, a, b))
+      let same = same_Some its it e in
+      let a = made m (subst (IsIn m) (ap (λ (w : Counts). w.members) (sym same)) h) in
+      let b = ap (λ (w : Counts). w.own) same in
+      omega (arith, a, b))
       (λ it e m h. subst (IsIn m) (ap (λ (w : Counts). w.members) (same_Some its it e)) h) made
       (λ on e. absurd (none-some on (ap shield_in e)))
       (λ before. subst (WaitCame (slice_get (kept.drawn ++ more)) (made_by_all steps l).parts n (waiting_of l.parts mode delay arguments)) (sym none)
@@ -380,9 +385,9 @@ module _ (kept : Gathered) (l : Loop) (r : KeepsRight kept l.parts) (c : KeepsCo
           (making_right n (Shields (next_future l.parts)) (inner ∷ []) None MakesPlain [] l (slice_get (kept.drawn ++ more)) refl (λ j. refl) tt
           (plain_is_new l).0
           (λ j.
-              let a = sum_by-append (makes (is_key (the_key j))) (registered_from gather_part (suc n) (inner ∷ [])) [] in
-              let b = registered_single j (suc n) (inner ∷ []) in
-              omega (arith, a, b))
+          let a = sum_by-append (makes (is_key (the_key j))) (registered_from gather_part (suc n) (inner ∷ [])) [] in
+          let b = registered_single j (suc n) (inner ∷ []) in
+          omega (arith, a, b))
           tt (λ on e. sym (same_Some (next_future l.parts) on e)) (λ it e m h. absurd (none-some it e)) (λ it e m h. absurd (none-some it e))
           (λ m h. low m h) (λ on e. omega arith)
           (λ j other e. subst (ShieldCame (made_by_all (shield_steps n inner) l).parts other) (sym none) came.still_waits))

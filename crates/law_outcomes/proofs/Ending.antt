@@ -1,15 +1,14 @@
 -- Each state of a run is sound, so each future that a request names was made before the request's own; and so its future has come to
 -- what is promised.
-use Rattle.std.proofs.Common.{◌≡◌, ◌<◌, ◌≤◌, ◌⊎◌, inl, inr, ℕ, zero, suc, List, [], ◌∷◌, ◌++◌, Option, Some, None, length, cond, slice_get, refl, sym, ap, subst, ◌∙◌, arith}
+use Rattle.std.proofs.Common.{◌≡◌, ◌<◌, ◌≤◌, ◌⊎◌, inl, inr, ℕ, zero, suc, List, [], ◌∷◌, Option, Some, slice_get, sym, ap, subst, ◌∙◌, arith}
 use Rattle.std.specs.List.{AllByRecursion as Each, flat_map}
 use Rattle.std.proofs.lemmas.Bool.{cases_eq}
-use Rattle.std.proofs.lemmas.Option.{none-some, same_Some}
+use Rattle.std.proofs.lemmas.Option.{none-some}
 use Rattle.model_tree.specs.Syntax.{Program}
 use Rattle.model_says.specs.Says.{step_limit}
 use Rattle.model_wire.specs.Journal.{Entry}
 use Rattle.model_wire.specs.Trace.{End}
-use Rattle.model_loop.specs.Futures.{future_outcome}
-use Rattle.model_loop.specs.Owning.{own_future, owner_of}
+use Rattle.model_loop.specs.Owning.{owner_of}
 use Rattle.model_loop.specs.Parts.{Parts}
 use Rattle.model_machine.specs.Extra.{Extra, NamesNothing}
 use Rattle.model_machine.specs.Mids.{mids}
@@ -23,7 +22,7 @@ use Rattle.model_gather.specs.Gathered as plain
 use Rattle.model_gather.specs.Gathered.{Drawn, Gathered, Gathering, Gathers, Shields, Tells, Waiting, Waits, futures_of, gather_part}
 use Rattle.model_gather.specs.Serving.{gather_means}
 use Rattle.law_calls.specs.Tells.{IsCut}
-use Rattle.law_gather.proofs.Lists.{each_left, flat_among, flat_at}
+use Rattle.law_gather.proofs.Lists.{each_left, flat_at}
 use Rattle.law_heeded.proofs.Gathered.{gather_keeps_to}
 use Rattle.law_heeded.proofs.Serving.{Outside}
 use Rattle.law_heeded.proofs.Sharing.{in_all, reach_keeps}
@@ -41,7 +40,7 @@ use Rattle.law_runs.proofs.Turning.{mids_in}
 use Rattle.law_runs.specs.Allowed.{IsAmong}
 use Rattle.law_runs.specs.Ends.{IsLeftSound}
 use Rattle.law_waiters.proofs.Fitting.{each_at}
-use Rattle.law_waiters.specs.Reached.{entry_under, first_parted}
+use Rattle.law_waiters.specs.Reached.{first_parted}
 use Rattle.law_waiters.specs.Timed.{KeepsToKeys}
 use Rattle.law_members.specs.Members.{IsDone}
 use Rattle.law_members.proofs.Counted.{Counts, IsIn, none_pending}
@@ -49,7 +48,7 @@ use Rattle.law_members.proofs.Drawing.{KeepsCounted, counts_in, tells_in}
 use Rattle.law_members.proofs.Walking.{begins_counted, found_under, outcome_there}
 use Rattle.law_outcomes.specs.Came.{FuturesCame}
 use Rattle.law_outcomes.proofs.Drawing.{KeepsRight}
-use Rattle.law_outcomes.proofs.Lists.{each_in, in_among}
+use Rattle.law_outcomes.proofs.Lists.{each_in}
 use Rattle.law_outcomes.proofs.Right.{AreBefore, EntryCame, own_in}
 use Rattle.law_outcomes.proofs.Walking.{Holds, outcomes_walk, own_among}
 
@@ -167,9 +166,9 @@ module _ {B C D : Type 0} (sync : Extra B) (exec : Extra C) (dgram : Extra D) (s
       → Each (IsDone s.loop.parts) its.members
   all_done k its found own none before =
       each_in (IsDone p) its.members (λ m h.
-          let low = before m h in
-          let made = right.made k its.own own in
-          outcome_there kept p counted m (omega (arith, low, made)) (none_pending counted k its found none m h low))
+      let low = before m h in
+      let made = right.made k its.own own in
+      outcome_there kept p counted m (omega (arith, low, made)) (none_pending counted k its found none m h low))
 
   entry_came : (k : ℕ) (e : Drawn) → at k ≡ Some e → EntryCame at s.loop.parts k (Some e)
   entry_came k e found = subst (EntryCame at p k) found (right.came k)

@@ -1,35 +1,28 @@
 -- The entries of a request that is asked of futures that were made, and what its future has come to then.
-use Rattle.std.proofs.Common.{◌≡◌, ◌<◌, ◌≤◌, ◌+◌, ◌-◌, ◌⊎◌, inl, inr, ℕ, ℤ, zero, suc, Bool, true, false, cond, List, [], ◌∷◌, ◌++◌, Option, Some, None}
+use Rattle.std.proofs.Common.{◌≡◌, ◌<◌, ◌≤◌, ◌+◌, inl, inr, ℕ, ℤ, zero, suc, Bool, true, false, cond, List, [], ◌∷◌, ◌++◌, Option, Some, None}
 use Rattle.std.proofs.Common.{filter, length, length-append, map, not, slice_get, refl, sym, ap, subst, ◌∙◌, arith}
 use Rattle.std.specs.Prelude.{◌==◌}
 use Rattle.std.specs.List.{AllByRecursion as Each, count_by, sum_by}
 use Rattle.std.proofs.lemmas.Bool.{false≢true}
-use Rattle.std.proofs.lemmas.List.Filters.{length-filter_both}
-use Rattle.std.proofs.lemmas.List.Sums.{sum_by-append, sum_by-cons}
+use Rattle.std.proofs.lemmas.List.Sums.{sum_by-cons}
 use Rattle.std.proofs.lemmas.Option.{none-some, same_Some}
-use Rattle.model_value.specs.declared.outcome.Outcome.TheVariants.{Cancelled}
-use Rattle.model_value.specs.Value.{Outcome}
 use Rattle.model_loop.specs.Futures.{future_outcome, is_pending, is_pending_at, next_future, outcome_at}
 use Rattle.model_loop.specs.Loop.{Loop}
 use Rattle.model_loop.specs.Parts.{Future, Many, Parts, Plain}
 use Rattle.model_loop.specs.Totals.{callbacks_of}
 use Rattle.model_machine.specs.Extra.{ExtraStep, MakesMany, MakesPlain, made_by, made_by_all}
-use Rattle.model_gather.specs.Gathered.{Argument, Answered, Drawn, Gathering, Gathers, Rings, Shields, Tells, TimedWait, WaitMode, Waiting, Waits, WaitsFor, distinct}
-use Rattle.model_gather.specs.Gathered.{futures_of, gather_part, registered_from, settled_as}
-use Rattle.model_gather.specs.Wait.{handle_if_some, rings_after}
+use Rattle.model_gather.specs.Gathered.{Drawn, Shields, Tells, distinct}
+use Rattle.model_gather.specs.Gathered.{gather_part, registered_from}
+use Rattle.model_gather.specs.Wait.{handle_if_some}
 use Rattle.law_cancel.proofs.Lookups.{get-push_last, get_within}
 use Rattle.law_waiters.proofs.Fitting.{each_append}
 use Rattle.law_waiters.specs.Timed.{is_key}
-use Rattle.law_members.specs.Members.{IsDone}
 use Rattle.law_members.proofs.Counted.{Counts, IsIn, the_key}
-use Rattle.law_members.proofs.Drawing.{counts_in, registered_at_place, settled_makes, tells_in}
-use Rattle.law_members.proofs.Entering.{IsTail}
-use Rattle.law_members.proofs.Onward.{makes, step_stays, steps_stay}
-use Rattle.law_outcomes.specs.Came as came
-use Rattle.law_outcomes.specs.Came.{GatherCame, HasGoneOn, ShieldCame, WaitCame}
+use Rattle.law_members.proofs.Drawing.{counts_in, registered_at_place, tells_in}
+use Rattle.law_members.proofs.Onward.{makes, steps_stay}
 use Rattle.law_outcomes.proofs.Drawing.{MoreRight}
-use Rattle.law_outcomes.proofs.Handles.{SettlesAt, registered_settles, registered_single, rings_settles, rings_single, settled_settles, steps_others}
-use Rattle.law_outcomes.proofs.Right.{EntryCame, Uncounted, own_in}
+use Rattle.law_outcomes.proofs.Handles.{SettlesAt, registered_settles, steps_others}
+use Rattle.law_outcomes.proofs.Right.{EntryCame, own_in}
 
 -- ---- lists
 pub filter_in : (f : ℕ → Bool) (m : ℕ) (ids : List ℕ) → IsIn m (filter f ids) → IsIn m ids × (f m ≡ true)

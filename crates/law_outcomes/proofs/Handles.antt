@@ -1,9 +1,9 @@
 -- Of each key there is one handle at most, and steps settle the future of their own request alone.
 use Rattle.std.proofs.Common.{◌≡◌, ◌<◌, ◌≤◌, ◌+◌, ◌-◌, ◌==◌, ◌⊎◌, inl, inr, ℕ, ℤ, zero, suc, Bool, true, false, List, [], ◌∷◌, ◌++◌, Option, Some, None}
-use Rattle.std.proofs.Common.{length, slice_get, refl, sym, ap, subst, ◌∙◌, arith}
+use Rattle.std.proofs.Common.{length, slice_get, refl, sym, ap, ◌∙◌, arith}
 use Rattle.std.specs.Prelude.{◌%◌}
 use Rattle.std.specs.List.{AllByRecursion as Each, sum_by}
-use Rattle.std.proofs.lemmas.Bool.{cases_eq, cases_lt, eq-eqb, eqb-true, false≢true, ne_eqb}
+use Rattle.std.proofs.lemmas.Bool.{cases_eq, eq-eqb, false≢true, ne_eqb}
 use Rattle.std.proofs.lemmas.List.Sums.{sum_by-append, sum_by-cons}
 use Rattle.std.proofs.lemmas.Option.{none-some}
 use Rattle.model_value.specs.Action.{Action}
@@ -25,7 +25,7 @@ use Rattle.law_waiters.specs.Timed.{is_key}
 use Rattle.law_members.proofs.Coming.{one_of}
 use Rattle.law_members.proofs.Counted.{the_key}
 use Rattle.law_members.proofs.Drawing.{IsWithin, KeyWithin}
-use Rattle.law_members.proofs.Onward.{IsOf, is_gathers, makes, step_stays}
+use Rattle.law_members.proofs.Onward.{IsOf, makes, step_stays}
 
 -- ---- keys
 pub key_is_of : (j : ℕ) → IsOf (is_key (the_key j))

@@ -5,6 +5,7 @@ mod Drawing
 mod Counting
 mod Entering
 mod Asking
+mod Waking
 mod Acting
 mod Walking
 mod Ending

@@ -1,10 +1,10 @@
 -- What is so of the futures of gathers, waits and shields between calls, and goes on.
-use Rattle.std.proofs.Common.{◌≡◌, ◌<◌, ◌≤◌, ◌+◌, ◌⊎◌, inl, inr, ℕ, zero, suc, Bool, true, false, List, [], ◌∷◌, Option, Some, None}
-use Rattle.std.proofs.Common.{length, slice_get, refl, sym, ap, subst, ◌∙◌, arith}
+use Rattle.std.proofs.Common.{◌≡◌, ◌<◌, ◌≤◌, ◌⊎◌, inl, inr, ℕ, suc, true, List, [], ◌∷◌, Option, Some, None}
+use Rattle.std.proofs.Common.{length, refl, sym, ap, subst, ◌∙◌, arith}
 use Rattle.std.specs.List.{AllByRecursion as Each, count_by}
 use Rattle.std.specs.Option.{option_map_or}
 use Rattle.std.proofs.lemmas.Bool.{cases_eq}
-use Rattle.std.proofs.lemmas.Option.{none-some, same_Some}
+use Rattle.std.proofs.lemmas.Option.{none-some}
 use Rattle.model_value.specs.declared.outcome.Outcome.TheVariants.{Cancelled}
 use Rattle.model_value.specs.Value.{Nothing, Outcome, Value}
 use Rattle.model_loop.specs.Futures.{future_outcome, is_pending, next_future}
@@ -81,7 +81,8 @@ items_same : (p q : Parts) → DoneStays p q → (it : Gathering) (ids : List �
 items_same p q stays it [] all = refl
 items_same p q stays it (id ∷ ids) all =
     let here = ap (λ o. option_map_or item_of o Nothing) (stays id all.0.0 all.0.1.0 ∙ sym all.0.1.0) in
-    ap (λ (x : Value). x ∷ items_of q ids) here ∙ ap (λ (xs : List Value). option_map_or item_of (future_outcome p id) Nothing ∷ xs) (items_same p q stays it ids all.1)
+    ap (λ (x : Value). x ∷ items_of q ids) here
+    ∙ ap (λ (xs : List Value). option_map_or item_of (future_outcome p id) Nothing ∷ xs) (items_same p q stays it ids all.1)
 
 pub gather_on : (p q : Parts) → DoneStays p q → (it : Gathering) (o : Option Outcome) → GatherCame p it o → GatherCame q it o
 gather_on p q stays it _ came.still_waits = came.still_waits

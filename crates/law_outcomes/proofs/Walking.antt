@@ -1,17 +1,16 @@
 -- So it is of all futures of gathers, waits and shields in every state of every run, beside parts that keep to their keys and futures.
-use Rattle.std.proofs.Common.{◌≡◌, ◌<◌, ◌≤◌, ◌⊎◌, inl, inr, ℕ, ℤ, zero, suc, Bool, true, false, cond, not, List, [], ◌∷◌, Option, Some, None}
+use Rattle.std.proofs.Common.{◌≡◌, ◌<◌, ◌≤◌, inl, inr, ℕ, ℤ, Bool, true, false, cond, not, List, [], ◌∷◌, Option, Some, None}
 use Rattle.std.proofs.Common.{filter, slice_get, refl, sym, ap, subst, ◌∙◌, arith, le_refl}
 use Rattle.std.specs.Prelude.{◌==◌}
 use Rattle.std.specs.Option.{option_and_then, option_map, option_map_or}
 use Rattle.std.specs.List.{AllByRecursion as Each, flat_map}
-use Rattle.std.proofs.lemmas.Option.{none-some, same_Some}
+use Rattle.std.proofs.lemmas.Option.{none-some}
 use Rattle.model_value.specs.Action.{Action}
 use Rattle.model_value.specs.declared.action.Action.TheVariants as action
 use Rattle.model_value.specs.Input.{Input}
-use Rattle.model_value.specs.Value.{Fut, Outcome, Task as TaskValue, Value}
-use Rattle.model_loop.specs.Futures.{future_outcome, next_future}
-use Rattle.model_loop.specs.Loop.{Loop}
-use Rattle.model_loop.specs.Parts.{Handle, Parts, Task}
+use Rattle.model_value.specs.Value.{Fut, Task as TaskValue, Value}
+use Rattle.model_loop.specs.Futures.{next_future}
+use Rattle.model_loop.specs.Parts.{Handle, Task}
 use Rattle.model_loop.specs.Tasks.{future_of}
 use Rattle.model_machine.specs.Arguments.{as_awaited, as_delay, as_int, as_list}
 use Rattle.model_machine.specs.Extra.{Cancels, Extra, ExtraCall, ExtraSaid, called, made_by_all, unknown_code}
@@ -20,18 +19,19 @@ use Rattle.model_reach.specs.Part.{place_of, refuses, stays}
 use Rattle.model_reach.specs.Reach.{OfDgram, OfExec, OfGather, OfSync, Part, Parted, part_as, part_of_code, part_of_key, reach, seen_by}
 use Rattle.model_gather.specs.Gathered as plain
 use Rattle.model_gather.specs.Gathered.{Argument, Drawn, Gathered, Gathers, Shields, Waits, as_all_awaited, distinct_arguments, futures_of, gather_part, paired}
-use Rattle.model_gather.specs.Serving.{Gather, OfGather as GathersAll, OfShield, OfWait, OfWaitFor, Request, Shield, Wait, WaitFor, Wanted, asked, both, gather_means}
+use Rattle.model_gather.specs.Serving.{Gather, OfGather as GathersAll, OfShield, OfWait, OfWaitFor, Request, Shield, Wait, WaitFor, Wanted, asked, both}
+use Rattle.model_gather.specs.Serving.{gather_means}
 use Rattle.model_gather.specs.Serving.{requested, served, wanted_of}
 use Rattle.model_gather.specs.Wait.{mode_of}
-use Rattle.law_apart.specs.Apart.{IsTheirs, Leaves, StaysOrIsCancelled, TaskApart}
+use Rattle.law_apart.specs.Apart.{IsTheirs, Leaves, TaskApart}
 use Rattle.law_gather.proofs.Lists.{flat_among}
 use Rattle.law_heeded.proofs.Going.{ran_apart}
 use Rattle.law_heeded.proofs.Gathered.{gather_keeps_to}
 use Rattle.law_heeded.proofs.Owning.{steps_safe, test_among}
 use Rattle.law_heeded.proofs.Sharing.{IsPartKept, act_part, ask_part, in_all, item_part, now_disjoint, others_leave, wake_part}
 use Rattle.law_heeded.specs.Between.{AreDisjoint, own_of}
-use Rattle.law_heeded.specs.Owned.{AreApart, KeepsToItsFutures, is_among, is_own}
-use Rattle.law_heeded.specs.Walks.{Beside, Walks, runs}
+use Rattle.law_heeded.specs.Owned.{AreApart, KeepsToItsFutures, is_own}
+use Rattle.law_heeded.specs.Walks.{Walks, runs}
 use Rattle.law_runs.specs.Allowed.{IsAmong}
 use Rattle.law_waiters.proofs.Fitting.{each_at}
 use Rattle.law_waiters.proofs.Keeping.{key_here}
@@ -40,11 +40,11 @@ use Rattle.law_members.proofs.Calling.{acted_keeps, asked_keeps, woken_keeps}
 use Rattle.law_members.proofs.Counted.{IsIn, goes_on as counted_on}
 use Rattle.law_members.proofs.Drawing.{KeepsCounted}
 use Rattle.law_members.proofs.Onward.{Onward, beside_onward, row_onward, taken_onward}
-use Rattle.law_outcomes.proofs.Acting.{acted_right, woken_right}
+use Rattle.law_outcomes.proofs.Acting.{acted_right}
 use Rattle.law_outcomes.proofs.Asking.{AsksMade, CallRight, serve_right}
 use Rattle.law_outcomes.proofs.Drawing.{KeepsRight}
-use Rattle.law_outcomes.proofs.Entering.{filter_in}
 use Rattle.law_outcomes.proofs.Right.{goes_right, own_in}
+use Rattle.law_outcomes.proofs.Waking.{woken_right}
 
 -- ---- futures of arguments
 filtered_in : (f : Argument → Bool) (m : ℕ) (those : List Argument) → IsIn m (futures_of (filter f those)) → IsIn m (futures_of those)
@@ -334,8 +334,8 @@ module _ {B C D : Type 0} (sync : Extra B) (exec : Extra C) (dgram : Extra D) (o
         counted = acted_keeps s.extra.gather s.loop h.counted handle rest place first live runs_so (slice_get s.extra.gather.drawn place) refl;
         right = acted_right s.extra.gather s.loop h.right h.counted handle rest place first live runs_so
             (λ by future k on own.
-                (steps_safe (is_own added s.extra) (next_future t.loop.parts) b.below (Cancels by future ∷ []) t.loop (tt, tt) b.apart.loop).leaves.stay on
-                (is_gathers_own s.extra k on own))
+            (steps_safe (is_own added s.extra) (next_future t.loop.parts) b.below (Cancels by future ∷ []) t.loop (tt, tt) b.apart.loop).leaves.stay on
+            (is_gathers_own s.extra k on own))
             (slice_get s.extra.gather.drawn place) refl;
         disjoint = now_disjoint gather_means sync exec dgram OfGather _ t (its_act OfGather key t) b (left (action.Extra key) handle rest s first a h).disjoint;
       }
