@@ -14,7 +14,7 @@ use Rattle.model_loop.specs.Parts.{Parts, Plain}
 use Rattle.model_says.specs.Operations.{out_of_range}
 use Rattle.model_says.specs.Requests.{bad_argument}
 use Rattle.model_machine.specs.Extra.{Answers, Asks, ExtraAnswer, ExtraStep, MakesPlain, Raises, Settles, Waits, called, key_of, made_by, made_by_all, unknown_code}
-use Rattle.model_machine.specs.Sound.{Ids, IsNoneOf, IsOwned, ids_of, names_made, sends_made}
+use Rattle.model_machine.specs.Sound.{Ids, IsNoneOf, IsOwned, ids_of, sends_made}
 use Rattle.model_machine.specs.State.{State}
 use Rattle.model_reach.specs.Part.{can_draw, only_says, passes, place_of, refuses, stays}
 use Rattle.law_cancel.proofs.Lookups.{get-push_last}
