@@ -155,7 +155,7 @@ receives_of_dgram id endpoint p kept = at endpoint.held
 closes_of_dgram : (id : ℕ) (endpoint : Endpoint) (p : Parts) (kept : Endpoints) → IsOfDgram (close id endpoint p kept)
 closes_of_dgram id endpoint p kept = (
   both_of_dgram (flat_map (wakes_at kept) endpoint.senders) (wakes_receiver kept endpoint.receiver) (woken_all kept endpoint.senders)
-  (woken_receiver kept endpoint.receiver),
+      (woken_receiver kept endpoint.receiver),
   key_of_dgram kept.drawn,
 )
 

@@ -1,6 +1,6 @@
 use Rattle.std.proofs.lemmas.Result.{on_ok_weaker}
 use Rattle.aio_reach.specs.Routed.{keyed}
-use Rattle.aio_reach.proofs.reach.FourGatherSyncExecNoExtraExtra.act.Goals as goal
+use Rattle.aio_reach.proofs.reach.FourGatherSyncExecDgramExtra.act.Goals as goal
 
 pub act_part-requires : goal.act_part-requires
 act_part-requires c = (keyed, c.requires.serves)

@@ -1,6 +1,6 @@
 use Rattle.std.proofs.lemmas.Result.{IfOk-weaker}
 use Rattle.aio_reach.specs.Routed.{keyed}
-use Rattle.aio_reach.proofs.reach.FourGatherSyncExecNoExtraExtra.wake.Goals as goal
+use Rattle.aio_reach.proofs.reach.FourGatherSyncExecDgramExtra.wake.Goals as goal
 
 pub wake_part-requires : goal.wake_part-requires
 wake_part-requires c = record { runs = c.requires.runs; serves = (keyed, c.requires.serves) }

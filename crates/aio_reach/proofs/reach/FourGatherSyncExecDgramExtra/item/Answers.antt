@@ -3,7 +3,7 @@ use Rattle.std.proofs.lemmas.Int.{to_z-of_z}
 use Rattle.std.proofs.lemmas.Result.{on_ok_weaker}
 use Rattle.aio_reach.specs.Called.{Hears}
 use Rattle.aio_reach.specs.Routed.{keyed, routed}
-use Rattle.aio_reach.proofs.reach.FourGatherSyncExecNoExtraExtra.item.Goals as goal
+use Rattle.aio_reach.proofs.reach.FourGatherSyncExecDgramExtra.item.Goals as goal
 
 pub hear_part-requires : goal.hear_part-requires
 hear_part-requires c = (keyed, c.requires.serves)

@@ -3,7 +3,7 @@ use Rattle.std.proofs.lemmas.Int.{to_z-of_z}
 use Rattle.std.proofs.lemmas.Result.{IfOk-weaker}
 use Rattle.aio_reach.specs.Called.{Asks}
 use Rattle.aio_reach.specs.Routed.{keyed, routed}
-use Rattle.aio_reach.proofs.reach.FourGatherSyncExecNoExtraExtra.ask.Goals as goal
+use Rattle.aio_reach.proofs.reach.FourGatherSyncExecDgramExtra.ask.Goals as goal
 
 pub ask_part-requires : goal.ask_part-requires
 ask_part-requires c = (keyed, c.requires)
