@@ -1,5 +1,8 @@
 //! How endpoints of datagrams and datagrams are told, and how that is read.
-ghost use Rattle.std.specs.Prelude.{◌≡◌, ◌≤◌, ◌<◌, ◌^◌, ◌++◌, ℕ, List, Some, None, IfOk, OnOk, IfSome, IfNone};
+ghost use Rattle.std.specs.Prelude.{◌≡◌, ◌≤◌, ◌<◌, ◌^◌, ◌==◌, ◌++◌, ℕ, List, Some, None, length, IfOk, IfErr, OnOk, IfSome, IfNone};
+ghost use Rattle.std.specs.IoError.{error_kind};
+ghost use Rattle.std.specs.List.{position};
+ghost use Rattle.std.specs.declared.io.ErrorKind.TheVariants as kind;
 ghost use Rattle.std.specs.Fmt.{decimal};
 ghost use Rattle.aio_poller.specs.Datagrams.{datagram_text, endpoint_in, port_in, cut, datagram_in};
 
@@ -9,6 +12,7 @@ use std::alloc::Global;
 use std::io;
 
 /// A datagram that an endpoint is to send, and the port that it goes to.
+#[derive(Clone, Copy)]
 pub struct Outgoing<'a> {
     pub number: u32,
     pub port: u16,
@@ -27,7 +31,8 @@ pub fn endpoint_text(alloc: Global, number: u32) -> io::Result<Blob>
 /// A datagram at an endpoint as it is told: the endpoint's number, the port that it came from, and its bytes, with a space
 /// between each two.
 pub fn datagram_text(alloc: Global, number: u32, port: u16, bytes: &[u8]) -> io::Result<Blob>
-    ensures { IfOk result (λ text. text ≡ datagram_text number port bytes.now) }
+    ensures text { IfOk result (λ text. text ≡ datagram_text number port bytes.now) }
+    ensures err { IfErr result (λ error. error_kind error ≡ kind.OutOfMemory) }
 {
     let mut text = Vec::new(alloc);
     push_number(alloc, u64::from(number), &mut text)?;
@@ -39,7 +44,8 @@ pub fn datagram_text(alloc: Global, number: u32, port: u16, bytes: &[u8]) -> io:
 }
 
 fn push_number(alloc: Global, number: u64, out: &mut Vec<u8>) -> io::Result<()>
-    ensures { OnOk result (out.new.items ≡ out.old.items ++ decimal number) }
+    ensures text { OnOk result (out.new.items ≡ out.old.items ++ decimal number) }
+    ensures err { IfErr result (λ error. error_kind error ≡ kind.OutOfMemory) }
 {
     out.extend_from_slice(number.to_string(alloc)?.as_bytes())?;
     Ok(())
@@ -62,13 +68,23 @@ pub fn port_in(digits: &[u8]) -> Option<u16>
     }
 }
 
+// Where the first space stands.
+fn first_space(text: &[u8]) -> Option<usize>
+    ensures place { result ≡ position (λ byte. byte == 32) text.now }
+    ensures inside { IfSome result (λ at. at < length text.now) }
+{
+    text.iter().position(|byte| *byte == b' ')
+}
+
 // What stands before the first space, and what after it.
 fn cut(text: &[u8]) -> Option<(&[u8], &[u8])>
     ensures none { IfNone result (cut text.now ≡ None) }
     ensures some { IfSome result (λ found. cut text.now ≡ Some (found.0.now, found.1.now)) }
 {
-    let at = text.iter().position(|byte| *byte == b' ')?;
-    Some((&text[..at], &text[at + 1..]))
+    match first_space(text) {
+        Some(at) => Some((&text[..at], &text[at + 1..])),
+        None => None,
+    }
 }
 
 /// The datagram that is to be sent; nothing for what isn't one.

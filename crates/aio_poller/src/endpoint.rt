@@ -94,9 +94,8 @@ pub fn port_here(from: SocketAddr) -> Option<u16>
     ensures { result ≡ port_here from }
 {
     match from {
-        SocketAddr::V4(address) if address.ip().octets() == [127, 0, 0, 1] && address.port() != 0 => {
-            Some(address.port())
-        }
+        SocketAddr::V4(address) if address.ip().octets() == [127, 0, 0, 1] && address.port() != 0 =>
+            { Some(address.port()) }
         SocketAddr::V4(_) | SocketAddr::V6(_) => None,
     }
 }

@@ -78,7 +78,14 @@ impl Endpoint {
     }
 
     /// Watches it in this round, unless it rests; then it says for how long. Where the system refuses, it rests from now on.
-    fn watch(&mut self, poll: &Poll, token: Token, round: u64, now: u64, closed: u64) -> Option<u64> {
+    fn watch(
+        &mut self,
+        poll: &Poll,
+        token: Token,
+        round: u64,
+        now: u64,
+        closed: u64,
+    ) -> Option<u64> {
         if self.rest.left(now, closed).is_none() {
             let interest = self.interest();
             let socket = &mut self.socket;
@@ -108,7 +115,13 @@ impl Endpoints {
     }
 
     /// What a call on an endpoint comes to. No error of one is a failure; want of memory is an error.
-    pub fn answer<R: Net>(&mut self, rt: &R, alloc: Global, code: i64, text: &[u8]) -> io::Result<Answer> {
+    pub fn answer<R: Net>(
+        &mut self,
+        rt: &R,
+        alloc: Global,
+        code: i64,
+        text: &[u8],
+    ) -> io::Result<Answer> {
         match code {
             OPEN => self.open(rt, alloc, text),
             SEND => self.send(alloc, text),
@@ -153,7 +166,9 @@ impl Endpoints {
     /// Closes an endpoint. Its number is not given again.
     fn close(&mut self, alloc: Global, text: &[u8]) -> Answer {
         match endpoint_in(text) {
-            Some(number) if self.open.remove(&number).is_some() => Answer::Extra(Blob::of(Vec::new(alloc))),
+            Some(number) if self.open.remove(&number).is_some() => Answer::Extra(Blob::of(Vec::new(
+                alloc,
+            ))),
             _ => Answer::Refused,
         }
     }
@@ -186,7 +201,12 @@ impl Endpoints {
     }
 
     /// Tells of each endpoint that waited for room and has some, as far as so many items go, and waits no more.
-    pub fn tell_room(&mut self, alloc: Global, most: usize, items: &mut Vec<Item>) -> io::Result<()> {
+    pub fn tell_room(
+        &mut self,
+        alloc: Global,
+        most: usize,
+        items: &mut Vec<Item>,
+    ) -> io::Result<()> {
         for (number, endpoint) in self.open.iter_mut() {
             if items.len() >= most {
                 break;
@@ -257,6 +277,7 @@ impl Endpoints {
 }
 
 /// What is left of a poll's share of datagrams.
+#[derive(Clone, Copy)]
 struct Share {
     datagrams: usize,
     bytes: usize,

@@ -119,9 +119,10 @@ impl Sockets {
                 (false, false) => Ok(None),
             },
             Watch::Child { .. } => Ok(None),
-            Watch::Extra => Ok(self
-                .endpoints
-                .watch(&self.poll, self.round, now, self.closed)),
+            Watch::Extra => Ok(
+                self.endpoints
+                    .watch(&self.poll, self.round, now, self.closed),
+            ),
         }
     }
 
