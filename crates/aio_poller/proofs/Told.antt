@@ -1,16 +1,16 @@
 -- What is told of endpoints is read as it is meant.
-use Rattle.std.proofs.Common.{◌≡◌, ℕ, ◌+◌, ◌-◌, ◌*◌, ◌/◌, ◌%◌, ◌^◌, ◌<◌, ◌≤◌, Bool, true, false, cond, not, ◌&&◌, List, [], ◌∷◌, ◌++◌}
-use Rattle.std.proofs.Common.{Some, None, length, take, drop, refl, sym, ap, ◌∙◌, append_assoc, length-append, arith}
+use Rattle.std.proofs.Common.{◌≡◌, ℕ, ◌+◌, ◌-◌, ◌*◌, ◌/◌, ◌%◌, ◌^◌, ◌<◌, ◌≤◌, Bool, true, cond, not, List, [], ◌∷◌, ◌++◌}
+use Rattle.std.proofs.Common.{Some, length, refl, ap, ◌∙◌, append_assoc, length-append, arith}
 use Rattle.std.specs.Prelude.{fold, nat_le, nat_lt, ◌==◌}
-use Rattle.std.specs.List.{list_all, position, prefix_len}
-use Rattle.std.specs.Option.{option_and_then, option_map}
+use Rattle.std.specs.List.{list_all, prefix_len}
+use Rattle.std.specs.Option.{option_and_then}
 use Rattle.std.specs.Fmt.{decimal}
 use Rattle.std.proofs.Math.Seq.{take-append_seam, drop-append-add}
 use Rattle.std.proofs.lemmas.Fmt.{decimal_by_steps}
 use Rattle.std.proofs.lemmas.Bool.{and_parts, and_from}
 use Rattle.std.proofs.lemmas.Bool.Decides.{nat_tests}
 use Rattle.model_value.specs.Number.{is_digit, digits_value, number_of, most}
-use Rattle.aio_poller.specs.Datagrams.{AtEndpoint, datagram_text, within, endpoint_in, port_in, cut, at_endpoint, datagram_in}
+use Rattle.aio_poller.specs.Datagrams.{datagram_text, within, endpoint_in, port_in, cut, datagram_in}
 
 -- ---- digits
 abbrev IsDecimalOf : ℕ → List ℕ → Type 0

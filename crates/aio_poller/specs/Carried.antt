@@ -1,5 +1,5 @@
 -- What is known of what carries the datagrams of an endpoint. What isn't told is `None`, and then nothing is promised of it.
-use Rattle.std.specs.Prelude.{◌≡◌, ◌⊎◌, ℕ, ◌<◌, ◌==◌, ◌&&◌, not, pos, List, [], ◌∷◌, bytes_eq, codes, Option, Some, None, length, take, Result, Ok, Err, if◌then◌else◌}
+use Rattle.std.specs.Prelude.{◌≡◌, ◌⊎◌, ℕ, ◌<◌, ◌==◌, ◌&&◌, not, List, [], ◌∷◌, bytes_eq, codes, Option, Some, None, length, take, Result, Ok, Err, if◌then◌else◌}
 use Rattle.std.specs.IoError.{error_kind}
 use Rattle.std.specs.Net.Addr.{ipv4_octets}
 use Rattle.std.specs.Net.Socket.{v4_ip, v4_port}
