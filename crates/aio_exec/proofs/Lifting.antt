@@ -11,11 +11,10 @@ use Rattle.model_value.specs.declared.input.Input.TheVariants.{Send, Throw}
 use Rattle.model_loop.specs.Futures.{next_future}
 use Rattle.model_loop.specs.Owning.{owner_at}
 use Rattle.model_loop.specs.Parts.{Parts}
-use Rattle.model_loop.specs.Tasks.{next_task}
 use Rattle.model_machine.specs.Arguments.{as_list}
 use Rattle.model_machine.specs.Extra as extra
 use Rattle.model_machine.specs.Extra.{Answers, ExtraAnswer, ExtraCall, ExtraSaid, MakesPlain, Raises, Waits, called}
-use Rattle.model_machine.specs.Sound.{IsOwned, sends_made}
+use Rattle.model_machine.specs.Sound.{IsOwned, ids_of, sends_made}
 use Rattle.model_machine.specs.State.{State}
 use Rattle.model_reach.specs.Part.{can_draw, place_of, refuses, stays}
 use Rattle.model_says.specs.Operations.{out_of_range}
@@ -161,7 +160,7 @@ module _ (running : Option ℕ) (t : NameMap) (s : State Execed) (x : Exec) (v :
   module _ (woken_ : Option ℕ) (y : Exec) (w : View) (call : ExtraCall Execed) (seen : CallsSeen (kept_of y) v w call)
       (may : IsCallAllowed exec_means woken_ call s) (older : AreOlder p.next_tag call.steps) where
     goes : Goes t p v w (called call s).loop.parts
-    goes = steps_go t v w (owns_at (exec_keeps s.extra) p) s.loop call.steps h.keeps h.rules may.steps older (seen.steps t.known)
+    goes = steps_go t v w (owns_at (ids_of s) (exec_keeps s.extra) p) s.loop call.steps h.keeps h.rules may.steps older (seen.steps t.known)
 
     stays_there : (id : ℕ) → IsAmong (exec_keeps s.extra).own id ⊎ (next_future p ≤ id) → t.gone id ≡ false
     stays_there id (inl old) = h.stands.1 id old
@@ -287,7 +286,7 @@ wakes_by task t s x v h key input may place at y w asked seen =
 
 pub wakes_at : (running : Option ℕ) → is_some running ≡ true → (t : NameMap) (s : State Execed) (x : Exec) (v : View)
     → IsServed exec_added running t s x v → (key : ℕ) (input : Input) → (exec_keeps s.extra).has_key key ≡ true
-    → sends_made (next_task s.loop.parts) input ≡ true → (place : ℕ) → place ≡ place_of exec_part key → (y : Exec) (w : View) (asked : Asked)
+    → sends_made (ids_of s) input ≡ true → (place : ℕ) → place ≡ place_of exec_part key → (y : Exec) (w : View) (asked : Asked)
     → SaysSeen (kept_of y) v w asked (woken (standing_at place (kept_of x)) key place input (parts v) (kept_of x))
     → SaysAs exec_added t s v w y asked (exec_means.wake key input s)
 wakes_at None e t s x v h key input known made place at y w asked seen = absurd (cc)

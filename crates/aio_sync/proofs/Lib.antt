@@ -1,5 +1,5 @@
-mod Rising
-mod Resolved
+pub mod Rising
+pub mod Resolved
 mod Entries
 mod Same
 mod Lifting

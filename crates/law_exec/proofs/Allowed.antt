@@ -11,11 +11,10 @@ use Rattle.model_loop.specs.Futures.{next_future}
 use Rattle.model_loop.specs.Loop.{Loop}
 use Rattle.model_loop.specs.Owning.{owner_at}
 use Rattle.model_loop.specs.Parts.{Parts, Plain}
-use Rattle.model_loop.specs.Tasks.{next_task}
 use Rattle.model_says.specs.Operations.{out_of_range}
 use Rattle.model_says.specs.Requests.{bad_argument}
 use Rattle.model_machine.specs.Extra.{Answers, Asks, ExtraAnswer, ExtraStep, MakesPlain, Raises, Settles, Waits, called, key_of, made_by, made_by_all, unknown_code}
-use Rattle.model_machine.specs.Sound.{IsNoneOf, IsOwned, sends_made}
+use Rattle.model_machine.specs.Sound.{Ids, IsNoneOf, IsOwned, ids_of, sends_made}
 use Rattle.model_machine.specs.State.{State}
 use Rattle.model_reach.specs.Part.{can_draw, only_says, passes, place_of, refuses, stays}
 use Rattle.law_cancel.proofs.Lookups.{get-push_last}
@@ -44,18 +43,18 @@ same_key key other e = ap (λ o. option_map_or (λ (k : ℕ). k) o key) e
 -- ---- what is its own stays so
 owned_on : (own : Owns) (step : ExtraStep) (l : Loop) (id : ℕ) → IsAllowed own step l → IsOwned l.parts id → IsOwned (made_by step l).parts id
 owned_on own step l id may o =
-    let a = (all_after (next_task l.parts) None own (step ∷ []) l refl (may, tt)).parts in
+    let a = (all_after None own (step ∷ []) l (may, tt)).parts in
     (let f = a.futures in let w = o.0 in omega (arith, f, w), a.owners id o.0 ∙ o.1)
 
 module _ (running : Option ℕ) (s : State Execed) (may : MayCall exec_means running s) where
   abbrev p : Parts
   p = s.loop.parts
 
-  abbrev n : ℕ
-  n = next_task s.loop.parts
+  abbrev n : Ids
+  n = ids_of s
 
   abbrev own : Owns
-  own = owns_at (exec_keeps s.extra) s.loop.parts
+  own = owns_at (ids_of s) (exec_keeps s.extra) s.loop.parts
 
   abbrev Old : ℕ → Type 0
   Old id = IsAmong (exec_keeps s.extra).own id

@@ -29,7 +29,7 @@ module _ (key place : ℕ) (s : State Execed) where
       at : (b : Bool)
           → WaitsAgain key s
           (if b then says (accept place (stand_on place (Waiting (next_future s.loop.parts) None) s.extra)) (MakesPlain ∷ [])
-              (Waits (next_future s.loop.parts) key)
+          (Waits (next_future s.loop.parts) key)
           else says (stand_no_more place s.extra) [] (Raises strange_answer))
       at true = (
         λ next e. ap (λ o. option_map_or (λ (k : ℕ). k) o key) (sym e),

@@ -1,9 +1,9 @@
 -- What is added where the program runs a script goes by no answer that is still to come.
 use Rattle.std.proofs.Common.{refl}
-use Rattle.model_machine.specs.Extra.{no_extra}
 use Rattle.model_gather.specs.Serving.{gather_means}
 use Rattle.model_sync.specs.Serving.{sync_means}
 use Rattle.model_exec.specs.Serving.{exec_means}
+use Rattle.model_dgram.specs.Serving.{dgram_means}
 use Rattle.model_program.specs.Added.{added}
 use Rattle.law_replay.specs.Foreseeing.{ForeseesNothing}
 use Rattle.law_replay.proofs.Gathering.{gather_foresees}
@@ -27,8 +27,9 @@ exec_foresees = record {
   item = λ code bytes s left. refl;
 }
 
-missing_foresees : ForeseesNothing no_extra
-missing_foresees = record {
+-- and so do datagrams
+dgram_foresees : ForeseesNothing dgram_means
+dgram_foresees = record {
   ask = λ task code arguments s left. refl;
   wake = λ key input s left. refl;
   act = λ key s left. refl;
@@ -37,4 +38,4 @@ missing_foresees = record {
 
 pub added_foresees : ForeseesNothing added
 added_foresees =
-    reach_foresees gather_means sync_means exec_means no_extra gather_foresees sync_foresees exec_foresees missing_foresees
+    reach_foresees gather_means sync_means exec_means dgram_means gather_foresees sync_foresees exec_foresees dgram_foresees

@@ -1,0 +1,4 @@
+pub mod Code
+pub mod Keeps
+pub mod Told
+pub mod Woken
