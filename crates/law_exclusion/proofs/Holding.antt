@@ -16,7 +16,7 @@ use Rattle.model_machine.specs.State.{State}
 use Rattle.model_reach.specs.Part.{place_of}
 use Rattle.model_reach.specs.Reach.{OfSync, Part, Parted, part_of_key, reach}
 use Rattle.model_sync.specs.Serving.{sync_means}
-use Rattle.model_sync.specs.Synced.{Synced, Waiting, on_of, sync_keeps, sync_part, waiting_at}
+use Rattle.model_sync.specs.Synced.{Event, Synced, Waiting, on_of, sync_keeps, sync_part, waiting_at}
 use Rattle.law_apart.specs.Apart.{Leaves}
 use Rattle.law_calls.specs.Told.{Happening, Hears, Wakes}
 use Rattle.law_heeded.specs.Between.{AreDisjoint, own_of}
@@ -28,9 +28,10 @@ use Rattle.law_heeded.proofs.Still.{steps_still}
 use Rattle.law_locks.specs.Locks.{HearsOf}
 use Rattle.law_runs.specs.Allowed.{IsAmong}
 use Rattle.law_sync.proofs.Comes.{AnswerHolds, Comes, WaitsOn}
-use Rattle.law_sync.proofs.Holding.{WaitingHolds, holds_from}
+use Rattle.law_sync.proofs.Holding.{EventHolds, Holds, WaitingHolds, holds_from}
 use Rattle.law_sync.proofs.Lists.{each_both, each_from, each_on}
 use Rattle.law_exclusion.specs.Beside.{WaitsAs}
+use Rattle.law_exclusion.proofs.Events.{IsEventKept, events_left}
 use Rattle.law_exclusion.proofs.Standing.{IsFresh, IsNoFailure, left_fine, made_fresh, next_fine, plain_fine, wakes_fine}
 use Rattle.law_exclusion.proofs.Waitings.{ListChange, each_now, others_stay, waits_there}
 
@@ -65,6 +66,7 @@ module _ {A C D : Type 0} (gather : Extra A) (exec : Extra C) (dgram : Extra D) 
     pub stands : (task key : ℕ) (it : Waiting) → StandsUnder s.generators task key → part_of_key key ≡ OfSync
         → waiting_at (place_of sync_part key) s.extra.sync ≡ Some it → waiter_of s.loop.parts task ≡ Some (on_of it)
     pub fine : Each (λ (entry : ℕ × Waiting). IsNoFailure (future_outcome s.loop.parts (on_of entry.1))) s.extra.sync.waiting
+    pub woken : Each (IsEventKept s.loop.parts) s.extra.sync.events
 
   -- a request waits on a future that its call made, under a key under which nobody stands
   pub record IsNew (on key : ℕ) (s : State S) : Type 0 where
@@ -97,17 +99,30 @@ module _ {A C D : Type 0} (gather : Extra A) (exec : Extra C) (dgram : Extra D) 
   abbrev pub Mine : S → ℕ → Bool
   Mine kept = is_among (Own OfSync kept)
 
-  pub mine_on : (kept : S) → Each (λ (entry : ℕ × Waiting). Mine kept (on_of entry.1) ≡ true) kept.sync.waiting
-  mine_on kept =
-      let among = IsAmong (sync_keeps kept.sync).own in
-      let any = λ (value : Value). Unit {0} in
-      each_on (WaitingHolds among any) (λ entry. Mine kept (on_of entry.1) ≡ true) (λ entry h. test_among (sync_keeps kept.sync).own (on_of entry.1) h.0)
-      kept.sync.waiting
-      (holds_from among any kept.sync (each_from among (sync_keeps kept.sync).own (λ id h. h)) (all_any (sync_keeps kept.sync).values)).waiting
+  abbrev pub Any : Value → Type 0
+  Any value = Unit {0}
+
+  abbrev pub Old : S → ℕ → Type 0
+  Old kept id = IsAmong (sync_keeps kept.sync).own id
+
+  all_old : (kept : S) → Holds (Old kept) Any kept.sync
+  all_old kept =
+      holds_from (Old kept) Any kept.sync (each_from (Old kept) (sync_keeps kept.sync).own (λ id h. h)) (all_any (sync_keeps kept.sync).values)
     where
-      all_any : (xs : List Value) → Each (λ (value : Value). Unit {0}) xs
+      all_any : (xs : List Value) → Each Any xs
       all_any [] = tt
       all_any (x ∷ xs) = (tt, all_any xs)
+
+  pub mine_on : (kept : S) → Each (λ (entry : ℕ × Waiting). Mine kept (on_of entry.1) ≡ true) kept.sync.waiting
+  mine_on kept =
+      each_on (WaitingHolds (Old kept) Any) (λ entry. Mine kept (on_of entry.1) ≡ true)
+      (λ entry h. test_among (sync_keeps kept.sync).own (on_of entry.1) h.0) kept.sync.waiting (all_old kept).waiting
+
+  pub mine_events : (kept : S) → Each (λ (event : Event). Each (λ waiter. Mine kept waiter ≡ true) event.waiters) kept.sync.events
+  mine_events kept =
+      each_on (EventHolds (Old kept) Any) (λ event. Each (λ waiter. Mine kept waiter ≡ true) event.waiters)
+      (λ event h. each_on (Old kept) (λ waiter. Mine kept waiter ≡ true) (test_among (sync_keeps kept.sync).own) event.waiters h) kept.sync.events
+      (all_old kept).events
 
   -- futures of those who wait stay, or are cancelled
   pub fine_on : (kept : S) (p q : Parts) → Leaves (Mine kept) p q
@@ -118,8 +133,19 @@ module _ {A C D : Type 0} (gather : Extra A) (exec : Extra C) (dgram : Extra D) 
       (λ (entry : ℕ × Waiting). IsNoFailure (future_outcome q (on_of entry.1)))
       (λ entry mine ok. left_fine p q (on_of entry.1) (leaves.stay (on_of entry.1) mine) ok) kept.sync.waiting (mine_on kept) fine
 
+  pub woken_on : (kept : S) (p q : Parts) → Leaves (Mine kept) p q → Each (IsEventKept p) kept.sync.events → Each (IsEventKept q) kept.sync.events
+  woken_on kept p q leaves woken = events_left (Mine kept) p q leaves.stay kept.sync.events (mine_events kept) woken
+
   mine_own : (kept : S) (id : ℕ) → IsAmong (Own OfSync kept) id → is_own added kept id ≡ true
   mine_own kept id h = test_among (added.keeps kept).own id (in_all gather sync_means exec dgram OfSync kept id h)
+
+  -- those who wait for events wait for futures that were made
+  pub events_below : (s : State S) → AreApart added s
+      → Each (λ (event : Event). Each (λ waiter. waiter < next_future s.loop.parts) event.waiters) s.extra.sync.events
+  events_below s a =
+      each_on (EventHolds (Old s.extra) Any) (λ event. Each (λ waiter. waiter < next_future s.loop.parts) event.waiters)
+      (λ event h. each_on (Old s.extra) (λ waiter. waiter < next_future s.loop.parts) (λ id own. a.below id (mine_own s.extra id own)) event.waiters h)
+      s.extra.sync.events (all_old s.extra).events
 
   pub of_all : (kept : S) (p q : Parts) → Leaves (is_own added kept) p q → Leaves (Mine kept) p q
   of_all kept p q leaves = record {
@@ -140,6 +166,8 @@ module _ {A C D : Type 0} (gather : Extra A) (exec : Extra C) (dgram : Extra D) 
             ∙ inv.stands task key it (b.all.stands task key st) here (ap (λ (kept : S). waiting_at (place_of sync_part key) kept.sync) (sym same) ∙ e);
         fine = subst (λ (kept : S). Each (λ (entry : ℕ × Waiting). IsNoFailure (future_outcome t.loop.parts (on_of entry.1))) kept.sync.waiting) (sym same)
             (fine_on s.extra s.loop.parts t.loop.parts (of_all s.extra s.loop.parts t.loop.parts b.leaves) inv.fine);
+        woken = subst (λ (kept : S). Each (IsEventKept t.loop.parts) kept.sync.events) (sym same)
+            (woken_on s.extra s.loop.parts t.loop.parts (of_all s.extra s.loop.parts t.loop.parts b.leaves) inv.woken);
       }
 
   -- ---- calls of other parts
@@ -157,6 +185,8 @@ module _ {A C D : Type 0} (gather : Extra A) (exec : Extra C) (dgram : Extra D) 
         ∙ inv.stands task key waiting st here (ap (λ (kept : Synced). waiting_at (place_of sync_part key) kept) (sym same) ∙ e);
     fine = subst (λ (kept : Synced). Each (λ (entry : ℕ × Waiting). IsNoFailure (future_outcome (made_by_all it.steps s.loop).parts (on_of entry.1)))
         kept.waiting) (sym same) (fine_on s.extra s.loop.parts (made_by_all it.steps s.loop).parts leaves inv.fine);
+    woken = subst (λ (kept : Synced). Each (IsEventKept (made_by_all it.steps s.loop).parts) kept.events) (sym same)
+        (woken_on s.extra s.loop.parts (made_by_all it.steps s.loop).parts leaves inv.woken);
   }
 
   pub no_steps : (s : State S) → Leaves (Mine s.extra) s.loop.parts s.loop.parts
@@ -176,12 +206,6 @@ module _ {A C D : Type 0} (gather : Extra A) (exec : Extra C) (dgram : Extra D) 
   others_wait part (extra.Raises fault) s differs is = tt
 
   -- ---- calls of locks, events and queues
-  abbrev pub Any : Value → Type 0
-  Any value = Unit {0}
-
-  abbrev pub Old : S → ℕ → Type 0
-  Old kept id = IsAmong (sync_keeps kept.sync).own id
-
   abbrev pub after : ExtraSaid Synced → State S → ExtraCall S
   after said s = record { state = record (s.extra) { sync = said.call.state }; steps = said.call.steps }
 
@@ -191,6 +215,7 @@ module _ {A C D : Type 0} (gather : Extra A) (exec : Extra C) (dgram : Extra D) 
       (apart : (task other : ℕ) → StandsUnder s.generators task other → part_of_key other ≡ OfSync → place_of sync_part other ≡ place → ⊥)
       (said : ExtraSaid Synced) (comes : Comes (Old s.extra) Any (next_future s.loop.parts) drawn key said)
       (change : ListChange (next_future s.loop.parts) place s.extra.sync.waiting asked said.answer said.call.state.waiting)
+      (events : Each (IsEventKept (made_by_all said.call.steps s.loop).parts) said.call.state.events)
       (kept : IsPartKept gather sync_means exec dgram OfSync (after said s) s) (a : AreApart added s) where
     drawn_is : said.call.state.drawn ≡ drawn
     drawn_is = at comes
@@ -229,6 +254,7 @@ module _ {A C D : Type 0} (gather : Extra A) (exec : Extra C) (dgram : Extra D) 
           (each_now place (next_future s.loop.parts) s.extra.sync.waiting said.call.state.waiting asked said.answer
           (λ entry. IsNoFailure (future_outcome s.loop.parts (on_of entry.1))) change
           (λ new is. subst (λ id. IsNoFailure (future_outcome s.loop.parts id)) (sym is) (next_fine s.loop.parts)) inv.fine);
+      woken = events;
     }
 
     new_waits : WaitsOn (Old s.extra) Any (next_future s.loop.parts) drawn key said → place_of sync_part key ≡ place

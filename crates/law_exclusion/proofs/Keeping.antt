@@ -36,18 +36,19 @@ use Rattle.law_heeded.proofs.Owning.{test_among}
 use Rattle.law_heeded.proofs.Sharing.{IsPartKept, act_part, ask_part, in_all, item_part, now_disjoint, wake_part}
 use Rattle.law_heeded.proofs.Synced.{any_puts, holds}
 use Rattle.law_locks.specs.Locks.{HearsOf}
-use Rattle.law_locks.proofs.Served.{acquired_is, getting_is, putting_is, serves_is, waited_is}
+use Rattle.law_locks.proofs.Served.{Resumes, acquired_is, getting_is, putting_is, serves_is, waited_is}
 use Rattle.law_runs.specs.Allowed.{IsAmong}
 use Rattle.law_sync.proofs.Comes.{Comes, acquired_comes, getting_comes, putting_comes, served_comes, waited_comes}
 use Rattle.law_sync.proofs.Holding.{EventHolds, LockHolds, QueueHolds}
 use Rattle.law_sync.proofs.Lists.{each_at, each_found}
 use Rattle.law_exclusion.specs.Beside.{WaitsUnderItsKeys}
+use Rattle.law_exclusion.proofs.Events.{IsEventKept, comes_done, resumes_events, serves_events}
 use Rattle.law_exclusion.proofs.Holding.{Any, HeardAt, Inv, InvCalled, InvWoken, HeardFact, IsNew, Mine, Old, WaitsSo, after, beside_inv, fine_on, mine_on}
-use Rattle.law_exclusion.proofs.Holding.{no_steps, of_all}
+use Rattle.law_exclusion.proofs.Holding.{events_below, no_steps, of_all, woken_on}
 use Rattle.law_exclusion.proofs.Holding.{other_inv, others_wait, said_inv, still_inv}
 use Rattle.law_exclusion.proofs.Keys.{key_sync, place_at, same_key}
 use Rattle.law_exclusion.proofs.Standing.{IsNoFailure, fresh_none, heard_of, no_cycle}
-use Rattle.law_exclusion.proofs.Waitings.{ListChange, resumes_list, serves_list}
+use Rattle.law_exclusion.proofs.Waitings.{resumes_list, serves_list}
 use Rattle.model_sync.specs.Synced.{is_place}
 
 module _ {A C D : Type 0} (gather : Extra A) (exec : Extra C) (dgram : Extra D) (keeps_gather : KeepsToItsFutures gather)
@@ -116,10 +117,14 @@ module _ {A C D : Type 0} (gather : Extra A) (exec : Extra C) (dgram : Extra D) 
         → Called task (served wanted s.loop.parts s.extra.sync).answer (called (after gather exec dgram (served wanted s.loop.parts s.extra.sync) s) s)
     served_inv wanted is =
         let said = served wanted s.loop.parts s.extra.sync in
+        let comes =
+        served_comes _ _ tt (λ is. tt) (λ number. tt) s.loop.parts s.extra.sync (holds (seen_by s.extra.sync s)) wanted (any_puts wanted) in
         said_inv gather exec dgram s inv s.extra.sync.drawn (next_key s.extra.sync) (s.extra.sync.drawn + 1) (omega arith) true (omega arith) (λ e. refl)
         (λ other key st here same. let k = inv.known other key st here in absurd (omega (arith, k, same))) said
-        (served_comes _ _ tt (λ is. tt) (λ number. tt) s.loop.parts s.extra.sync (holds (seen_by s.extra.sync s)) wanted (any_puts wanted))
-        (serves_list s.loop.parts s.extra.sync wanted said (serves_is s.loop.parts s.extra.sync wanted)) is a task (place_at s.extra.sync.drawn) undrawn
+        comes
+        (serves_list s.loop.parts s.extra.sync wanted said (serves_is s.loop.parts s.extra.sync wanted))
+        (serves_events s.loop s.extra.sync inv.woken (events_below gather exec dgram s a) wanted said (serves_is s.loop.parts s.extra.sync wanted)
+        (comes_done _ _ _ _ _ said s.loop comes)) is a task (place_at s.extra.sync.drawn) undrawn
 
     drawn_inv : (wanted : Wanted) (b : Bool)
         → PartKept OfSync (after gather exec dgram (if b then served wanted s.loop.parts s.extra.sync else refuses out_of_range s.extra.sync) s) s
@@ -176,13 +181,14 @@ module _ {A C D : Type 0} (gather : Extra A) (exec : Extra C) (dgram : Extra D) 
     alone_at other stood st is same =
         heard_at.alone other (subst (λ k. StandsUnder s.generators other k) (same_key stood key is here same) st)
 
-    goes_inv : (said : ExtraSaid Synced)
+    goes_inv : (it : Waiting) (said : ExtraSaid Synced) → Resumes s.loop.parts s.extra.sync key (place_of sync_part key) it input said
         → Comes (λ id. IsAmong (sync_keeps s.extra.sync).own id) (λ value. Unit {0}) (next_future s.loop.parts) s.extra.sync.drawn key said
-        → ListChange (next_future s.loop.parts) (place_of sync_part key) s.extra.sync.waiting false said.answer said.call.state.waiting
         → PartKept OfSync (after gather exec dgram said s) s → Called task said.answer (called (after gather exec dgram said s) s)
-    goes_inv said comes change is =
+    goes_inv it said resumes comes is =
         said_inv gather exec dgram s inv (place_of sync_part key) key s.extra.sync.drawn (le_refl _) false heard_at.known (λ e. absurd (false≢true e))
-        alone_at said comes change is a task refl heard_at.alone
+        alone_at said comes (resumes_list s.loop.parts s.extra.sync key (place_of sync_part key) it input said resumes)
+        (resumes_events s.loop s.extra.sync inv.woken key (place_of sync_part key) it input said resumes (comes_done _ _ _ _ _ said s.loop comes)) is a task
+        refl heard_at.alone
 
     named_inv : {B : Type 0} (o : Option B) (next : B → ExtraSaid Synced)
         → PartKept OfSync (after gather exec dgram (named o input next s.extra.sync) s) s
@@ -216,33 +222,29 @@ module _ {A C D : Type 0} (gather : Extra A) (exec : Extra C) (dgram : Extra D) 
     woken_inv None e is = nothing_said task _ s is refl (passes_waits input _) a inv
     woken_inv (Some (Acquires id on)) e is =
         named_inv (slice_get s.extra.sync.locks id) (λ lock. acquired (place_of sync_part key) id on input lock s.extra.sync) is
-        (λ lock found. goes_inv _
+        (λ lock found. goes_inv (Acquires id on) _
+        (acquired_is s.loop.parts s.extra.sync key (place_of sync_part key) id on input lock found)
         (acquired_comes _ _ tt (λ is_. tt) (λ number. tt) s.loop.parts s.extra.sync (holds (seen_by s.extra.sync s)) key (place_of sync_part key) id on input
-        lock (lock_there id lock found))
-        (resumes_list s.loop.parts s.extra.sync key (place_of sync_part key) (Acquires id on) input _
-        (acquired_is s.loop.parts s.extra.sync key (place_of sync_part key) id on input lock found)))
+        lock (lock_there id lock found)))
     woken_inv (Some (Awaits id on)) e is =
         named_inv (slice_get s.extra.sync.events id) (λ event. waited (place_of sync_part key) id on input event s.extra.sync) is
-        (λ event found. goes_inv _
+        (λ event found. goes_inv (Awaits id on) _
+        (waited_is s.loop.parts s.extra.sync key (place_of sync_part key) id on input event found)
         (waited_comes _ _ tt (λ is_. tt) (λ number. tt) s.loop.parts s.extra.sync (holds (seen_by s.extra.sync s)) key (place_of sync_part key) id on input
-        event (event_there id event found))
-        (resumes_list s.loop.parts s.extra.sync key (place_of sync_part key) (Awaits id on) input _
-        (waited_is s.loop.parts s.extra.sync key (place_of sync_part key) id on input event found)))
+        event (event_there id event found)))
     woken_inv (Some (Puts id value on)) e is =
         named_inv (slice_get s.extra.sync.queues id)
         (λ queue. putting key (place_of sync_part key) id on value input queue s.loop.parts s.extra.sync) is
-        (λ queue found. goes_inv _
+        (λ queue found. goes_inv (Puts id value on) _
+        (putting_is s.loop.parts s.extra.sync key (place_of sync_part key) id on value input queue found)
         (putting_comes _ _ tt (λ is_. tt) (λ number. tt) s.loop.parts s.extra.sync (holds (seen_by s.extra.sync s)) key (place_of sync_part key) id on value
-        tt input queue (queue_there id queue found) (Puts id value on) e)
-        (resumes_list s.loop.parts s.extra.sync key (place_of sync_part key) (Puts id value on) input _
-        (putting_is s.loop.parts s.extra.sync key (place_of sync_part key) id on value input queue found)))
+        tt input queue (queue_there id queue found) (Puts id value on) e))
     woken_inv (Some (Gets id on)) e is =
         named_inv (slice_get s.extra.sync.queues id) (λ queue. getting key (place_of sync_part key) id on input queue s.loop.parts s.extra.sync) is
-        (λ queue found. goes_inv _
+        (λ queue found. goes_inv (Gets id on) _
+        (getting_is s.loop.parts s.extra.sync key (place_of sync_part key) id on input queue found)
         (getting_comes _ _ tt (λ is_. tt) (λ number. tt) s.loop.parts s.extra.sync (holds (seen_by s.extra.sync s)) key (place_of sync_part key) id on input
-        queue (queue_there id queue found) (Gets id on) e)
-        (resumes_list s.loop.parts s.extra.sync key (place_of sync_part key) (Gets id on) input _
-        (getting_is s.loop.parts s.extra.sync key (place_of sync_part key) id on input queue found)))
+        queue (queue_there id queue found) (Gets id on) e))
 
   wakes_inv : (task key : ℕ) (input : Input) (s : State S) → AreApart added s → Woken task key input s
       → Called task (added.wake key input s).answer (called (added.wake key input s).call s)
@@ -341,6 +343,9 @@ module _ {A C D : Type 0} (gather : Extra A) (exec : Extra C) (dgram : Extra D) 
             (stood.all.stands other key_ st) (cases_eq task other);
         fine = subst (λ (kept : S). Each (λ (entry : ℕ × Waiting). IsNoFailure (future_outcome t.loop.parts (on_of entry.1))) kept.sync.waiting) (sym same)
             (fine_on gather exec dgram s.extra s.loop.parts t.loop.parts (of_all gather exec dgram s.extra s.loop.parts t.loop.parts stood.leaves) inv.fine);
+        woken = subst (λ (kept : S). Each (IsEventKept t.loop.parts) kept.sync.events) (sym same)
+            (woken_on gather exec dgram s.extra s.loop.parts t.loop.parts (of_all gather exec dgram s.extra s.loop.parts t.loop.parts stood.leaves)
+            inv.woken);
       }
     where
       new_at : (key_ : ℕ) → part_of_key key_ ≡ OfSync → key_ ≡ key → IsNew gather exec dgram on key s
@@ -366,7 +371,7 @@ module _ {A C D : Type 0} (gather : Extra A) (exec : Extra C) (dgram : Extra D) 
 
   -- ---- handles and news
   out_inv : (by : Action) (rest : List Handle) (s : State S) → Holds s → Holds (runs by rest s)
-  out_inv by rest s inv = record { disjoint = inv.disjoint; known = inv.known; places = inv.places; stands = inv.stands; fine = inv.fine }
+  out_inv by rest s inv = record { disjoint = inv.disjoint; known = inv.known; places = inv.places; stands = inv.stands; fine = inv.fine; woken = inv.woken }
 
   part_inv : (part : Part) (it : ExtraCall S) (s : State S) → PartKept part it s → it.state.sync ≡ s.extra.sync
       → (part ≡ OfSync → it.steps ≡ []) → AreApart added s → Holds s → Holds (called it s)
@@ -435,7 +440,7 @@ module _ {A C D : Type 0} (gather : Extra A) (exec : Extra C) (dgram : Extra D) 
       at = λ here. absurd (none-some outcome (sym (fresh_none s.loop.parts on (c.waits here).fresh) ∙ is));
     };
     hears = λ task key code bytes answer left s fit c. record {
-      inv = record { disjoint = c.inv.disjoint; known = c.inv.known; places = c.inv.places; stands = c.inv.stands; fine = c.inv.fine };
+      inv = record { disjoint = c.inv.disjoint; known = c.inv.known; places = c.inv.places; stands = c.inv.stands; fine = c.inv.fine; woken = c.inv.woken };
       at = λ here. absurd (c.waits here);
     };
     wakes = wakes_inv;

@@ -40,8 +40,10 @@ use Rattle.law_replies.specs.Added.{KeepsSound}
 use Rattle.law_runs.proofs.Calls.{allowed_keeps}
 use Rattle.law_sync.proofs.Allowed.{sync_allowed}
 use Rattle.law_sync.proofs.Keys.{of_sync}
+use Rattle.law_sync.proofs.Lists.{each_at}
 use Rattle.law_exclusion.specs.Beside.{WaitsUnderItsKeys}
 use Rattle.law_exclusion.specs.Promise.{KeepsLocks}
+use Rattle.law_exclusion.proofs.Events.{IsEventKept}
 use Rattle.law_exclusion.proofs.Heeding.{after_tries, heeded}
 use Rattle.law_exclusion.proofs.Holding.{HeardFact, Inv}
 use Rattle.law_exclusion.proofs.Keeping.{inv_facts, inv_walks}
@@ -77,6 +79,7 @@ module _ {A C D : Type 0} (gather : Extra A) (exec : Extra C) (dgram : Extra D) 
     stands = λ task key it st here e. absurd (stands_nowhere task key st);
     fine = subst (λ (kept : Synced). Each (λ (entry : ℕ × Waiting). IsNoFailure (future_outcome begun.loop.parts (on_of entry.1))) kept.waiting)
         (sym unasked) tt;
+    woken = subst (λ (kept : Synced). Each (IsEventKept begun.loop.parts) kept.events) (sym unasked) tt;
   }
 
   pub locks_run : (turns : ℕ) → IsRunOf (KeepsLocks step_limit gather exec dgram first) step_limit (reach gather sync_means exec dgram) turns
@@ -94,6 +97,7 @@ module _ {A C D : Type 0} (gather : Extra A) (exec : Extra C) (dgram : Extra D) 
             (after_tries step_limit gather exec dgram first unasked begun.loop.parts history ∙ ap (λ (kept : S). kept.sync) it.past.happened.keeps)
             (locks_keep (tries_of history) begun.loop.parts s.loop.parts
             (heeded step_limit gather exec dgram first unasked begun.loop.parts history s.loop.parts it.past.left it.past.facts));
+        events = λ id event found. each_at (IsEventKept s.loop.parts) s.extra.sync.events id event found it.inv.woken;
       }) step_limit (reach gather sync_means exec dgram) turns begun
       (runs_along gather sync_means exec dgram keeps_gather sync_keeps_to keeps_exec keeps_dgram sound first nothing most program answers OfSync walks
       HeardFact facts turns begins)

@@ -1,4 +1,4 @@
-//! What users of locks rely on, in every run. Each function has no body: its clauses are the law.
+//! What users of locks and events rely on, in every run. Each function has no body: its clauses are the law.
 //! `A`, `C` and `D` are what the other parts of what is added keep.
 #![tactic(auto)]
 
@@ -23,9 +23,9 @@ ghost use Rattle.law_exclusion.specs.Promise.{KeepsLocks};
 
 /// In each state of each run of every program, over whatever the outside answers: between two
 /// acquires of one lock that answered True stands a release of it that answered None; acquires
-/// answer True in order of asking; and where a lock is unlocked and somebody waits, the first who
-/// does was woken. So it is of what the program adds, whose other parts are waits for several, jobs
-/// and datagrams.
+/// answer True in order of asking; where a lock is unlocked and somebody waits, the first who does
+/// was woken; and where an event is set, everybody who waits for it was. So it is of what the
+/// program adds, whose other parts are waits for several, jobs and datagrams.
 pub fn locks_keep_their_promise_in_every_run()
     ensures program { (most : ℕ) (program : Program) (answers : List Entry) (turns : ℕ)
         → IsRunOf (KeepsLocks step_limit gather_means exec_means dgram_means first_added)
