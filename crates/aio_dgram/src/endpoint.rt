@@ -4,12 +4,14 @@ ghost use Rattle.std.specs.List.{AllByRecursion as Each, flat_map};
 ghost use Rattle.model_sync.specs.Synced.{without};
 ghost use Rattle.model_dgram.specs.Endpoints.{fresh, most_held, wakes_at, wakes_first, wakes_receiver};
 ghost use Rattle.model_dgram.specs.Sending.{stand_last, stands_first};
+ghost use Rattle.model_dgram.specs.Receiving.{hold};
 ghost use Rattle.model_dgram.specs.Texts as texts;
 ghost use Rattle.aio_sync.specs.Woken.{are_free, is_free, woken};
 ghost use Rattle.aio_dgram.specs.Keeps.{own_in, waits};
+ghost use Rattle.aio_dgram.specs.Told.{came_as};
 ghost use Rattle.aio_dgram.specs.Woken.{Sees};
 
-use crate::datagram::Datagram;
+use crate::datagram::{Came, Datagram};
 use crate::waiting::Waiting;
 use aio_base::{Memory, Outcome, Value};
 use aio_task::{FutureId, Parts};
@@ -189,18 +191,30 @@ impl Endpoint {
         self.held.pop_front()
     }
 
-    /// Whether it holds as many as it may.
-    pub fn is_full(&self) -> bool
+    // Whether it holds as many as it may.
+    fn is_full(&self) -> bool
         ensures { result ≡ not (nat_lt (length self.now.held) most_held) }
     {
         self.held.len() >= MOST
     }
 
-    /// One more comes last.
-    pub fn hold(&mut self, it: Datagram) -> Result<(), Memory>
+    // One more comes last.
+    fn hold(&mut self, it: Datagram) -> Result<(), Memory>
         ensures { OnOk result (self.new ≡ record self.old { held = self.old.held ++ it ∷ [] }) }
     {
         self.held.push_back(it)?;
         Ok(())
+    }
+
+    /// One more comes last, where it may hold one more.
+    pub fn hold_if_room(&mut self, alloc: Global, came: Came<'_>) -> Result<(), Memory>
+        ensures { OnOk result (self.new ≡ record self.old {
+          held = hold (came_as came.entry).datagram self.old.held;
+        }) }
+    {
+        if self.is_full() {
+            return Ok(());
+        }
+        self.hold(Datagram::of(alloc, came)?)
     }
 }
