@@ -15,13 +15,13 @@ use Rattle.aio_dgram.specs.Seen.{kept_of}
 
 -- The object is what the machine keeps, which is tidy, and none of its futures was released.
 pub record StandsForKept (t : NameMap) (x : Dgram) (kept : Endpoints) : Type 0 where
-  pub kept : kept_of x ≡ kept
+  pub seen : kept_of x ≡ kept
   pub tidy : IsTidy kept
   pub there : (id : ℕ) → IsAmong (dgram_keeps kept).own id → t.gone id ≡ false
 
 pub goes_on : (t u : NameMap) (p q : Parts) (x : Dgram) (kept : Endpoints) → StandsForKept t x kept
     → GoesBeside (IsAmong (dgram_keeps kept).own) t p u q → StandsForKept u x kept
-goes_on t u p q x kept h beside = record { kept = h.kept; tidy = h.tidy; there = λ id own. beside.gone id own ∙ h.there id own }
+goes_on t u p q x kept h beside = record { seen = h.seen; tidy = h.tidy; there = λ id own. beside.gone id own ∙ h.there id own }
 
 abbrev pub dgram_added : Added Dgram
 dgram_added =

@@ -5,4 +5,5 @@ pub mod Woken
 pub mod Wants
 pub mod Seen
 pub mod Reaches
+pub mod Leaves
 pub mod Added

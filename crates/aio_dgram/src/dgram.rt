@@ -1,18 +1,22 @@
 //! What is kept of datagram endpoints.
-ghost use Rattle.std.specs.Prelude.{◌≡◌, ◌<◌, ℕ, None, Some, true, is_some, IfOk, OnOk, nat_lt, if◌then◌else◌};
+ghost use Rattle.std.specs.Prelude.{◌≡◌, ◌<◌, ◌∷◌, [], List, ℕ, None, Some, true, is_some, IfNone, IfOk, OnOk, MatchOption, length, nat_lt, if◌then◌else◌};
 ghost use Rattle.std.specs.List.{AllByRecursion as Each};
 ghost use Rattle.model_value.specs.Value.{exception_of};
 ghost use Rattle.model_machine.specs.Extra.{ExtraAnswer};
 ghost use Rattle.model_reach.specs.Part.{can_draw, key_at, no_key};
 ghost use Rattle.model_dgram.specs.Endpoints as plain;
-ghost use Rattle.model_dgram.specs.Endpoints.{dgram_part, draw, endpoint_at, is_closed, next_key, no_endpoint, none_opened, raises, wait_again, wait_last, wait_over, waiting_at};
-ghost use Rattle.model_dgram.specs.Sending.{leaves};
+ghost use Rattle.model_dgram.specs.Endpoints.{dgram_part, draw, endpoint_at, is_closed, next_key, no_endpoint, none_opened, raises, set_endpoint, wait_again, wait_last, wait_over, waiting_at};
+ghost use Rattle.model_dgram.specs.Sending.{leaves, stand_last};
+ghost use Rattle.model_dgram.specs.Texts as texts;
+ghost use Rattle.law_dgram.specs.Tidy.{IsTidy};
 ghost use Rattle.aio_sync.specs.Woken.{are_free};
 ghost use Rattle.aio_dgram.specs.Keeps.{found_of, moved};
+ghost use Rattle.aio_dgram.specs.Leaves.{LeavesLine, received_by};
 ghost use Rattle.aio_dgram.specs.Reaches.{Reaches};
 ghost use Rattle.aio_dgram.specs.Seen.{kept_of, own_of};
 ghost use Rattle.aio_dgram.specs.Woken.{CallsSeen, SaysSeen};
 
+use crate::datagram::Datagram;
 use crate::endpoint::Endpoint;
 use crate::waiting::{Found, Waiting};
 use aio_base::{Kind, Memory, Value, exception};
@@ -170,6 +174,17 @@ impl Dgram {
         Ok(Reached::Raised(self.not_open(alloc, id, parts)?))
     }
 
+    // It leaves the line, and where it stood first the next is woken.
+    fn leave_line(&mut self, place: u64, id: u64, parts: &mut Parts)
+        requires idle { parts.old.called ≡ None }
+        requires free { are_free parts.old.futures (own_of self.old) ≡ true }
+        ensures { LeavesLine place id (kept_of self.old) (kept_of self.new) parts.old parts.new }
+    {
+        if let Some(endpoint) = self.endpoints.get_mut(&id) {
+            endpoint.leave_line(place, &self.waiting, parts);
+        }
+    }
+
     /// One sends no more: it leaves the line, and where it stood first the next is woken. It takes
     /// no memory.
     pub fn leave(&mut self, place: u64, id: u64, parts: &mut Parts)
@@ -178,13 +193,71 @@ impl Dgram {
         ensures { (answer : ExtraAnswer) → CallsSeen (kept_of self.new) parts.old parts.new
             (leaves place id answer (kept_of self.old)).call }
     {
-        if let Some(endpoint) = self.endpoints.get_mut(&id) {
-            let first = endpoint.is_first(place);
-            endpoint.leave(place);
-            if first {
-                endpoint.wake_first(&self.waiting, parts);
-            }
-        }
+        self.leave_line(place, id, parts);
         self.end(place);
+    }
+
+    /// One stands last in line; whether somebody stood there.
+    pub fn stand_last(&mut self, id: u64) -> Result<bool, Memory>
+        requires tidy { IsTidy (kept_of self.old) }
+        ensures had { IfOk result (λ had. (endpoint : plain.Endpoint)
+            → endpoint_at id (kept_of self.old) ≡ Some endpoint
+            → had ≡ nat_lt 0 (length endpoint.senders)) }
+        ensures after { OnOk result ((endpoint : plain.Endpoint)
+            → endpoint_at id (kept_of self.old) ≡ Some endpoint
+            → kept_of self.new
+            ≡ set_endpoint id (stand_last self.old.drawn endpoint) (kept_of self.old)) }
+        ensures same { OnOk result ((self.new.drawn ≡ self.old.drawn)
+            × (self.new.waiting ≡ self.old.waiting)) }
+    {
+        let place = self.drawn;
+        match self.endpoints.get_mut(&id) {
+            Some(endpoint) => {
+                let had = endpoint.has_line();
+                endpoint.stand_last(place)?;
+                Ok(had)
+            }
+            None => Ok(false),
+        }
+    }
+
+    /// The first datagram that an endpoint holds, which it holds no longer.
+    pub fn take(&mut self, id: u64) -> Option<Datagram>
+        ensures same { (self.new.drawn ≡ self.old.drawn)
+            × (self.new.waiting ≡ self.old.waiting) }
+        ensures none { IfNone result (kept_of self.new ≡ kept_of self.old) }
+        ensures first { (endpoint : plain.Endpoint)
+            → endpoint_at id (kept_of self.old) ≡ Some endpoint
+            → MatchOption result ((endpoint.held ≡ []) × (kept_of self.new ≡ kept_of self.old))
+            (λ first. (others : List texts.Datagram) × (endpoint.held ≡ first ∷ others)
+            × (kept_of self.new
+            ≡ set_endpoint id (record endpoint { held = others }) (kept_of self.old))) }
+    {
+        match self.endpoints.get_mut(&id) {
+            Some(endpoint) => endpoint.take(),
+            None => None,
+        }
+    }
+
+    /// Whether somebody receives from an endpoint.
+    pub fn is_waited_for(&self, id: u64) -> bool
+        ensures { (endpoint : plain.Endpoint) → endpoint_at id (kept_of self.now) ≡ Some endpoint
+            → result ≡ is_some endpoint.receiver }
+    {
+        match self.endpoints.get(&id) {
+            Some(endpoint) => endpoint.is_waited_for(),
+            None => false,
+        }
+    }
+
+    /// Who receives from an endpoint from now on, if anybody does. It takes no memory.
+    pub fn set_receiver(&mut self, id: u64, receiver: Option<u64>)
+        ensures after { kept_of self.new ≡ received_by id receiver (kept_of self.old) }
+        ensures same { (self.new.drawn ≡ self.old.drawn)
+            × (self.new.waiting ≡ self.old.waiting) }
+    {
+        if let Some(endpoint) = self.endpoints.get_mut(&id) {
+            endpoint.set_receiver(receiver);
+        }
     }
 }

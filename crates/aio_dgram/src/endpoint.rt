@@ -1,5 +1,5 @@
 //! One endpoint that is open.
-ghost use Rattle.std.specs.Prelude.{◌≡◌, ◌<◌, ◌++◌, ◌∷◌, [], List, None, true, not, is_some, OnOk, MatchOption, length, nat_lt};
+ghost use Rattle.std.specs.Prelude.{◌≡◌, ◌<◌, ◌++◌, ◌∷◌, [], List, None, true, not, is_some, OnOk, MatchOption, length, nat_lt, if◌then◌else◌};
 ghost use Rattle.std.specs.List.{AllByRecursion as Each, flat_map};
 ghost use Rattle.model_sync.specs.Synced.{without};
 ghost use Rattle.model_dgram.specs.Endpoints.{fresh, most_held, wakes_at, wakes_first, wakes_receiver};
@@ -102,8 +102,8 @@ impl Endpoint {
         Ok(())
     }
 
-    /// Whether this one stands first in line.
-    pub fn is_first(&self, place: u64) -> bool
+    // Whether this one stands first in line.
+    fn is_first(&self, place: u64) -> bool
         ensures { result ≡ stands_first place self.now.senders }
     {
         match self.senders.first() {
@@ -112,11 +112,32 @@ impl Endpoint {
         }
     }
 
-    /// One leaves the line. It takes no memory.
-    pub fn leave(&mut self, place: u64)
+    // One is no more in line.
+    fn leave(&mut self, place: u64)
         ensures { self.new ≡ record self.old { senders = without place self.old.senders } }
     {
         let _was_there = self.senders.remove(&place);
+    }
+
+    /// One leaves the line, and where it stood first the next is woken. It takes no memory.
+    pub fn leave_line(
+        &mut self,
+        place: u64,
+        waiting: &BTreeMap<u64, Waiting>,
+        parts: &mut Parts,
+    )
+        requires idle { parts.old.called ≡ None }
+        requires free { are_free parts.old.futures (own_in waiting.now.entries) ≡ true }
+        ensures after { self.new ≡ record self.old { senders = without place self.old.senders } }
+        ensures steps { Sees (if stands_first place self.old.senders
+            then wakes_first (waits waiting.now.entries) (without place self.old.senders) else [])
+            parts.old parts.new }
+    {
+        let first = self.is_first(place);
+        self.leave(place);
+        if first {
+            self.wake_first(waiting, parts);
+        }
     }
 
     /// Who stands first in line is woken, unless its future is done. It takes no memory.

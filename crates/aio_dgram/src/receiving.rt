@@ -35,14 +35,11 @@ impl Dgram {
             (receiving.waits_for id endpoint (parts_of parts.old) (kept_of self.old))) }
     {
         let place = self.drawn;
-        let Some(endpoint) = self.endpoints.get_mut(&id) else {
-            return Ok(Asked::Answer(Value::nothing()));
-        };
-        if endpoint.is_waited_for() {
+        if self.is_waited_for(id) {
             return self.raise(alloc, Kind::RuntimeError, "receive is already waited for");
         }
         let on = parts.new_plain(alloc)?;
-        endpoint.set_receiver(Some(place));
+        self.set_receiver(id, Some(place));
         let key = self.wait(Waiting::receives(id, on))?;
         Ok(Asked::Wait { on, key })
     }
@@ -57,10 +54,7 @@ impl Dgram {
             → SaysSeen (kept_of self.new) parts.old parts.new asked
             (receiving.receive id endpoint (parts_of parts.old) (kept_of self.old))) }
     {
-        let Some(endpoint) = self.endpoints.get_mut(&id) else {
-            return Ok(Asked::Answer(Value::nothing()));
-        };
-        match endpoint.take() {
+        match self.take(id) {
             Some(it) => {
                 let value = it.told(alloc)?;
                 Ok(self.answer(value))
@@ -104,12 +98,9 @@ impl Dgram {
             → SaysSeen (kept_of self.new) parts.old parts.new asked
             (receiving.received key place id endpoint (parts_of parts.old) (kept_of self.old))) }
     {
-        let Some(endpoint) = self.endpoints.get_mut(&id) else {
-            return Ok(Asked::Answer(Value::nothing()));
-        };
-        match endpoint.take() {
+        match self.take(id) {
             Some(it) => {
-                endpoint.set_receiver(None);
+                self.set_receiver(id, None);
                 self.end(place);
                 Ok(Asked::Answer(it.told(alloc)?))
             }
@@ -126,9 +117,7 @@ impl Dgram {
         ensures { (exception : Exc) → kept_of self.new
             ≡ (receiving.gives_up place id exception (kept_of self.old)).call.state }
     {
-        if let Some(endpoint) = self.endpoints.get_mut(&id) {
-            endpoint.set_receiver(None);
-        }
+        self.set_receiver(id, None);
         self.end(place);
     }
 

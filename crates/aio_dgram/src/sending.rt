@@ -128,17 +128,14 @@ impl Dgram {
             → SaysSeen (kept_of self.new) parts.old parts.new asked
             (sending.offer it id endpoint (parts_of parts.old) (kept_of self.old))) }
     {
-        let place = self.drawn;
-        let Some(endpoint) = self.endpoints.get_mut(&id) else {
-            forget_datagram(it);
-            return Ok(Asked::Answer(Value::nothing()));
+        let had_line = match self.stand_last(id) {
+            Ok(had_line) => had_line,
+            Err(refused) => {
+                forget_datagram(it);
+                return Err(refused);
+            }
         };
-        let has_line = endpoint.has_line();
-        if let Err(refused) = endpoint.stand_last(place) {
-            forget_datagram(it);
-            return Err(refused);
-        }
-        if has_line {
+        if had_line {
             return self.wait_to_send(alloc, id, it, parts);
         }
         self.ask_to_send(alloc, id, it)
@@ -207,26 +204,34 @@ impl Dgram {
         }
     }
 
-    // The outside is asked to send what one is to send who stood in line.
-    fn ask_again(&mut self, alloc: Global, key: u64, place: u64) -> Result<Asked, Memory>
-        ensures answer { IfOk result (λ asked. (id : ℕ) (it : texts.Datagram) (on : ℕ)
+    // What is asked of the outside, to send the datagram of one who stood in line.
+    fn text_again(&mut self, alloc: Global, place: u64) -> Result<Blob, Memory>
+        ensures text { IfOk result (λ text. (id : ℕ) (it : texts.Datagram) (on : ℕ)
             → waiting_at place (kept_of self.old) ≡ Some (plain.Sends id it on)
-            → asked ≡ Asked.Outside (pos 401) (offer_text id it) key) }
+            → text ≡ offer_text id it) }
         ensures after { OnOk result ((it : plain.Waiting)
             → waiting_at place (kept_of self.old) ≡ Some it
             → kept_of self.new ≡ wait_again place (offering it) (kept_of self.old)) }
     {
         match self.waiting.get_mut(&place) {
-            Some(it) => {
-                let bytes = it.offer(alloc)?;
-                Ok(Asked::Outside {
-                    code: 401,
-                    bytes,
-                    key,
-                })
-            }
-            None => Ok(Asked::Answer(Value::nothing())),
+            Some(it) => it.offer(alloc),
+            None => Ok(Blob::of(Vec::new(alloc))),
         }
+    }
+
+    // The outside is asked.
+    fn ask_again(&mut self, alloc: Global, key: u64, place: u64) -> Result<Asked, Memory>
+        ensures { IfOk result (λ asked. (id : ℕ) (it : texts.Datagram) (on : ℕ)
+            → waiting_at place (kept_of self.old) ≡ Some (plain.Sends id it on)
+            → (asked ≡ Asked.Outside (pos 401) (offer_text id it) key)
+            × (kept_of self.new ≡ wait_again place (plain.Offers id it) (kept_of self.old))) }
+    {
+        let bytes = self.text_again(alloc, place)?;
+        Ok(Asked::Outside {
+            code: 401,
+            bytes,
+            key,
+        })
     }
 
     /// One that stood in line goes on: the outside is asked.
