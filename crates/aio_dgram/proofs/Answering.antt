@@ -1,16 +1,15 @@
 -- What requests come to, path by path.
-use Rattle.std.proofs.Common.{◌≡◌, ℕ, pos, ◌+◌, ◌<◌, Bool, true, false, List, [], ◌∷◌, ◌++◌, Option, Some, None, length, refl, sym, ap, subst, ◌∙◌}
-use Rattle.std.specs.Prelude.{Result, Ok, Err, IfNone, IfOk, OnOk, is_some, codes, nat_lt, if◌then◌else◌}
+use Rattle.std.proofs.Common.{◌≡◌, ℕ, pos, Bool, true, false, List, [], ◌∷◌, ◌++◌, Option, Some, None, length, refl, sym, ap, subst, ◌∙◌}
+use Rattle.std.specs.Prelude.{Result, Ok, Err, IfOk, OnOk, is_some, codes, if◌then◌else◌}
 use Rattle.std.specs.BTreeMap.{is_at}
 use Rattle.std.specs.Fmt.{decimal}
 use Rattle.std.specs.List.{flat_map}
 use Rattle.std.specs.Map.{lookup, remove_entry, set_value}
-use Rattle.std.specs.Option.{option_map}
 use Rattle.std.specs.Ordering.{nat_cmp}
 use Rattle.std.proofs.lemmas.Bool.{false≢true}
 use Rattle.model_value.specs.Number.{number_of}
 use Rattle.model_value.specs.Value.{Value, Nothing}
-use Rattle.model_value.specs.declared.input.Input.TheVariants.{Send, Throw}
+use Rattle.model_value.specs.declared.input.Input.TheVariants.{Send}
 use Rattle.model_loop.specs.Futures.{next_future}
 use Rattle.model_loop.specs.Parts.{Parts, Plain}
 use Rattle.model_machine.specs.Extra as extra
@@ -20,8 +19,8 @@ use Rattle.model_dgram.specs.Texts.{Came, Datagram, came_in}
 use Rattle.model_dgram.specs.Endpoints.{Closes, Endpoint, Endpoints, Offers, Receives, Sends, Waiting, draw, endpoint_at, is_closed, next_key, raises, says, set_endpoint}
 use Rattle.model_dgram.specs.Endpoints.{wait_again, wait_last, wait_over, waiting_at, wakes_at, wakes_first, wakes_receiver}
 use Rattle.model_dgram.specs.Opening.{close}
-use Rattle.model_dgram.specs.Sending.{has_room, is_answer, leaves, offered, send_failed, sends_again}
-use Rattle.model_dgram.specs.Receiving.{came, gives_up, hold, receive, received, receives_again, told_as, waited_for, waits_for}
+use Rattle.model_dgram.specs.Sending.{has_room, is_answer, leaves, offered, send_failed}
+use Rattle.model_dgram.specs.Receiving.{came, gives_up, hold, received, receives_again, told_as, waited_for, waits_for}
 use Rattle.law_dgram.proofs.Falling.{found_replaced}
 use Rattle.refine_added.specs.Seen.{made}
 use Rattle.aio_task.specs.View.{View, parts}

@@ -1,17 +1,17 @@
 -- What is kept, as code changes it.
-use Rattle.std.proofs.Common.{◌≡◌, ℕ, ◌+◌, ◌<◌, Bool, true, false, List, [], ◌∷◌, ◌++◌, Option, Some, None, length, refl, sym, ap, subst, ◌∙◌}
+use Rattle.std.proofs.Common.{◌≡◌, ℕ, ◌<◌, List, [], ◌∷◌, Option, Some, None, ap, subst, ◌∙◌}
 use Rattle.std.specs.Prelude.{IfNone, MatchOption}
-use Rattle.std.specs.BTreeMap.{insert_entry, is_at}
+use Rattle.std.specs.BTreeMap.{is_at}
 use Rattle.std.specs.List.{AllByRecursion as Each}
-use Rattle.std.specs.Map.{lookup, remove_entry, set_value}
+use Rattle.std.specs.Map.{lookup, set_value}
 use Rattle.std.specs.Ordering.{nat_cmp}
 use Rattle.model_sync.specs.Synced.{is_place}
 use Rattle.model_dgram.specs.Texts.{Datagram, offer_text}
-use Rattle.model_dgram.specs.Endpoints.{Endpoint, Endpoints, Offers, Sends, Waiting, endpoint_at, set_endpoint, wait_again, waiting_at}
+use Rattle.model_dgram.specs.Endpoints.{Endpoint, Endpoints, Sends, Waiting, endpoint_at, set_endpoint, wait_again, waiting_at}
 use Rattle.law_dgram.specs.Tidy.{IsTidy}
 use Rattle.law_dgram.proofs.Tidying.{lined_at}
 use Rattle.aio_dgram.specs.Keeps.{offering}
-use Rattle.aio_dgram.proofs.Places.{found, is_found, is_lost, set_at, set_same}
+use Rattle.aio_dgram.proofs.Places.{found, is_found, set_at, set_same}
 
 -- of an endpoint that is found
 pub line_below : (x : Endpoints) → IsTidy x → (id : ℕ) (now : Endpoint) → Some now ≡ lookup (is_at (nat_cmp id)) x.endpoints

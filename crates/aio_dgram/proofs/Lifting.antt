@@ -1,11 +1,11 @@
 -- What a call comes to, where the object stood for a state.
-use Rattle.std.proofs.Common.{◌≡◌, ℕ, ℤ, ◌+◌, ◌<◌, ◌≤◌, ◌⊎◌, inl, inr, Bool, true, false, List, [], ◌∷◌, ◌++◌, Option, Some, None, length, slice_get}
+use Rattle.std.proofs.Common.{◌≡◌, ℕ, ℤ, ◌+◌, ◌<◌, ◌≤◌, ◌⊎◌, inl, inr, Bool, true, false, List, [], ◌∷◌, Option, Some, None, length, slice_get}
 use Rattle.std.proofs.Common.{refl, sym, ap, subst, ◌∙◌, arith}
 use Rattle.std.proofs.Math.Logic.{∥∥₁_elim}
 use Rattle.std.proofs.Props.{props}
 use Rattle.std.proofs.lemmas.Bool.{and_from, false_from_ne_true, lt-ltb}
 use Rattle.std.specs.Prelude.{if◌then◌else◌, is_none, is_some, nat_lt}
-use Rattle.std.specs.List.{AllByRecursion as Each, list_all}
+use Rattle.std.specs.List.{AllByRecursion as Each}
 use Rattle.model_value.specs.Input.{Input}
 use Rattle.model_value.specs.Value.{Exc, Value}
 use Rattle.model_value.specs.declared.input.Input.TheVariants.{Send, Throw}
@@ -21,13 +21,13 @@ use Rattle.model_machine.specs.Sound.{IsOwned, sends_made}
 use Rattle.model_machine.specs.State.{State}
 use Rattle.model_reach.specs.Part.{can_draw, only_says, passes, place_of, refuses, stays}
 use Rattle.model_dgram.specs.Endpoints.{Closes, Endpoint, Endpoints, Offers, Opens, Receives, Sends, Waiting, dgram_keeps, dgram_part, next_key, waiting_at}
-use Rattle.model_dgram.specs.Serving.{Wanted, asked_for, dgram_means, is_any, served, told, wanted_of, woken}
+use Rattle.model_dgram.specs.Serving.{Wanted, asked_for, dgram_means, served, told, wanted_of, woken}
 use Rattle.law_runs.specs.Allowed.{IsAmong, IsCallAllowed, IsSaidAllowed, owns_at}
-use Rattle.law_sync.proofs.Falling.{Any, any_each}
+use Rattle.law_sync.proofs.Falling.{Any}
 use Rattle.law_sync.proofs.Lists.{among_each, each_all, each_from}
 use Rattle.law_dgram.specs.Tidy.{IsLined, IsTidy}
 use Rattle.law_dgram.proofs.Allowed.{dgram_allowed}
-use Rattle.law_dgram.proofs.Comes.{AnswerHolds, Comes, Hears, May, Wakes, closed_comes, offered_comes, opened_comes, receives_comes, sends_comes, served_comes}
+use Rattle.law_dgram.proofs.Comes.{AnswerHolds, Comes, May, Wakes, closed_comes, offered_comes, opened_comes, receives_comes, sends_comes, served_comes}
 use Rattle.law_dgram.proofs.Comes.{told_hears}
 use Rattle.law_dgram.proofs.Falling.{any_holds}
 use Rattle.law_dgram.proofs.Tidying.{asked_tidy, told_tidy, woken_tidy}

@@ -1,5 +1,5 @@
 -- What the outside tells and answers, in code.
-use Rattle.std.specs.Prelude.{ℕ, ◌+◌, Bool, false, List, [], ◌∷◌, ◌++◌, bytes_eq}
+use Rattle.std.specs.Prelude.{ℕ, ◌+◌, Bool, false, [], ◌∷◌, ◌++◌, bytes_eq}
 use Rattle.std.specs.Fmt.{decimal}
 use Rattle.model_value.specs.Value.{Value, Bytes}
 use Rattle.model_dgram.specs.Texts as plain

@@ -1,5 +1,4 @@
 use Rattle.std.proofs.Common.{ap, ◌∙◌, ◌+◌, ◌++◌, ◌∷◌, []}
-use Rattle.model_dgram.specs.Endpoints.{fresh}
 use Rattle.aio_dgram.proofs.Places.{insert_at}
 use Rattle.aio_dgram.proofs.dgram.Dgram.open.Goals as goal
 

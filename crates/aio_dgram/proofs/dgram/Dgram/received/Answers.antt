@@ -1,5 +1,4 @@
-use Rattle.std.proofs.Common.{◌≡◌, ◌∙◌, ap, subst, sym, Some, None}
-use Rattle.std.specs.Prelude.{IfNone}
+use Rattle.std.proofs.Common.{subst}
 use Rattle.aio_dgram.specs.Seen.{kept_of}
 use Rattle.aio_dgram.proofs.Answering.{received_first, received_waits}
 use Rattle.aio_dgram.proofs.Kept.{TakesOf}

@@ -1,5 +1,3 @@
-use Rattle.std.specs.Prelude.{IfNone, Some, None}
-use Rattle.std.proofs.Common.{refl}
 use Rattle.aio_dgram.specs.Seen.{kept_of}
 use Rattle.aio_dgram.proofs.Kept.{takes, takes_none}
 use Rattle.aio_dgram.proofs.Places.{is_lost}

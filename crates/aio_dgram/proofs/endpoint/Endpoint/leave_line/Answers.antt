@@ -1,4 +1,4 @@
-use Rattle.std.proofs.Common.{◌≡◌, Bool, true, List, ℕ, [], ap, sym, subst, ◌∙◌}
+use Rattle.std.proofs.Common.{Bool, [], sym, subst, ◌∙◌}
 use Rattle.std.specs.Prelude.{if◌then◌else◌}
 use Rattle.model_dgram.specs.Endpoints.{Endpoint, wakes_first}
 use Rattle.model_sync.specs.Synced.{without}

@@ -1,4 +1,4 @@
-use Rattle.std.proofs.Common.{◌≡◌, Some, w64, sym, ap, subst, ◌∙◌}
+use Rattle.std.proofs.Common.{w64, subst}
 use Rattle.std.proofs.lemmas.Int.{to_z-of_z}
 use Rattle.std.proofs.lemmas.Result.{IfOk-weaker}
 use Rattle.model_dgram.specs.Serving.{asked_for, wanted_of}

@@ -1,4 +1,4 @@
-use Rattle.std.proofs.Common.{◌≡◌, None, w64, subst}
+use Rattle.std.proofs.Common.{None, w64, subst}
 use Rattle.std.proofs.lemmas.Int.{to_z-of_z}
 use Rattle.std.proofs.lemmas.Result.{on_ok_weaker}
 use Rattle.model_dgram.specs.Serving.{told}
