@@ -1,5 +1,5 @@
 -- What a kill and a call on a socket are, as the record of a call.
-use Rattle.std.proofs.Common.{◌≡◌, ℕ, Bool, true, false, List, [], ◌∷◌, length, refl, sym, ap, ◌∙◌}
+use Rattle.std.proofs.Common.{◌≡◌, ℕ, Bool, true, false, cond, List, [], ◌∷◌, length, refl, sym, ap, ◌∙◌}
 use Rattle.std.proofs.lemmas.Bool.{false≢true}
 use Rattle.model_wire.specs.Call.{Call, Answer}
 use Rattle.model_wire.specs.declared.answer.Answer.TheVariants as answer
@@ -8,7 +8,7 @@ use Rattle.model_hub.specs.declared.child.Child.{Child}
 use Rattle.model_hub.specs.Hub.{Hub}
 use Rattle.model_hub.specs.Others.{Others, PollFailed, NotStarted, Said, Got, Failed}
 use Rattle.model_hub.specs.Lanes.{serve}
-use Rattle.model_hub.specs.Calls.{answer_to, socket, watch_of, stdin_to}
+use Rattle.model_hub.specs.Calls.{answer_to, extra, socket, watch_of, stdin_to}
 use Rattle.model_hub.specs.Told.{PollerSeen, LauncherSeen, with_kill, is_socket, told_with}
 use Rattle.model_hub.specs.Asked.{Asks, TakesPosts, polls_of, answers_of, answers_of_net, NetKeeps, HubKeeps, kills_after, launches_after, Refuses}
 use Rattle.aio_hub.specs.Polls.{Nets, net_answers, NetFits, NetFailsIfRose}
@@ -69,7 +69,7 @@ module _ {Run : Type 0} (old new : StateSeen Run) (plainly : Plainly [] old new)
       (plain_commands (call.Kill number) old.hub.children new.hub.children (heads_of old) (heads_of new) plainly.rests.numbered plainly.served
       (λ child. refl))
       poller poller launcher launcher_now (Got answer.Done) going (ap (λ (hub : Hub). (hub, Got answer.Done)) served)
-      (refl, plainly.rests.nones) (told_nothing poller.asked) (told_nothing poller.answers) tt kills launches tt
+      (refl, plainly.rests.nones) (told_nothing poller.asked) (told_nothing poller.answers) (λ is. absurd (false≢true is)) kills launches tt
 
   -- ---- a call on a socket
   module _ (poller poller_now : PollerSeen) (launcher : LauncherSeen) (said : Reply) (going : old.hub.starved ≡ false) where
@@ -121,30 +121,34 @@ module _ {Run : Type 0} (old new : StateSeen Run) (plainly : Plainly [] old new)
     net_asks (call.Select wait watched) is nets = absurd (false≢true is)
     net_asks (call.Listen port) is nets =
         by_call (call.Listen port) nets (given (call.Listen port) plainly.served (λ c. refl))
-        refl refl refl (refl, plainly.rests.nones) (λ k. k) refl refl tt
+        refl refl refl (refl, plainly.rests.nones) (λ k so. k) refl refl tt
     net_asks (call.Accept server) is nets =
         by_call (call.Accept server) nets (given (call.Accept server) plainly.served (λ c. refl))
-        refl refl refl (refl, plainly.rests.nones) (λ k. k) refl refl tt
+        refl refl refl (refl, plainly.rests.nones) (λ k so. k) refl refl tt
     net_asks (call.Connect port) is nets =
         by_call (call.Connect port) nets (given (call.Connect port) plainly.served (λ c. refl))
-        refl refl refl (refl, plainly.rests.nones) (λ k. k) refl refl tt
+        refl refl refl (refl, plainly.rests.nones) (λ k so. k) refl refl tt
     net_asks (call.Recv conn) is nets =
         by_call (call.Recv conn) nets (given (call.Recv conn) plainly.served (λ c. refl))
-        refl refl refl (refl, plainly.rests.nones) (λ k. k) refl refl tt
+        refl refl refl (refl, plainly.rests.nones) (λ k so. k) refl refl tt
     net_asks (call.Send conn bytes) is nets =
         by_call (call.Send conn bytes) nets (given (call.Send conn bytes) plainly.served (λ c. refl))
-        refl refl refl (refl, plainly.rests.nones) (λ k. k) refl refl tt
+        refl refl refl (refl, plainly.rests.nones) (λ k so. k) refl refl tt
     net_asks (call.Feed child bytes) is nets = absurd (false≢true is)
     net_asks (call.Shut conn) is nets =
         by_call (call.Shut conn) nets (given (call.Shut conn) plainly.served (λ c. refl))
-        refl refl refl (refl, plainly.rests.nones) (λ k. k) refl refl tt
+        refl refl refl (refl, plainly.rests.nones) (λ k so. k) refl refl tt
     net_asks (call.Close conn) is nets =
         by_call (call.Close conn) nets (given (call.Close conn) plainly.served (λ c. refl))
-        refl refl refl (refl, plainly.rests.nones) (λ k. k) refl refl tt
+        refl refl refl (refl, plainly.rests.nones) (λ k so. k) refl refl tt
     net_asks (call.CloseServer server) is nets =
         by_call (call.CloseServer server) nets (given (call.CloseServer server) plainly.served (λ c. refl))
-        refl refl refl (refl, plainly.rests.nones) (λ k. k) refl refl tt
+        refl refl refl (refl, plainly.rests.nones) (λ k so. k) refl refl tt
     net_asks (call.End child) is nets = absurd (false≢true is)
     net_asks (call.Kill child) is nets = absurd (false≢true is)
     net_asks (call.Launch words) is nets = absurd (false≢true is)
-    net_asks (call.Extra code bytes) is nets = absurd (false≢true is)
+    net_asks (call.Extra code bytes) is nets =
+        by_call (call.Extra code bytes) nets (given (call.Extra code bytes) plainly.served (λ c. refl))
+        (ap (λ b. cond b (socket others.lanes others.net old.hub) (extra others.lanes old.hub)) is)
+        (ap (λ b. cond b (call.Extra code bytes ∷ []) []) is) (ap (λ b. cond b (answers_of_net others.net) []) is)
+        (refl, plainly.rests.nones) (λ k so. k) refl refl tt

@@ -8,7 +8,7 @@ ghost use Rattle.aio_asked.specs.Asked.{AsksOn, said_of, IsNoEnd, replied};
 
 use crate::hub::Hub;
 use aio_base::{Blob, Memory};
-use aio_hub::{Launcher, Poller};
+use aio_hub::{Launcher, Poller, is_datagram};
 use aio_inbox::{Inbox, InboxName, Poster};
 use aio_wire::{Answer, Call, Reply};
 use std::alloc::Global;
@@ -72,6 +72,7 @@ impl<N: InboxName, R: Wait, P: Poller, L: Launcher<Inbox<N>, Poster<N>>> Hub<N, 
             Call::End(child) => Ok(Reply::Got(self.state.end(&self.rt, *child))),
             Call::Kill(child) => Ok(Reply::Got(self.kill(*child))),
             Call::Launch(words) => replied(self.launch(alloc, words)),
+            Call::Extra { code, .. } if is_datagram(*code) => self.net(alloc, call),
             Call::Extra { .. } => Ok(Reply::Got(self.state.extra(&self.rt))),
         }
     }

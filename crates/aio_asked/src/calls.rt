@@ -32,7 +32,8 @@ impl<N: InboxName, R: Wait, P: Poller, L: Launcher<Inbox<N>, Poster<N>>> Hub<N, 
         Answer::Done
     }
 
-    /// A call on a listener or a connection: the poller is asked once, and its reply is unchanged.
+    /// A call on a listener, a connection or an endpoint of datagrams: the poller is asked once, and its
+    /// reply is unchanged.
     pub fn net(&mut self, alloc: Global, call: &Call) -> Result<Reply, Memory>
         requires { is_socket call.now ≡ true }
         ensures asks { let old = hub_seen (P.seen self.old.poller) (L.seen self.old.launcher) self.old.state in

@@ -16,7 +16,7 @@ use Rattle.model_machine.specs.Extra.{Uncancels, called, made_by, made_by_all}
 use Rattle.model_machine.specs.State.{State}
 use Rattle.model_machine.specs.Told.{told_in}
 use Rattle.law_runs.specs.Allowed.{AreAllowed, IsAllowed, IsCallAllowed, IsOwn, MayCall, Owns, owns_at}
-use Rattle.model_machine.specs.Sound.{IsAwaitable}
+use Rattle.model_machine.specs.Sound.{IsAwaitable, ids_of}
 use Rattle.law_runs.proofs.Steps.{all_sound, step_sound}
 use Rattle.law_replies.proofs.Counts.{own_there}
 use Rattle.law_steps.proofs.CancelSound.{plain_within}
@@ -109,7 +109,7 @@ module _ {X : Type 0} {a : Added X} (running out : Option ℕ) (c : Context a) (
   q = (called call s).loop.parts
 
   leaves : Leaves None p q
-  leaves = steps_leave running (told_in s.events) (owns_at (a.meaning.keeps s.extra) s.loop.parts) call.steps s.loop may.steps sound
+  leaves = steps_leave running (told_in s.events) (owns_at (ids_of s) (a.meaning.keeps s.extra) s.loop.parts) call.steps s.loop may.steps sound
 
   -- the future of a sleep is no own one of what is added, whatever that made
   own_called : (sleeper : Option ℕ) (id : ℕ) → IsOwnSleep p (named_in a s) sleeper id → IsOwnSleep q (named_in a (called call s)) sleeper id
@@ -150,4 +150,4 @@ module _ {X : Type 0} {a : Added X} (running out : Option ℕ) (c : Context a) (
   name_map_called = refl
 
   pub sound_called : IsSound running (told_in s.events) (called call s).loop
-  sound_called = all_sound running (told_in s.events) (owns_at (a.meaning.keeps s.extra) s.loop.parts) call.steps s.loop may.steps sound
+  sound_called = all_sound running (told_in s.events) (owns_at (ids_of s) (a.meaning.keeps s.extra) s.loop.parts) call.steps s.loop may.steps sound

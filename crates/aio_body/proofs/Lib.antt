@@ -22,3 +22,4 @@ pub mod Growing
 pub mod Unasked
 pub mod Alone
 pub mod HasSlot
+pub mod Ids

@@ -3,6 +3,7 @@ pub use Rattle.aio_transports.specs.Kept
 pub use Rattle.aio_transports.specs.Readers
 pub mod Near
 pub mod Held
+pub mod Ids
 pub mod Stands
 pub mod Asked
 pub mod Asking

@@ -14,7 +14,7 @@ use Rattle.model_loop.specs.Parts.{Parts}
 use Rattle.model_loop.specs.Tasks.{future_of, lives, next_task}
 use Rattle.model_machine.specs.Extra.{Extra}
 use Rattle.model_machine.specs.Outcomes.{finished_as, no_task_lives}
-use Rattle.model_machine.specs.Sound.{IsStateSound, names_made}
+use Rattle.model_machine.specs.Sound.{IsStateSound, ids_of, names_made}
 use Rattle.model_machine.specs.Told.{told_in}
 use Rattle.model_machine.specs.State.{State, in_loop}
 use Rattle.model_machine.specs.Turn.{finished_if}
@@ -208,11 +208,11 @@ cancelled_sound added s sound =
     nobody added s sound (in_loop cancel_everything s) (record { program = refl; generators = refl; streams = refl; extra = refl; scripts = futures_stay }) refl
     (over_as added s sound (cancel_everything s.loop) all) all (end_of_run_sound None (told_in s.events) s.loop sound.loop)
   where
-    all : IsLoopAfter (names_made (next_task s.loop.parts)) false None None None None s.loop (cancel_everything s.loop)
+    all : IsLoopAfter (names_made (ids_of s)) false None None None None s.loop (cancel_everything s.loop)
     all =
-        book_loop (names_made (next_task s.loop.parts)) refl false None None None None
+        book_loop (names_made (ids_of s)) refl false None None None None
         (request_each ByEnd (range_with_len 0 (next_task s.loop.parts))) s.loop
-        (each_after (names_made (next_task s.loop.parts)) false None ByEnd (range_with_len 0 (next_task s.loop.parts)) s.loop.parts)
+        (each_after (names_made (ids_of s)) false None ByEnd (range_with_len 0 (next_task s.loop.parts)) s.loop.parts)
 
 -- ---- whether one lives
 abbrev pub NoneLives : {X : Type 0} → RunState X → ℕ → Type 0

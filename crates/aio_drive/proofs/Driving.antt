@@ -95,11 +95,13 @@ agreed (Some entries) = (entries, λ held e. cc)
 pub rose_earlier : (first before now : ℕ) → first ≤ before → Rose before now → Rose first now
 rose_earlier first before now earlier rose = omega arith
 
--- The run ends here: over entries that agree with what was told, it has these events and this end. `taken` are those of the turns before.
+-- The run ends here: over entries that agree with what was told, it has these events and this end. `taken` are those of the turns before,
+-- and those are of one turn more, where one was left.
 pub record EndsHere (runs : Runs) (how : Manner) (made : ℕ) (taken : List Event) (first_told : Option (List Entry)) (events : List Event)
     (end : End) : Type 0 where
   pub entries : List Entry
   pub before : (runs entries made).events ≡ taken
+  pub next : made < how.turns → (runs entries (made + 1)).events ≡ events
   pub agrees : Agrees first_told entries
   pub is : runs entries how.turns ≡ record { events = events; end = end }
 
@@ -107,6 +109,7 @@ pub record EndsHere (runs : Runs) (how : Manner) (made : ℕ) (taken : List Even
 pub record FailsHere (runs : Runs) (how : Manner) (made : ℕ) (taken : List Event) (first_told : Option (List Entry)) (events : List Event) : Type 0 where
   pub had : List Entry
   pub before : (runs had made).events ≡ taken
+  pub next : (runs had (made + 1)).events ≡ events
   pub told : (rest : List Entry) × Agrees first_told (had ++ rest)
   pub call : Call
   pub is : runs had how.turns ≡ record { events = events; end = ends.Over call }
@@ -119,6 +122,12 @@ pub record GoesOnHere (runs : Runs) (how : Manner) (made : ℕ) (taken : List Ev
   pub agrees : Agrees first_told entries
   pub more : List Event
   pub is : (runs entries how.turns).events ≡ events ++ more
+
+-- and these are the events of one turn more
+pub record TurnsHere (runs : Runs) (how : Manner) (made : ℕ) (taken : List Event) (first_told : Option (List Entry)) (events : List Event)
+    : Type 0 where
+  pub here : GoesOnHere runs how made taken first_told events
+  pub next : (runs here.entries (made + 1)).events ≡ events
 
 module _ {X : Type 0} {g : _} {a : Added X} {kept : a.Kept} {program : Program} {how : Manner} {made left : ℕ} {kernel : Kernel X g} {past : List Entry}
     {taken : List Event}
@@ -168,6 +177,7 @@ module _ {X : Type 0} {g : _} {a : Added X} {kept : a.Kept} {program : Program} 
       record {
         entries = past ++ rest;
         before = ran_so_far rest;
+        next = λ some. absurd (let turns = running.turns in omega arith);
         agrees = running.told rest agrees;
         is =
             ran rest ∙ ap (λ n. run_on step_limit a.meaning how.turns n here.s) none ∙ run_on-last a.meaning how.turns here.s
@@ -194,6 +204,17 @@ module _ {X : Type 0} {g : _} {a : Added X} {kept : a.Kept} {program : Program} 
       → run_over a.meaning kept program (past ++ entries) how.turns ≡ run_after (run_on step_limit a.meaning how.turns left) went
   on_turn entries went e = ran running entries ∙ run_on-turn a.meaning how.turns left (running.at entries).s went e
 
+  -- what happened in the turns so far and in this one
+  next_turn : (entries : List Entry) (went : Went a.Kept) → turn step_limit a.meaning (running.at entries).s ≡ went
+      → (run_over a.meaning kept program (past ++ entries) (made + 1)).events ≡ (state_of went).events
+  next_turn entries went e =
+      ap (λ (it : Run). it.events)
+      ((running.at entries).on (made + 1) 1 ∙ run_on-turn a.meaning (made + 1) 0 (running.at entries).s went e) ∙ last_turn went
+    where
+      last_turn : (went : Went a.Kept) → (run_after (run_on step_limit a.meaning (made + 1) 0) went).events ≡ (state_of went).events
+      last_turn (Goes now) = ap (λ (it : Run). it.events) (run_on-last a.meaning (made + 1) now)
+      last_turn (Stops end last) = refl
+
   ends_with : (entries : List Entry) (ways : End → State a.Kept → Type 0) → (it : Ends a ways taken new (running.at entries).s)
       → run_over a.meaning kept program (past ++ entries) how.turns ≡ record { events = so_far; end = it.end }
   ends_with entries ways it =
@@ -207,6 +228,7 @@ module _ {X : Type 0} {g : _} {a : Added X} {kept : a.Kept} {program : Program} 
       record {
         entries = past ++ entries;
         before = ran_so_far running entries;
+        next = λ some. next_turn entries (Stops it.end it.last) it.stops ∙ it.told;
         agrees = running.told entries agrees;
         is = ends_with entries ways it ∙ ap (λ (e : End). record { events = so_far; end = e }) (sym is);
       }
@@ -286,6 +308,7 @@ module _ {X : Type 0} {g : _} {a : Added X} {kept : a.Kept} {program : Program} 
       record {
         had = past ++ entries;
         before = ran_so_far running entries;
+        next = next_turn entries (Stops it.end it.last) it.stops ∙ it.told;
         told = (
           rest,
           subst (λ (es : List Entry). Agrees first_seen.left es) (had_so_far had rest) (running.told (map Answered had ++ rest) (takes rest agrees)),
@@ -308,19 +331,22 @@ module _ {X : Type 0} {g : _} {a : Added X} {kept : a.Kept} {program : Program} 
     goes_over rest = let here = running.at (map Answered had ++ rest) in goes taken rest here.s here.stands
 
     -- the run goes on after it
-    pub goes_further : GoesOnHere (run_over a.meaning kept program) how made taken first_seen.left so_far
+    pub goes_further : TurnsHere (run_over a.meaning kept program) how made taken first_seen.left so_far
     goes_further =
         let (rest, agrees) = agreed new_seen.left in
         let (now, (went, stands)) = goes_over rest in
         let grew = run-grows step_limit a.meaning how.turns left now in
         record {
-          entries = past ++ (map Answered had ++ rest);
-          before = ran_so_far running (map Answered had ++ rest);
-          agrees = running.told (map Answered had ++ rest) (takes rest agrees);
-          more = grew.0;
-          is =
-              ap (λ (it : Run). it.events) (on_turn (map Answered had ++ rest) (Goes now) went) ∙ grew.1
-              ∙ ap (λ (es : List Event). es ++ grew.0) stands.events;
+          here = record {
+            entries = past ++ (map Answered had ++ rest);
+            before = ran_so_far running (map Answered had ++ rest);
+            agrees = running.told (map Answered had ++ rest) (takes rest agrees);
+            more = grew.0;
+            is =
+                ap (λ (it : Run). it.events) (on_turn (map Answered had ++ rest) (Goes now) went) ∙ grew.1
+                ∙ ap (λ (es : List Event). es ++ grew.0) stands.events;
+          };
+          next = next_turn (map Answered had ++ rest) (Goes now) went ∙ stands.events;
         }
 
     regrouped : (rest : List Entry) → past ++ (map Answered had ++ rest) ≡ (past ++ map Answered had) ++ rest
@@ -373,7 +399,7 @@ module _ {X : Type 0} {g : _} {a : Added X} {kept : a.Kept} {program : Program} 
   -- all that was told is the first of it
   pub told_here : (said : code.Went) → IsTold said → TurnsTo a now_seen new_seen kernel new said
       → GoesOnHere (run_over a.meaning kept program) how made taken first_seen.left so_far
-  told_here went.Went told (had, (takes, goes)) = goes_further had takes goes
+  told_here went.Went told (had, (takes, goes)) = (goes_further had takes goes).here
   told_here (went.Finished outcome) told comes = here_of (end_of outcome) (ended (went.Finished outcome) comes (end_of outcome) refl)
   told_here went.Stalled told comes = here_of ends.Stalled (ended went.Stalled comes ends.Stalled refl)
   told_here (went.Runaway task) told comes = here_of (ends.Runaway task) (ended (went.Runaway task) comes (ends.Runaway task) refl)

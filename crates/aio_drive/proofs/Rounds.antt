@@ -40,7 +40,7 @@ use Rattle.aio_drive.proofs.Driving.{running_first, turned_on}
 use Rattle.aio_drive.proofs.Exits.{alive, ended-quiet, ended-told, refused, said_as}
 use Rattle.aio_drive.proofs.Fronts.{append-nil}
 use Rattle.aio_drive.proofs.Telling.{records_events, records_none, stops_after}
-use Rattle.aio_drive.proofs.Written.{ends_early, ends_whole, fails_early, fails_whole, goes_cut}
+use Rattle.aio_drive.proofs.Written.{ends_early, ends_halted, ends_whole, fails_early, fails_whole, goes_cut}
 
 -- A run of a program is under way, in which so many turns were made: what was seen of the wire first and is now, what the sink had first
 -- and has now, the file in which answers are recorded with what was seen of its shelf first and is now, that each call of the wire fails,
@@ -195,7 +195,7 @@ module _ {X : Type 0} {g : _} {a : Added X} {kept : a.Kept} {program : Program} 
       tells text cut stops =
           subst (λ (es : List Event). StopsTelling here_on (recorded es) (text (lines_of_events how.trace es)) sink final cut) out stops
 
-      fewer : made ≤ how.turns
+      fewer : made < how.turns
       fewer = let turns = running.turns in omega arith
 
       records : Records shelf.name (recorded events) mid shelf.new → Records shelf.name (recorded (untaken new)) mid shelf.new
@@ -260,9 +260,9 @@ module _ {X : Type 0} {g : _} {a : Added X} {kept : a.Kept} {program : Program} 
           (run_over a.meaning kept program) how fault it first final cut
       turn_err went.Went is unnoted unmade cut stops =
           let (had, (takes, (goes, still))) = goes_at is in
-          let here = goes_further new last running had takes goes in
-          goes_cut (run_over a.meaning kept program) how fault it made first sink final mid taken (untaken new) running.sink noted here still
-          (asked_at went.Went is (λ e. cc e)) fewer cut (tells (λ t. t) cut stops)
+          let turns = goes_further new last running had takes goes in
+          goes_cut (run_over a.meaning kept program) how fault it made first sink final mid taken (untaken new) running.sink noted turns.here still
+          (asked_at went.Went is (λ e. cc e)) fewer turns.next cut (tells (λ t. t) cut stops)
       turn_err (went.Finished outcome) is unnoted unmade cut stops =
           ends_err (end_of outcome) (went.Finished outcome) is (λ e. cc e) refl cut stops
       turn_err went.Stalled is unnoted unmade cut stops = ends_err ends.Stalled went.Stalled is (λ e. cc e) refl cut stops
@@ -427,7 +427,6 @@ module _ {X : Type 0} {g : _} {a : Added X} {kept : a.Kept} {program : Program} 
   pub last_err : (end : End) → LastOf a kernel how.turns end → (halt : Halt) → StopsWriting (line (end_text end)) sink final halt
       → CutsShort (run_over a.meaning kept program) how fault last_it first final (Halted halt)
   last_err end is halt stops =
-      ends_early (run_over a.meaning kept program) how fault last_it made first sink final shelf.new taken [] running.sink under.noted
-      (last_here end is) still last_asked
-      (let turns = running.turns in omega arith) (Halted halt)
+      ends_halted (run_over a.meaning kept program) how fault last_it made first sink final shelf.new taken [] running.sink under.noted
+      (last_here end is) still last_asked halt
       (stops_after (record shelf { old = shelf.new }) [] (line (end_text end)) sink final halt (records_none shelf.name shelf.new) stops)

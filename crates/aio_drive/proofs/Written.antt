@@ -1,5 +1,5 @@
 -- What is written of a run that ends, that fails, or that is cut short.
-use Rattle.std.proofs.Common.{◌≡◌, ℕ, ◌≤◌, List, [], ◌++◌, inl, inr}
+use Rattle.std.proofs.Common.{◌≡◌, ℕ, ◌+◌, ◌<◌, List, [], ◌++◌, inl, inr}
 use Rattle.std.proofs.Common.{refl, ap, sym, ◌∙◌, subst, append_assoc, arith}
 use Rattle.model_wire.specs.Event.{Event}
 use Rattle.model_wire.specs.Journal.{Entry}
@@ -131,16 +131,17 @@ module _ (runs : Runs) (how : Manner) (fault : End) (it : Driven) (made : ℕ) (
   stops_text Sink text (records, stops) = stops
 
   -- the turn's answers could not be recorded
-  stops : Asks (so_far ++ more) it.before it.after → made ≤ how.turns → (had rest : List Entry) → Agrees it.before.left (had ++ rest)
-      → (runs had made).events ≡ so_far
+  stops : Asks (so_far ++ more) it.before it.after → made < how.turns → (had rest : List Entry) → Agrees it.before.left (had ++ rest)
+      → (runs had made).events ≡ so_far → (runs had (made + 1)).events ≡ so_far ++ more
       → (others : List Event) → (runs had how.turns).events ≡ (so_far ++ more) ++ others → (text : List ℕ)
       → StopsTelling (record it.shelf { old = mid }) (recorded more) text now last Unrecorded → StopsRecording runs how it first last
-  stops asked fewer had rest agrees before others is text (front, some, fails, same) = record {
+  stops asked fewer had rest agrees before next others is text (front, some, fails, same) = record {
     had = had;
     told = (rest, agrees);
     made = made;
     fewer = fewer;
     turn = more;
+    next = next ∙ ap (λ (es : List Event). es ++ more) (sym before);
     more = others;
     events = is ∙ ap (λ (es : List Event). (es ++ more) ++ others) (sym before);
     asked = subst (λ (es : List Event). Asks (es ++ more) it.before it.after) (sym before) asked;
@@ -198,19 +199,19 @@ module _ (runs : Runs) (how : Manner) (fault : End) (it : Driven) (made : ℕ) (
       is ∙ ap (λ (r : Run). status_of r.end) (sym here.is),
     )
 
-    ends_halted : (halt : Halt) → StopsTelling (record it.shelf { old = mid }) (recorded more) (text_of end) now last (Halted halt) → Early halt first last
+    pub ends_halted : (halt : Halt) → StopsTelling (record it.shelf { old = mid }) (recorded more) (text_of end) now last (Halted halt) → Early halt first last
     ends_halted halt stops =
         early_by (MayDrive runs how fault (wire_until halt it)) (IsUntold it) first now shown wrote
         (output_of how.trace whole_run)
         (may_end_early halt (until asked whole_run.events [] (whole_events ∙ sym (append-nil (so_far ++ more))) halt (text_of end) stops))
         (text_of end) [] (whole_text ∙ ap (λ (t : List ℕ). shown ++ t) (sym (append-nil (text_of end)))) last halt (stops_text halt (text_of end) stops)
 
-    pub ends_early : made ≤ how.turns → (cut : Cut) → StopsTelling (record it.shelf { old = mid }) (recorded more) (text_of end) now last cut
+    pub ends_early : made < how.turns → (cut : Cut) → StopsTelling (record it.shelf { old = mid }) (recorded more) (text_of end) now last cut
         → CutsShort runs how fault it first last cut
     unfolding whole_run
     ends_early fewer (Halted halt) stopped = ends_halted halt stopped
     ends_early fewer Unrecorded stopped =
-        stops asked fewer here.entries [] (agrees_all here.entries here.agrees) here.before []
+        stops asked fewer here.entries [] (agrees_all here.entries here.agrees) here.before (here.next fewer) []
         (whole_events ∙ sym (append-nil (so_far ++ more))) (text_of end) stopped
 
   module _ (here : FailsHere runs how made so_far it.before.left (so_far ++ more)) (rose : Rose it.before.faults it.after.faults)
@@ -256,12 +257,12 @@ module _ (runs : Runs) (how : Manner) (fault : End) (it : Driven) (made : ℕ) (
     fails_silent none same =
         fails_halted Memory ([], (recorded more, refl), none, ([], (text_of fault, refl), same ∙ sym (took-nil now)))
 
-    pub fails_early : made ≤ how.turns → (cut : Cut) → StopsTelling (record it.shelf { old = mid }) (recorded more) (text_of fault) now last cut
+    pub fails_early : made < how.turns → (cut : Cut) → StopsTelling (record it.shelf { old = mid }) (recorded more) (text_of fault) now last cut
         → CutsShort runs how fault it first last cut
     unfolding failed_run
     fails_early fewer (Halted halt) stopped = fails_halted halt stopped
     fails_early fewer Unrecorded stopped =
-        stops asked fewer here.had here.told.0 here.told.1 here.before []
+        stops asked fewer here.had here.told.0 here.told.1 here.before here.next []
         (failed_events ∙ sym (append-nil (so_far ++ more))) (text_of fault) stopped
 
   module _ (here : GoesOnHere runs how made so_far it.before.left (so_far ++ more)) (still : it.undisturbed) where
@@ -286,11 +287,11 @@ module _ (runs : Runs) (how : Manner) (fault : End) (it : Driven) (made : ℕ) (
         (lines_of_events how.trace more) (lines_of_events how.trace here.more ++ line (end_text whole.end))
         (further_text whole here.more here.is) last halt stops
 
-    pub goes_cut : Asks (so_far ++ more) it.before it.after → made ≤ how.turns → (cut : Cut)
+    pub goes_cut : Asks (so_far ++ more) it.before it.after → made < how.turns → (runs here.entries (made + 1)).events ≡ so_far ++ more → (cut : Cut)
         → StopsTelling (record it.shelf { old = mid }) (recorded more) (lines_of_events how.trace more) now last cut
         → CutsShort runs how fault it first last cut
-    goes_cut asked fewer (Halted halt) stopped =
+    goes_cut asked fewer next (Halted halt) stopped =
         goes_early halt (until asked (runs here.entries how.turns).events here.more here.is halt (lines_of_events how.trace more) stopped)
         (stops_text halt (lines_of_events how.trace more) stopped)
-    goes_cut asked fewer Unrecorded stopped =
-        stops asked fewer here.entries [] (agrees_all here.entries here.agrees) here.before here.more here.is (lines_of_events how.trace more) stopped
+    goes_cut asked fewer next Unrecorded stopped =
+        stops asked fewer here.entries [] (agrees_all here.entries here.agrees) here.before next here.more here.is (lines_of_events how.trace more) stopped

@@ -1,5 +1,5 @@
 -- What driving a run leaves.
-use Rattle.std.specs.Prelude.{◌≡◌, ℕ, ◌≤◌, List, ◌++◌, ◌⊎◌, Result, IfOk, IfErr, length}
+use Rattle.std.specs.Prelude.{◌≡◌, ℕ, ◌+◌, ◌<◌, ◌≤◌, List, ◌++◌, ◌⊎◌, Result, IfOk, IfErr, length}
 use Rattle.model_wire.specs.Event.{Event, calls_in}
 use Rattle.model_wire.specs.Journal.{Entry}
 use Rattle.model_wire.specs.Told.{Agrees, Rose, SinkSeen, WireSeen, took}
@@ -154,9 +154,10 @@ pub record StopsRecording (runs : Runs) (how : Manner) (it : Driven) (old new : 
   pub told : (rest : List Entry) × Agrees it.before.left (had ++ rest)
   -- so many turns were made before it
   pub made : ℕ
-  pub fewer : made ≤ how.turns
-  -- the events of it, and of those after it
+  pub fewer : made < how.turns
+  -- the events of it alone, and of those after it
   pub turn : List Event
+  pub next : (runs had (made + 1)).events ≡ (runs had made).events ++ turn
   pub more : List Event
   pub events : (runs had how.turns).events ≡ ((runs had made).events ++ turn) ++ more
   pub asked : Asks ((runs had made).events ++ turn) it.before it.after

@@ -1,0 +1,4 @@
+mod Rising
+mod Entries
+mod Seeing
+mod Lifting

@@ -1,19 +1,24 @@
 //! Jobs beside the loop: as they are asked for, as the outside answers, as they come to something,
 //! and as their tasks go on.
-ghost use Rattle.std.specs.Prelude.{◌≡◌, ◌<◌, None, Some, true, IfOk, OnOk};
+ghost use Rattle.std.specs.Prelude.{◌≡◌, ◌<◌, ◌∷◌, [], None, true, IfOk, OnOk, bytes_eq, length};
 ghost use Rattle.std.specs.Fmt.{decimal};
-ghost use Rattle.model_reach.specs.Part.{drawing, key_at, no_key};
+ghost use Rattle.std.specs.Option.{option_map};
+ghost use Rattle.std.specs.Rc.{rc_slice_items};
+ghost use Rattle.model_machine.specs.Extra.{MakesPlain, Waits};
+ghost use Rattle.model_reach.specs.Part.{key_at, no_key};
 ghost use Rattle.model_exec.specs.Execed as execed;
 ghost use Rattle.model_exec.specs.Execed.{exec_part, none_execed, standing_at};
 ghost use Rattle.model_exec.specs.Serving as serving;
-ghost use Rattle.model_fields.specs.Fields as fields;
-ghost use Rattle.aio_task.specs.View.{parts as parts_of};
-ghost use Rattle.aio_exec.specs.Seen.{CallsSeen, SaysSeen, are_free, kept_of, own_of};
+ghost use Rattle.model_fields.specs.Fields.{numbered as plain_numbered};
+ghost use Rattle.aio_task.specs.View.{View, parts as parts_of};
+ghost use Rattle.aio_exec.specs.Keeps.{came_in};
+ghost use Rattle.aio_exec.specs.Seen.{CallsSeen, Says, SaysSeen, are_free, kept_of, own_of};
+ghost use Rattle.aio_exec.specs.Wants.{wanted_as};
 
 use crate::jobs::Jobs;
 use crate::requests::{Found, Requests};
 use crate::said::{bad_argument, no_job, out_of_range, passed, strange_answer, unknown};
-use crate::wanted::{JOB, is_job, is_job_code, job_text, wanted};
+use crate::wanted::{JOB, Wanted, is_job, is_job_code, job_text, shaped};
 use aio_base::{Input, Memory, Outcome, Value, ValueCase};
 use aio_extra::Asked;
 use aio_fields::numbered;
@@ -29,21 +34,23 @@ pub struct Exec {
 }
 
 // Whether these bytes are a number in decimal.
-fn is_decimal(alloc: Global, number: u64, bytes: &[u8]) -> Result<bool, Memory> {
+fn is_decimal(alloc: Global, number: u64, bytes: &[u8]) -> Result<bool, Memory>
+    ensures { IfOk result (λ same. same ≡ bytes_eq bytes.now (decimal number)) }
+{
     let text = format!(in alloc; "{number}")?;
     let same = text.as_bytes() == bytes;
     drop(text);
     Ok(same)
 }
 
-// What came, or else what was sent.
-fn came_as(came: Option<RcSlice<u8>>, value: Value) -> Value {
+// What came is the answer.
+fn came_as(alloc: Global, came: Option<RcSlice<u8>>) -> Result<Asked, Memory>
+    ensures { IfOk result (λ asked. Says asked
+        (serving.came_as (option_map rc_slice_items came))) }
+{
     match came {
-        Some(bytes) => {
-            drop(value);
-            Value::bytes(bytes)
-        }
-        None => value,
+        Some(bytes) => Ok(Asked::Answer(Value::bytes(bytes))),
+        None => strange_answer(alloc),
     }
 }
 
@@ -61,13 +68,17 @@ impl Exec {
     }
 
     // The outside is asked, unless it is no job.
-    fn ask_to(&mut self, alloc: Global, kind: i64, input: &[u8]) -> Result<Asked, Memory> {
-        if !is_job(kind, input) {
+    fn ask_to(&mut self, alloc: Global, it: &Wanted<'_>) -> Result<Asked, Memory>
+        requires room { key_at exec_part self.old.requests.drawn < no_key }
+        ensures { IfOk result (λ asked. (v : View) → SaysSeen (kept_of self.new) v v asked
+            (serving.asked_to (wanted_as it.now) (kept_of self.old))) }
+    {
+        if !is_job(it) {
             let raised = no_job(alloc)?;
             self.requests.draw();
             return Ok(raised);
         }
-        let bytes = job_text(alloc, kind, input)?;
+        let bytes = job_text(alloc, it)?;
         match self.requests.ask() {
             Ok(key) => Ok(Asked::Outside {
                 code: JOB,
@@ -82,26 +93,26 @@ impl Exec {
     }
 
     /// A task's request.
-    pub fn ask_for(
-        &mut self,
-        alloc: Global,
-        code: i64,
-        items: &[Value],
-    ) -> Result<Asked, Memory> {
+    pub fn ask_for(&mut self, alloc: Global, code: i64, items: &[Value]) -> Result<Asked, Memory>
+        ensures { IfOk result (λ asked. (v : View) → SaysSeen (kept_of self.new) v v asked
+            (serving.asked code items.now (kept_of self.old))) }
+    {
         if !is_job_code(code) {
             return unknown(alloc, code);
         }
-        let Some((kind, input)) = wanted(items) else {
+        let Some(it) = shaped(items) else {
             return bad_argument(alloc);
         };
         if !self.requests.can_draw() {
             return out_of_range(alloc);
         }
-        self.ask_to(alloc, kind, input)
+        self.ask_to(alloc, &it)
     }
 
     // Whether the outside answered the number of the next job.
-    fn is_next(&self, alloc: Global, value: &Value) -> Result<bool, Memory> {
+    fn is_next(&self, alloc: Global, value: &Value) -> Result<bool, Memory>
+        ensures { IfOk result (λ is. is ≡ serving.is_next (kept_of self.now) value.now) }
+    {
         match value.case() {
             ValueCase::Bytes(bytes) => is_decimal(alloc, self.jobs.accepted(), bytes.as_slice()),
             _ => Ok(false),
@@ -115,7 +126,13 @@ impl Exec {
         key: u64,
         place: u64,
         parts: &mut Parts,
-    ) -> Result<Asked, Memory> {
+    ) -> Result<Asked, Memory>
+        requires idle { parts.old.called ≡ None }
+        ensures { IfOk result (λ asked. SaysSeen (kept_of self.new) parts.old parts.new asked
+            (execed.says (execed.accept place (execed.stand_on place
+            (execed.Waiting (length parts.old.futures) None) (kept_of self.old)))
+            (MakesPlain ∷ []) (Waits (length parts.old.futures) key))) }
+    {
         let on = parts.new_plain(alloc)?;
         self.jobs.accept(place)?;
         self.requests.wait(place, on);
@@ -130,7 +147,11 @@ impl Exec {
         place: u64,
         input: Input,
         parts: &mut Parts,
-    ) -> Result<Asked, Memory> {
+    ) -> Result<Asked, Memory>
+        requires idle { parts.old.called ≡ None }
+        ensures { IfOk result (λ asked. SaysSeen (kept_of self.new) parts.old parts.new asked
+            (serving.answered key place input (parts_of parts.old) (kept_of self.old))) }
+    {
         match input {
             Input::Send(value) => {
                 let next = self.is_next(alloc, &value);
@@ -149,13 +170,20 @@ impl Exec {
     }
 
     // The task goes on.
-    fn waited(&mut self, place: u64, input: Input) -> Asked {
+    fn waited(&mut self, alloc: Global, place: u64, input: Input) -> Result<Asked, Memory>
+        ensures { IfOk result (λ asked. (v : View) → SaysSeen (kept_of self.new) v v asked
+            (serving.waited place (came_in (standing_at place (kept_of self.old))) input
+            (kept_of self.old))) }
+    {
         let came = self.requests.end(place);
         match input {
-            Input::Send(value) => Asked::Answer(came_as(came, value)),
+            Input::Send(value) => {
+                drop(value);
+                came_as(alloc, came)
+            }
             Input::Throw(fault) => {
                 forget(came);
-                Asked::Raise(fault)
+                Ok(Asked::Raise(fault))
             }
         }
     }
@@ -169,28 +197,39 @@ impl Exec {
         place: u64,
         input: Input,
         parts: &mut Parts,
-    ) -> Result<Asked, Memory> {
+    ) -> Result<Asked, Memory>
+        requires idle { parts.old.called ≡ None }
+        ensures { IfOk result (λ asked. SaysSeen (kept_of self.new) parts.old parts.new asked
+            (serving.woken (standing_at place (kept_of self.old)) key place input
+            (parts_of parts.old) (kept_of self.old))) }
+    {
         match self.requests.find(place) {
             Found::Nothing => Ok(passed(input)),
             Found::Asking => self.answered(alloc, key, place, input, parts),
-            Found::Waiting => Ok(self.waited(place, input)),
+            Found::Waiting => self.waited(alloc, place, input),
         }
     }
 
     // A request is given what its job came to, and its task is woken.
-    fn give(&mut self, place: u64, came: RcSlice<u8>, parts: &mut Parts) {
+    fn give(&mut self, place: u64, came: RcSlice<u8>, parts: &mut Parts)
+        requires idle { parts.old.called ≡ None }
+        requires free { are_free parts.old.futures (own_of self.old) ≡ true }
+        ensures { CallsSeen (kept_of self.new) parts.old parts.new
+            (serving.given_to (standing_at place (kept_of self.old)) place (rc_slice_items came)
+            (kept_of self.old)) }
+    {
         if let Some(on) = self.requests.give(place, came) {
             let _was_pending = parts.resolve(on, Outcome::Value(Value::nothing()));
         }
     }
 
     /// News of a job. What is no number and a result, or names no job that goes on, is passed over.
-    pub fn told(
-        &mut self,
-        alloc: Global,
-        bytes: &[u8],
-        parts: &mut Parts,
-    ) -> Result<(), Memory> {
+    pub fn told(&mut self, alloc: Global, bytes: &[u8], parts: &mut Parts) -> Result<(), Memory>
+        requires idle { parts.old.called ≡ None }
+        requires free { are_free parts.old.futures (own_of self.old) ≡ true }
+        ensures { OnOk result (CallsSeen (kept_of self.new) parts.old parts.new
+            (serving.told (plain_numbered bytes.now) (kept_of self.old))) }
+    {
         let Some((number, told)) = numbered(bytes) else {
             return Ok(());
         };

@@ -63,11 +63,11 @@ impl Jobs {
         }) }
     {
         let number = self.accepted;
-        let Some(next) = number.checked_add(1) else {
+        if number == u64::MAX {
             return Err(Memory);
-        };
+        }
         forget(self.going.insert(number, place)?);
-        self.accepted = next;
+        self.accepted = number + 1;
         Ok(())
     }
 

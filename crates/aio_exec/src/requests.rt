@@ -1,6 +1,7 @@
 //! The keys that are drawn, and the requests that stand under them.
-ghost use Rattle.std.specs.Prelude.{◌≡◌, ◌+◌, ◌<◌, ◌++◌, ◌∷◌, [], Some, IfOk, OnOk};
+ghost use Rattle.std.specs.Prelude.{◌≡◌, ◌+◌, ◌<◌, ◌++◌, ◌∷◌, [], ℕ, None, Some, IfOk, OnOk};
 ghost use Rattle.std.specs.Map.{lookup, remove_entry, set_value};
+ghost use Rattle.std.specs.Option.{option_and_then, option_map};
 ghost use Rattle.std.specs.BTreeMap.{IsOrdered, is_at};
 ghost use Rattle.std.specs.List.{AllByRecursion as Each};
 ghost use Rattle.std.specs.Ordering.{nat_cmp};
@@ -8,7 +9,8 @@ ghost use Rattle.std.specs.Rc.{rc_slice_items};
 ghost use Rattle.model_reach.specs.Part.{can_draw, key_at, no_key};
 ghost use Rattle.model_exec.specs.Execed as plain;
 ghost use Rattle.model_exec.specs.Execed.{exec_part, is_number};
-ghost use Rattle.aio_exec.specs.Keeps.{came_of, found_of, given, on_of, standing_as};
+ghost use Rattle.aio_exec.specs.Keeps.{came_in, came_of, found_of, given, given_in, on_of, standing_as, waits_on};
+ghost use Rattle.aio_exec.specs.declared.requests.Standing.TheVariants as coded;
 
 use aio_base::Memory;
 use aio_task::FutureId;
@@ -79,7 +81,7 @@ fn found_in(it: &Standing) -> Found
 
 // What came.
 fn came_in(it: Option<Standing>) -> Option<RcSlice<u8>>
-    ensures { result ≡ came_of it }
+    ensures { option_map rc_slice_items result ≡ came_of it }
 {
     match it {
         Some(Standing::Waiting { on: _, came }) => came,
@@ -90,13 +92,19 @@ fn came_in(it: Option<Standing>) -> Option<RcSlice<u8>>
 
 // It waits on this future.
 fn wait_on(it: &mut Standing, on: FutureId)
-    ensures { standing_as it.new ≡ plain.Waiting on None }
+    ensures { it.new ≡ coded.Waiting on None }
 {
     *it = Standing::Waiting { on, came: None };
 }
 
 // One of them waits on this future.
-fn wait_in(standing: &mut BTreeMap<u64, Standing>, place: u64, on: FutureId) {
+fn wait_in(standing: &mut BTreeMap<u64, Standing>, place: u64, on: FutureId)
+    ensures entries { standing.new.entries
+        ≡ set_value (is_at (nat_cmp place)) standing.old.entries (coded.Waiting on None) }
+    ensures below { (n : ℕ) → Each (λ entry. entry.0 < n) standing.old.entries
+        → Each (λ entry. entry.0 < n) standing.new.entries }
+    ensures ordered { IsOrdered nat_cmp standing.old → IsOrdered nat_cmp standing.new }
+{
     if let Some(it) = standing.get_mut(&place) {
         wait_on(it, on);
     }
@@ -124,7 +132,19 @@ fn give_in(
     standing: &mut BTreeMap<u64, Standing>,
     place: u64,
     came: RcSlice<u8>,
-) -> Option<FutureId> {
+) -> Option<FutureId>
+    ensures on { result
+        ≡ option_and_then on_of (lookup (is_at (nat_cmp place)) standing.old.entries) }
+    ensures none { lookup (is_at (nat_cmp place)) standing.old.entries ≡ None
+        → standing.new.entries ≡ standing.old.entries }
+    ensures entries { (it : coded.the_data)
+        → lookup (is_at (nat_cmp place)) standing.old.entries ≡ Some it
+        → standing.new.entries
+        ≡ set_value (is_at (nat_cmp place)) standing.old.entries (given came it) }
+    ensures below { (n : ℕ) → Each (λ entry. entry.0 < n) standing.old.entries
+        → Each (λ entry. entry.0 < n) standing.new.entries }
+    ensures ordered { IsOrdered nat_cmp standing.old → IsOrdered nat_cmp standing.new }
+{
     match standing.get_mut(&place) {
         Some(it) => give(it, came),
         None => {
@@ -196,6 +216,8 @@ impl Requests {
 
     /// A request stands no more: what its job came to, if it came to something. It takes no memory.
     pub fn end(&mut self, place: u64) -> Option<RcSlice<u8>>
+        ensures came { option_map rc_slice_items result
+            ≡ came_in (lookup (is_number place) self.old.standing) }
         ensures after { self.new ≡ record self.old {
           standing = remove_entry (is_number place) self.old.standing;
         } }
@@ -206,7 +228,13 @@ impl Requests {
 
     /// A request that waits is given what its job came to: the future on which it waits. It takes
     /// no memory.
-    pub fn give(&mut self, place: u64, came: RcSlice<u8>) -> Option<FutureId> {
+    pub fn give(&mut self, place: u64, came: RcSlice<u8>) -> Option<FutureId>
+        ensures on { result ≡ waits_on (lookup (is_number place) self.old.standing) }
+        ensures after { self.new ≡ record self.old {
+          standing = given_in place (rc_slice_items came)
+              (lookup (is_number place) self.old.standing) self.old.standing;
+        } }
+    {
         give_in(&mut self.standing, place, came)
     }
 }

@@ -3,6 +3,7 @@ ghost use Rattle.std.specs.Prelude.{◌≡◌, ◌≤◌, ℤ, pos, true, IfOk, 
 ghost use Rattle.model_machine.specs.Arguments.{as_bytes as plain_as_bytes, as_int as plain_as_int};
 ghost use Rattle.model_exec.specs.Jobs.{is_job, job_text};
 ghost use Rattle.model_exec.specs.Serving.{is_job_code, wanted_of};
+ghost use Rattle.aio_exec.specs.Wants.{wanted_as};
 
 use aio_base::{Blob, Memory, Value, ValueCase};
 use std::alloc::Global;
@@ -12,6 +13,13 @@ pub const JOB: i64 = 300;
 
 /// So many bytes a job is given at most.
 const MOST: usize = 131_000;
+
+/// A kind, and the bytes that such a job is given.
+#[derive(Clone, Copy)]
+pub struct Wanted<'a> {
+    pub kind: i64,
+    pub input: &'a [u8],
+}
 
 fn as_int(value: &Value) -> Option<i64>
     ensures { result ≡ plain_as_int value.now }
@@ -40,34 +48,34 @@ pub fn is_job_code(code: i64) -> bool
 }
 
 /// The kind and the bytes that a list asks for, where it has that shape.
-pub fn wanted(items: &[Value]) -> Option<(i64, &[u8])>
+pub fn shaped(items: &[Value]) -> Option<Wanted<'_>>
     ensures { MatchOption result (wanted_of items.now ≡ None)
-        (λ it. wanted_of items.now ≡ Some (record { kind = it.0; input = it.1.now })) }
+        (λ it. wanted_of items.now ≡ Some (wanted_as it)) }
 {
     match items {
         [kind, input] => match (as_int(kind), as_bytes(input)) {
-            (Some(kind), Some(input)) => Some((kind, input)),
+            (Some(kind), Some(input)) => Some(Wanted { kind, input }),
             _ => None,
         },
         _ => None,
     }
 }
 
-/// Whether there is a job of this kind for these bytes.
-pub fn is_job(kind: i64, input: &[u8]) -> bool
-    ensures { result ≡ is_job kind input.now }
+/// Whether there is such a job.
+pub fn is_job(it: &Wanted<'_>) -> bool
+    ensures { result ≡ is_job it.now.kind it.now.input.now }
 {
-    kind >= 1 && kind <= 3 && input.len() <= MOST
+    it.kind >= 1 && it.kind <= 3 && it.input.len() <= MOST
 }
 
 /// How the outside is asked: the kind's digit, a space and the bytes.
-pub fn job_text(alloc: Global, kind: i64, input: &[u8]) -> Result<Blob, Memory>
-    requires { is_job kind input.now ≡ true }
-    ensures { IfOk result (λ text. text ≡ job_text kind input.now) }
+pub fn job_text(alloc: Global, it: &Wanted<'_>) -> Result<Blob, Memory>
+    requires { is_job it.now.kind it.now.input.now ≡ true }
+    ensures { IfOk result (λ text. text ≡ job_text it.now.kind it.now.input.now) }
 {
-    let mut text = Vec::with_capacity(alloc, input.len() + 2)?;
-    text.push(b'0' + kind as u8)?;
+    let mut text = Vec::with_capacity(alloc, it.input.len() + 2)?;
+    text.push(b'0' + it.kind as u8)?;
     text.push(b' ')?;
-    text.extend_from_slice(input)?;
+    text.extend_from_slice(it.input)?;
     Ok(Blob::of(text))
 }

@@ -4,11 +4,10 @@ use Rattle.std.specs.List.{list_all}
 use Rattle.model_value.specs.Value.{Value}
 use Rattle.model_loop.specs.Owning.{is_plain}
 use Rattle.model_loop.specs.Parts.{profile_named}
-use Rattle.model_loop.specs.Tasks.{next_task}
 use Rattle.model_machine.specs.Arguments.{as_list}
 use Rattle.model_machine.specs.Extra as extra
 use Rattle.model_machine.specs.Extra.{ExtraAnswer, ExtraCall, ExtraSaid, called}
-use Rattle.model_machine.specs.Sound.{IsAwaitable, names_made}
+use Rattle.model_machine.specs.Sound.{IsAwaitable, ids_of, names_made}
 use Rattle.model_machine.specs.State.{State}
 use Rattle.law_runs.specs.Allowed.{MayCall}
 use Rattle.aio_task.specs.Keeps.{NameMap, Keeps, Extends}
@@ -35,7 +34,7 @@ pub record IsAskedOf {X : Type 0} (a : Added X) (task : ℕ) (t : NameMap) (s : 
   pub served : IsServed a (Some task) t s x v
   pub named : futures ≡ s.futures
   pub listed : as_list arguments ≡ Some items
-  pub made : list_all (names_made (next_task s.loop.parts)) items ≡ true
+  pub made : list_all (names_made (ids_of s)) items ≡ true
 
 -- There is such a state. Which one it is doesn't matter to what a call may do.
 abbrev pub MayServe : {X : Type 0} → Added X → (running : Option ℕ) → X → View → Type 0

@@ -2,8 +2,7 @@
 ghost use Rattle.std.specs.Prelude.{◌≡◌, true, List, None, Some, IfOk, OnOk, is_some};
 ghost use Rattle.model_value.specs.Value.{Value as AnyValue};
 ghost use Rattle.model_loop.specs.Parts as plain;
-ghost use Rattle.model_loop.specs.Tasks.{next_task};
-ghost use Rattle.model_machine.specs.Sound.{sends_made};
+ghost use Rattle.model_machine.specs.Sound.{ids_of, sends_made};
 ghost use Rattle.model_machine.specs.State.{State};
 ghost use Rattle.aio_task.specs.Keeps.{NameMap};
 ghost use Rattle.aio_extra.specs.Added.{Added};
@@ -52,7 +51,7 @@ pub trait Extra {
         ensures { IfOk result (λ asked. (t : NameMap) (s : State added.Kept)
             → IsServed added parts.old.running t s self.old parts.old
             → (added.meaning.keeps s.extra).has_key key ≡ true
-            → sends_made (next_task s.loop.parts) input ≡ true
+            → sends_made (ids_of s) input ≡ true
             → SaysAs added t s parts.old parts.new self.new asked
             (added.meaning.wake key input s)) };
 

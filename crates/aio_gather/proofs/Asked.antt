@@ -16,7 +16,7 @@ use Rattle.model_says.specs.Requests.{bad_argument}
 use Rattle.model_machine.specs.Extra as extra
 use Rattle.model_machine.specs.Extra.{Answers, CallsLater, ExtraAnswer, ExtraCall, ExtraSaid, ExtraStep, MakesMany, MakesPlain, Raises, Registers, made_by, made_by_all}
 use Rattle.model_machine.specs.Outcomes.{input_of}
-use Rattle.model_machine.specs.Sound.{IsAwaitable}
+use Rattle.model_machine.specs.Sound.{IsAwaitable, ids_of}
 use Rattle.model_machine.specs.State.{State}
 use Rattle.model_reach.specs.Part.{can_draw, key_at, passes, refuses}
 use Rattle.model_gather.specs.Gathered as plain
@@ -272,8 +272,8 @@ module _ (running : Option ℕ) (t : NameMap) (s : State Gathered) (x : Gather) 
         → AreHandles front → tags v.schedule.next ≡ (made_by_all front s.loop).parts.next_tag → IsWaitNamed s said.answer said.call.state → Lifts said
     timed_lifts front when key said e quiet tag waits seen may =
         let seen_steps = subst (λ steps. SeesAll t.known steps v w) e (seen.call.steps t.known (known_by running t s x v h tags agrees)) in
-        let ok = subst (λ steps. AreAllowed (owns_at (gather_keeps s.extra) p) steps s.loop) e may.call.steps in
-        let g = timed_goes t v w (owns_at (gather_keeps s.extra) p) s.loop front when key h.keeps h.rules ok quiet seen_steps in
+        let ok = subst (λ steps. AreAllowed (owns_at (ids_of s) (gather_keeps s.extra) p) steps s.loop) e may.call.steps in
+        let g = timed_goes t v w (owns_at (ids_of s) (gather_keeps s.extra) p) s.loop front when key h.keeps h.rules ok quiet seen_steps in
         let back = subst (λ steps. GoesTimed t p v w (made_by_all steps s.loop).parts (made_by_all front s.loop).parts.next_tag
         (record { number = v.schedule.next; when = when })) (sym e) g in
         says_so running t s x v h tags agrees None y w asked said seen may waits back.goes

@@ -7,10 +7,9 @@ use Rattle.model_loop.specs.Futures.{next_future}
 use Rattle.model_loop.specs.Loop.{Loop}
 use Rattle.model_loop.specs.Owning.{OwnsFutures, is_plain, own_future, owner_at, owner_of}
 use Rattle.model_loop.specs.Parts.{Future, FutureKind, Many, OfTask, Parts, Plain}
-use Rattle.model_loop.specs.Tasks.{next_task}
 use Rattle.model_machine.specs.Extra as extra
 use Rattle.model_machine.specs.Extra.{Answers, ExtraAnswer, ExtraCall, ExtraSaid, ExtraStep, Raises, called, made_by_all}
-use Rattle.model_machine.specs.Sound.{IsAwaitable}
+use Rattle.model_machine.specs.Sound.{IsAwaitable, ids_of}
 use Rattle.model_machine.specs.State.{State}
 use Rattle.model_gather.specs.Gathered.{Gathered, gather_keeps}
 use Rattle.model_gather.specs.Serving.{gather_means}
@@ -96,7 +95,7 @@ module _ (running : Option ℕ) (t : NameMap) (s : State Gathered) (x : Gather) 
     -- where no timer is made
     pub plainly : AreOlder p.next_tag call.steps → Goes t p v w (made_by_all call.steps s.loop).parts
     plainly older =
-        steps_go t v w (owns_at (gather_keeps s.extra) p) s.loop call.steps h.keeps h.rules may.steps older
+        steps_go t v w (owns_at (ids_of s) (gather_keeps s.extra) p) s.loop call.steps h.keeps h.rules may.steps older
         (seen.steps t.known (known_by tags agrees))
 
     module _ (goes : Goes t p v w (made_by_all call.steps s.loop).parts)
@@ -143,7 +142,7 @@ module _ (running : Option ℕ) (t : NameMap) (s : State Gathered) (x : Gather) 
     owner_then : (on task : ℕ) → own_future p task ≡ Some on → owner_of (made_by_all said.call.steps s.loop).parts on ≡ Some task
     owner_then on task own =
         let is : owner_of p on ≡ Some task = (h.may.loop.parts.owns on task).1 own in
-        let a = (all_after (next_task p) None (owns_at (gather_keeps s.extra) p) said.call.steps s.loop refl may.call.steps).parts in
+        let a = (all_after None (owns_at (ids_of s) (gather_keeps s.extra) p) said.call.steps s.loop may.call.steps).parts in
         a.owners on (within p on task is) ∙ is
 
     named_so : (on : ℕ) → IsAwaitable s.futures p on → is_plain (made_by_all said.call.steps s.loop).parts on ≡ true

@@ -12,11 +12,11 @@ use Rattle.model_says.specs.Operations.{bounded}
 use Rattle.model_loop.specs.Futures.{future_outcome, is_pending, next_future}
 use Rattle.model_loop.specs.Owning.{owner_at}
 use Rattle.model_loop.specs.Parts.{Future, Parts}
-use Rattle.model_loop.specs.Tasks.{cancelling, future_of, next_task}
+use Rattle.model_loop.specs.Tasks.{cancelling, future_of}
 use Rattle.model_loop.specs.Timeouts.{timeout_exception}
 use Rattle.model_machine.specs.Arguments.{as_list}
 use Rattle.model_machine.specs.Extra.{Answers, Cancels, ExtraAnswer, ExtraCall, ExtraSaid, ExtraStep, Raises, Uncancels, key_of}
-use Rattle.model_machine.specs.Sound.{IsAwaitable, IsOwned, IsTagOwned, sends_made}
+use Rattle.model_machine.specs.Sound.{IsAwaitable, IsOwned, IsTagOwned, ids_of, sends_made}
 use Rattle.model_machine.specs.State.{State}
 use Rattle.model_reach.specs.Part.{key_at, passes, place_of, stays}
 use Rattle.model_gather.specs.Gathered as plain
@@ -330,7 +330,7 @@ acts_at t s x v h key place at y w seen =
 
 pub wakes_at : (running : Option ℕ) → is_some running ≡ true → (t : NameMap) (s : State Gathered) (x : Gather) (v : View)
     → IsServed gather_added running t s x v → (key place : ℕ) → place ≡ place_of gather_part key → (input : Input)
-    → (gather_means.keeps s.extra).has_key key ≡ true → sends_made (next_task s.loop.parts) input ≡ true → (y : Gather) (w : View) (asked : Asked)
+    → (gather_means.keeps s.extra).has_key key ≡ true → sends_made (ids_of s) input ≡ true → (y : Gather) (w : View) (asked : Asked)
     → ((tags : ℕ → ℕ) → SaysSeen tags x y v w asked (woken (slice_get (kept_of tags x).drawn place) place input (parts v) (kept_of tags x)))
     → SaysAs gather_added t s v w y asked (gather_means.wake key input s)
 wakes_at None runs t s x v h key place at input known made y w asked seen = absurd (cc)

@@ -15,4 +15,4 @@ pub use launch::Launch;
 pub use launcher::{Launched, Launcher};
 pub use mem_launcher::MemLauncher;
 pub use mem_poller::MemPoller;
-pub use poller::{Polled, Poller};
+pub use poller::{Polled, Poller, is_datagram};

@@ -1,6 +1,6 @@
 //! What polls sockets.
 ghost use Rattle.std.specs.Prelude.{◌≡◌, ◌≤◌, true, IfOk};
-ghost use Rattle.model_hub.specs.Told.{PollerSeen, is_socket};
+ghost use Rattle.model_hub.specs.Told.{PollerSeen, is_datagram, is_socket};
 ghost use Rattle.aio_hub.specs.Polls.{Polls, Nets};
 
 use aio_base::Memory;
@@ -16,7 +16,16 @@ pub enum Polled {
     Failed,
 }
 
-/// What polls listeners, connections and added requests, and makes the calls on sockets.
+/// Whether an added request of this code is one on an endpoint of datagrams: 400 opens one, 401
+/// sends, 402 is what comes, 403 closes.
+pub fn is_datagram(code: i64) -> bool
+    ensures { result ≡ is_datagram code }
+{
+    400 <= code && code <= 403
+}
+
+/// What polls listeners, connections, endpoints of datagrams and added requests, and makes the calls
+/// on sockets.
 /// Source: `selectors.py`, `BaseSelector`; the library reference, `socket`.
 pub trait Poller {
     /// The calls that it was asked and the answers that it gave, where it tells them, and how often it
@@ -34,7 +43,8 @@ pub trait Poller {
         ensures polled { IfOk result (Polls wait watch.now (seen self.old) (seen self.new)) }
         ensures monotone { (seen self.old).faults ≤ (seen self.new).faults };
 
-    /// Makes a call on a socket. It never waits.
+    /// Makes a call on a socket: on a listener or a connection, or, by an added request with a code from
+    /// 400 to 403, on an endpoint of datagrams. It never waits.
     fn net(&mut self, alloc: Global, call: &Call) -> Result<Reply, Memory>
         requires { is_socket call.now ≡ true }
         ensures net { IfOk result (Nets call.now (seen self.old) (seen self.new)) }

@@ -101,7 +101,7 @@ module _ {Run : Type 0} (words : List (List ℕ)) (said : Answer) (old between n
             ∙ to_spent (call.Launch words) others old between plainly.rests commands number offer goes (goes_on number goes) is;
         polls = told_nothing poller.asked;
         answers = told_nothing poller.answers;
-        keeps = tt;
+        keeps = λ is. absurd (false≢true is);
         kills = told.kills;
         launches = told.launches ∙ ap (λ n. launches_after (call.Launch words) (Got said) n launcher.launches) as_many;
         refused = refused_so said told.refused;

@@ -1,8 +1,9 @@
 //! The calls that change no more than the lanes and what the children's records keep of them.
-ghost use Rattle.std.specs.Prelude.{◌≡◌, ℕ, ℤ, List, []};
+ghost use Rattle.std.specs.Prelude.{◌≡◌, ℕ, ℤ, false, List, []};
 ghost use Rattle.model_wire.specs.declared.answer.Answer.TheVariants as answer;
 ghost use Rattle.model_wire.specs.declared.call.Call.TheVariants as call;
 ghost use Rattle.model_hub.specs.Others.{Got};
+ghost use Rattle.model_hub.specs.Told.{is_datagram};
 ghost use Rattle.aio_live.specs.States.{Plainly, Feeding, Ending};
 ghost use Rattle.aio_live.specs.Alone.{AsksAlone};
 
@@ -21,11 +22,11 @@ impl<N: InboxName, Run> State<N, Run> {
         serve(rt, &mut self.lanes, &mut self.pumped.roster, watch);
     }
 
-    /// An added request: none is served.
+    /// An added request that isn't the poller's: none is served.
     pub fn extra<R: Wait>(&mut self, rt: &R) -> Answer
         ensures answer { result ≡ answer.Refused }
         ensures posts { self.new.hub.taken ≡ self.old.hub.taken }
-        ensures asks { (code : ℤ) (bytes : List ℕ)
+        ensures asks { (code : ℤ) (bytes : List ℕ) → is_datagram code ≡ false
             → AsksAlone (call.Extra code bytes) (Got answer.Refused) self.old self.new }
     {
         self.serve(rt, &[]);

@@ -243,12 +243,12 @@ impl Sockets {
                 self.closed = self.closed.wrapping_add(1);
                 Ok(Answer::Done)
             }
+            Call::Extra { .. } => Ok(Answer::Refused),
             Call::Select { .. }
             | Call::Feed { .. }
             | Call::End(_)
             | Call::Kill(_)
-            | Call::Launch(_)
-            | Call::Extra { .. } => Err(io::Error::from(ErrorKind::Unsupported)),
+            | Call::Launch(_) => Err(io::Error::from(ErrorKind::Unsupported)),
         }
     }
 

@@ -4,10 +4,10 @@ use Rattle.model_loop.specs.Parts.{Parts}
 use Rattle.model_gather.specs.Gathered.{Gathered, none_gathered}
 use Rattle.model_sync.specs.Synced.{none_synced}
 use Rattle.model_exec.specs.Execed.{none_execed}
+use Rattle.model_dgram.specs.Endpoints.{none_opened}
 use Rattle.law_runs.specs.Allowed.{IsAmong}
 use Rattle.aio_task.specs.Keeps.{NameMap}
 use Rattle.aio_extra.specs.Added.{KeepsNothing}
-use Rattle.aio_extra.specs.declared.nothing.NoExtra.{NoExtra}
 use Rattle.aio_gather.specs.Added as gather
 use Rattle.aio_gather.specs.Kept.{HasTimer, drawn_as, kept_of}
 use Rattle.aio_gather.specs.declared.drawn.Drawn.{Drawn}
@@ -18,6 +18,10 @@ use Rattle.aio_sync.specs.declared.requests.Sync.{Sync}
 use Rattle.aio_exec.specs.Added as exec
 use Rattle.aio_exec.specs.Seen as exec_seen
 use Rattle.aio_exec.specs.declared.exec.Exec.{Exec}
+use Rattle.aio_dgram.specs.Added as dgram
+use Rattle.aio_dgram.specs.Seen as dgram_seen
+use Rattle.aio_dgram.specs.declared.dgram.Dgram.{Dgram}
+use Rattle.law_dgram.proofs.Tidying.{tidy_first}
 use Rattle.aio_reach.specs.declared.four.Four.{Four}
 use Rattle.aio_reach.specs.Routed.{first_reached, routed}
 
@@ -46,14 +50,18 @@ sync_stands x none t p = (none, λ id own. absurd (none_among id own))
 exec_stands : (x : Exec) → exec_seen.kept_of x ≡ none_execed → (t : NameMap) (p : Parts) → exec.StandsForKept t p x none_execed
 exec_stands x none t p = (none, λ id own. absurd (none_among id own))
 
-pub begins : (x : Four Gather Sync Exec NoExtra) → ((tags : ℕ → ℕ) → kept_of tags x.gather ≡ none_gathered)
-    → seen.kept_of x.sync ≡ none_synced → exec_seen.kept_of x.exec ≡ none_execed → KeepsNothing routed x first_reached
-begins x gathers syncs execs = record {
+dgram_stands : (x : Dgram) → dgram_seen.kept_of x ≡ none_opened → (t : NameMap) → dgram.StandsForKept t x none_opened
+dgram_stands x none t = record { kept = none; tidy = tidy_first; there = λ id own. absurd (none_among id own) }
+
+pub begins : (x : Four Gather Sync Exec Dgram) → ((tags : ℕ → ℕ) → kept_of tags x.gather ≡ none_gathered)
+    → seen.kept_of x.sync ≡ none_synced → exec_seen.kept_of x.exec ≡ none_execed
+    → dgram_seen.kept_of x.dgram ≡ none_opened → KeepsNothing routed x first_reached
+begins x gathers syncs execs dgrams = record {
   stands = λ t p. record {
     gather = gather_stands x.gather gathers t p;
     sync = sync_stands x.sync syncs t p;
     exec = exec_stands x.exec execs t p;
-    dgram = tt;
+    dgram = dgram_stands x.dgram dgrams t;
   };
   names = record { tasks = refl; futures = refl; own = refl; tags = refl; values = refl };
 }

@@ -4,10 +4,9 @@ use Rattle.std.proofs.Math.Logic.{∥∥₁_map}
 use Rattle.model_value.specs.Value.{Value}
 use Rattle.model_loop.specs.Loop.{Loop}
 use Rattle.model_loop.specs.Parts.{Parts}
-use Rattle.model_loop.specs.Tasks.{next_task}
 use Rattle.model_machine.specs.Extra as extra
 use Rattle.model_machine.specs.Extra.{ExtraAnswer, ExtraCall, ExtraSaid, ExtraStep, called, made_by_all, unknown_code}
-use Rattle.model_machine.specs.Sound.{AreKept}
+use Rattle.model_machine.specs.Sound.{AreKept, Ids, ids_of}
 use Rattle.model_machine.specs.State.{State}
 use Rattle.model_reach.specs.Part.{refuses, stays}
 use Rattle.model_reach.specs.Reach.{called_by, said_by, seen_by}
@@ -24,7 +23,7 @@ use Rattle.aio_extra.specs.declared.asked.Asked.TheVariants.{Answer, Raise, Wait
 beside : (owned : ℕ → Type 0) (own : Owns) (t : NameMap) (steps : List ExtraStep) (l : Loop) → AreAllowed own steps l → (u : NameMap)
     → Extends l.parts t (made_by_all steps l).parts u → GoesBeside owned t l.parts u (made_by_all steps l).parts
 beside owned own t steps l may u e =
-    let a = (all_after (next_task l.parts) None own steps l refl may).parts in
+    let a = (all_after None own steps l may).parts in
     record {
       known = e.known;
       tags = e.tags;
@@ -41,8 +40,8 @@ pub record Holds {R X : Type 0} (whole : Added R) (a : Added X) : Type 0 where
   pub part : whole.Kept → a.Kept
   pub back : a.Kept → whole.Kept → whole.Kept
   pub stands : (t : NameMap) (p : Parts) (x : R) (kept : whole.Kept) → whole.stands t p x kept → a.stands t p (get x) (part kept)
-  pub kept : (kept : whole.Kept) (futures : List ℕ) (p : Parts) → AreKept (whole.meaning.keeps kept) futures p
-      → AreKept (a.meaning.keeps (part kept)) futures p
+  pub kept : (ids : Ids) (kept : whole.Kept) (futures : List ℕ) (p : Parts) → AreKept ids (whole.meaning.keeps kept) futures p
+      → AreKept ids (a.meaning.keeps (part kept)) futures p
   pub stands_put : (t u : NameMap) (p q : Parts) (x : R) (kept : whole.Kept) (y : X) (it : a.Kept) → whole.stands t p x kept
       → GoesBeside (IsAmong (whole.meaning.keeps kept).own) t p u q → a.stands u q y it → whole.stands u q (put y x) (back it kept)
   pub own_put : (it : a.Kept) (kept : whole.Kept) (id : ℕ) → IsAmong (a.meaning.keeps it).own id
@@ -58,7 +57,7 @@ module _ {R X : Type 0} {whole : Added R} {a : Added X} (holds : Holds whole a) 
       runs = h.runs;
       may = record {
         loop = h.may.loop;
-        kept = holds.kept s.extra s.futures s.loop.parts h.may.kept;
+        kept = holds.kept (ids_of s) s.extra s.futures s.loop.parts h.may.kept;
         scripts = h.may.scripts;
         outcomes = h.may.outcomes;
       };

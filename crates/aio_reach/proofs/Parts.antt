@@ -3,7 +3,7 @@ use Rattle.std.proofs.Common.{◌≡◌, ℕ, List, Some, None, refl, ap, ◌∙
 use Rattle.std.specs.Prelude.{◌%◌, ◌==◌, if◌then◌else◌}
 use Rattle.std.proofs.lemmas.Bool.{ne_eqb}
 use Rattle.model_loop.specs.Parts.{Parts}
-use Rattle.model_machine.specs.Sound.{AreKept}
+use Rattle.model_machine.specs.Sound.{AreKept, Ids}
 use Rattle.model_reach.specs.Reach.{Part, OfGather, OfSync, OfExec, OfDgram, part_of_hundred, part_of_key}
 use Rattle.law_parted.proofs.Lists.{in_first, in_fourth, in_second, in_third}
 use Rattle.law_parted.proofs.Together.{AllKept, apart}
@@ -17,11 +17,11 @@ module _ {X Y Z W : Type 0} (a : Added X) (b : Added Y) (c : Added Z) (d : Added
   abbrev four : Added (Four X Y Z W)
   four = four_added a b c d keyed
 
-  pub all_of : (kept : FourKept a b c d) (futures : List ℕ) (p : Parts) → AreKept (four.meaning.keeps kept) futures p
-      → AllKept (a.meaning.keeps kept.gather) (b.meaning.keeps kept.sync) (c.meaning.keeps kept.exec) (d.meaning.keeps kept.dgram)
+  pub all_of : (ids : Ids) (kept : FourKept a b c d) (futures : List ℕ) (p : Parts) → AreKept ids (four.meaning.keeps kept) futures p
+      → AllKept ids (a.meaning.keeps kept.gather) (b.meaning.keeps kept.sync) (c.meaning.keeps kept.exec) (d.meaning.keeps kept.dgram)
       (four.meaning.keeps kept).has_key futures p
-  all_of kept futures p is =
-      apart (a.meaning.keeps kept.gather) (b.meaning.keeps kept.sync) (c.meaning.keeps kept.exec) (d.meaning.keeps kept.dgram)
+  all_of ids kept futures p is =
+      apart ids (a.meaning.keeps kept.gather) (b.meaning.keeps kept.sync) (c.meaning.keeps kept.exec) (d.meaning.keeps kept.dgram)
       (four.meaning.keeps kept).has_key futures p is
 
   abbrev pub gather_holds : Holds (four_added a b c d keyed) a
@@ -31,7 +31,7 @@ module _ {X Y Z W : Type 0} (a : Added X) (b : Added Y) (c : Added Z) (d : Added
     part = λ kept. kept.gather;
     back = λ it kept. record kept { gather = it };
     stands = λ t p x kept h. h.gather;
-    kept = λ kept futures p is. (all_of kept futures p is).first;
+    kept = λ ids kept futures p is. (all_of ids kept futures p is).first;
     stands_put = λ t u p q x kept y it h beside now.
         let on = go_on a b c d t u p q x kept h beside in record { gather = now; sync = on.sync; exec = on.exec; dgram = on.dgram };
     own_put = λ it kept id own.
@@ -54,7 +54,7 @@ module _ {X Y Z W : Type 0} (a : Added X) (b : Added Y) (c : Added Z) (d : Added
     part = λ kept. kept.sync;
     back = λ it kept. record kept { sync = it };
     stands = λ t p x kept h. h.sync;
-    kept = λ kept futures p is. (all_of kept futures p is).second;
+    kept = λ ids kept futures p is. (all_of ids kept futures p is).second;
     stands_put = λ t u p q x kept y it h beside now.
         let on = go_on a b c d t u p q x kept h beside in record { gather = on.gather; sync = now; exec = on.exec; dgram = on.dgram };
     own_put = λ it kept id own.
@@ -77,7 +77,7 @@ module _ {X Y Z W : Type 0} (a : Added X) (b : Added Y) (c : Added Z) (d : Added
     part = λ kept. kept.exec;
     back = λ it kept. record kept { exec = it };
     stands = λ t p x kept h. h.exec;
-    kept = λ kept futures p is. (all_of kept futures p is).third;
+    kept = λ ids kept futures p is. (all_of ids kept futures p is).third;
     stands_put = λ t u p q x kept y it h beside now.
         let on = go_on a b c d t u p q x kept h beside in record { gather = on.gather; sync = on.sync; exec = now; dgram = on.dgram };
     own_put = λ it kept id own.
@@ -100,7 +100,7 @@ module _ {X Y Z W : Type 0} (a : Added X) (b : Added Y) (c : Added Z) (d : Added
     part = λ kept. kept.dgram;
     back = λ it kept. record kept { dgram = it };
     stands = λ t p x kept h. h.dgram;
-    kept = λ kept futures p is. (all_of kept futures p is).fourth;
+    kept = λ ids kept futures p is. (all_of ids kept futures p is).fourth;
     stands_put = λ t u p q x kept y it h beside now.
         let on = go_on a b c d t u p q x kept h beside in record { gather = on.gather; sync = on.sync; exec = on.exec; dgram = now };
     own_put = λ it kept id own.

@@ -4,9 +4,8 @@ use Rattle.std.specs.Prelude.{is_some}
 use Rattle.std.proofs.lemmas.Bool.{false≢true}
 use Rattle.model_value.specs.Input.{Input}
 use Rattle.model_value.specs.Value.{Value}
-use Rattle.model_loop.specs.Tasks.{next_task}
 use Rattle.model_machine.specs.Extra.{Extra, ExtraCall, ExtraSaid, unknown_code}
-use Rattle.model_machine.specs.Sound.{sends_made}
+use Rattle.model_machine.specs.Sound.{ids_of, sends_made}
 use Rattle.model_machine.specs.State.{State}
 use Rattle.model_reach.specs.Part.{refuses, stays}
 use Rattle.model_reach.specs.Reach.{Part, called_by, part_as, part_of_code, part_of_key, said_by, seen_by}
@@ -48,8 +47,8 @@ module _ {X Y Z W : Type 0} (a : Added X) (b : Added Y) (c : Added Z) (d : Added
 
 -- ---- what a part is called for
 wake_allowed : {V : Type 0} (e : Added V) (running : Option ℕ) → is_some running ≡ true → (key : ℕ) (input : Input) (s : State e.Kept)
-    → MayCall e.meaning running s → (e.meaning.keeps s.extra).has_key key ≡ true → sends_made (next_task s.loop.parts) input ≡ true
-    → AreAllowed (owns_at (e.meaning.keeps s.extra) s.loop.parts) (e.meaning.wake key input s).call.steps s.loop
+    → MayCall e.meaning running s → (e.meaning.keeps s.extra).has_key key ≡ true → sends_made (ids_of s) input ≡ true
+    → AreAllowed (owns_at (ids_of s) (e.meaning.keeps s.extra) s.loop.parts) (e.meaning.wake key input s).call.steps s.loop
 wake_allowed e None runs key input s may known made = absurd (false≢true runs)
 wake_allowed e (Some task) runs key input s may known made = (e.allowed.wake task key input s may known made).call.steps
 
@@ -66,7 +65,7 @@ module _ {X Y Z W V : Type 0} {a : Added X} {b : Added Y} {c : Added Z} {d : Add
     calls = λ t s h.
         subst (λ part. CallsAs whole t s v w (holds.put y x) ((in_part a b c d part).act key s)) (sym mine)
         (subst (CallsAs whole t s v w (holds.put y x)) (is.act key s)
-        (calls holds None t s x v h (owns_at (e.meaning.keeps (holds.part s.extra)) s.loop.parts) y w
+        (calls holds None t s x v h (owns_at (ids_of s) (e.meaning.keeps (holds.part s.extra)) s.loop.parts) y w
         (e.meaning.act key (seen_by (holds.part s.extra) s))
         (e.allowed.act key (seen_by (holds.part s.extra) s) (served holds None t s x v h).may).steps
         (so t (seen_by (holds.part s.extra) s) (served holds None t s x v h))));
@@ -80,14 +79,14 @@ module _ {X Y Z W V : Type 0} {a : Added X} {b : Added Y} {c : Added Z} {d : Add
 
   pub wakes : is_some v.running ≡ true → (key : ℕ) (input : Input) (asked : Asked) → part_of_key key ≡ this
       → ((t : NameMap) (s : State e.Kept) → IsServed e v.running t s (holds.get x) v → (e.meaning.keeps s.extra).has_key key ≡ true
-      → sends_made (next_task s.loop.parts) input ≡ true → SaysAs e t s v w y asked (e.meaning.wake key input s))
+      → sends_made (ids_of s) input ≡ true → SaysAs e t s v w y asked (e.meaning.wake key input s))
       → Wakes (four_added a b c d keyed) x (holds.put y x) v w key input asked
   wakes runs key input asked mine so = record {
     says = λ t s h known made.
         let seen = seen_by (holds.part s.extra) s in
         subst (λ part. SaysAs whole t s v w (holds.put y x) asked ((in_part a b c d part).wake key input s)) (sym mine)
         (subst (SaysAs whole t s v w (holds.put y x) asked) (is.wake key input s)
-        (says holds v.running t s x v h (owns_at (e.meaning.keeps (holds.part s.extra)) s.loop.parts) y w asked (e.meaning.wake key input seen)
+        (says holds v.running t s x v h (owns_at (ids_of s) (e.meaning.keeps (holds.part s.extra)) s.loop.parts) y w asked (e.meaning.wake key input seen)
         (wake_allowed e v.running runs key input seen (served holds v.running t s x v h).may (knows s key mine known) made)
         (so t seen (served holds v.running t s x v h) (knows s key mine known) made)));
   }
@@ -103,7 +102,7 @@ module _ {X Y Z W V : Type 0} {a : Added X} {b : Added Y} {c : Added Z} {d : Add
         let seen = seen_by (holds.part s.extra) s in
         subst (λ o. SaysAs whole t s v w (holds.put y x) asked (asked_at a b c d task code items s o)) (sym mine)
         (subst (SaysAs whole t s v w (holds.put y x) asked) (is.ask task code items s)
-        (says holds (Some task) t s x v h.served (owns_at (e.meaning.keeps (holds.part s.extra)) s.loop.parts) y w asked
+        (says holds (Some task) t s x v h.served (owns_at (ids_of s) (e.meaning.keeps (holds.part s.extra)) s.loop.parts) y w asked
         (e.meaning.ask task code items seen)
         (e.allowed.ask task code items seen (served holds (Some task) t s x v h.served).may h.made).call.steps
         (subst (λ n. SaysAs e t seen v w y asked (e.meaning.ask task n items seen)) same
@@ -119,7 +118,7 @@ module _ {X Y Z W V : Type 0} {a : Added X} {b : Added Y} {c : Added Z} {d : Add
         let seen = seen_by (holds.part s.extra) s in
         subst (λ o. CallsAs whole t s v w (holds.put y x) (heard_at a b c d code bytes s o)) (sym mine)
         (subst (CallsAs whole t s v w (holds.put y x)) (is.item code bytes s)
-        (calls holds None t s x v h (owns_at (e.meaning.keeps (holds.part s.extra)) s.loop.parts) y w (e.meaning.item code bytes seen)
+        (calls holds None t s x v h (owns_at (ids_of s) (e.meaning.keeps (holds.part s.extra)) s.loop.parts) y w (e.meaning.item code bytes seen)
         (e.allowed.item code bytes seen (served holds None t s x v h).may).steps
         (subst (λ n. CallsAs e t seen v w y (e.meaning.item n bytes seen)) same (so t seen (served holds None t s x v h)))));
   }

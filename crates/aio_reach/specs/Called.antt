@@ -2,8 +2,7 @@
 use Rattle.std.specs.Prelude.{◌≡◌, ℕ, ℤ, true, List, None}
 use Rattle.model_value.specs.Input.{Input}
 use Rattle.model_value.specs.Value.{Value}
-use Rattle.model_loop.specs.Tasks.{next_task}
-use Rattle.model_machine.specs.Sound.{sends_made}
+use Rattle.model_machine.specs.Sound.{ids_of, sends_made}
 use Rattle.model_machine.specs.State.{State}
 use Rattle.aio_task.specs.Keeps.{NameMap}
 use Rattle.aio_task.specs.View.{View}
@@ -21,7 +20,7 @@ module _ {X : Type 0} (a : Added X) (x y : X) (v w : View) where
   -- it goes on
   pub record Wakes (key : ℕ) (input : Input) (asked : Asked) : Type 0 where
     pub says : (t : NameMap) (s : State a.Kept) → IsServed a v.running t s x v → (a.meaning.keeps s.extra).has_key key ≡ true
-        → sends_made (next_task s.loop.parts) input ≡ true → SaysAs a t s v w y asked (a.meaning.wake key input s)
+        → sends_made (ids_of s) input ≡ true → SaysAs a t s v w y asked (a.meaning.wake key input s)
 
   -- a handle runs
   pub record Acts (key : ℕ) : Type 0 where

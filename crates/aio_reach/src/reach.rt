@@ -1,17 +1,18 @@
-//! What routes added requests to the parts that there are.
+//! What routes added requests to the four parts.
 use crate::four::Four;
 use aio_base::{Input, Memory, Value};
+use aio_dgram::Dgram;
 use aio_exec::Exec;
-use aio_extra::{Asked, Extra, NoExtra};
+use aio_extra::{Asked, Extra};
 use aio_gather::Gather;
 use aio_sync::Sync;
 use aio_task::{FutureId, Parts};
 use std::alloc::Global;
 
-/// The parts that there are. One that isn't built knows no code.
-pub type Reach = Four<Gather, Sync, Exec, NoExtra>;
+/// The four parts.
+pub type Reach = Four<Gather, Sync, Exec, Dgram>;
 
-impl Four<Gather, Sync, Exec, NoExtra> {
+impl Four<Gather, Sync, Exec, Dgram> {
     ghost use Rattle.aio_extra.specs.Added.{KeepsNothing};
     ghost use Rattle.aio_reach.specs.Routed.{first_reached, routed};
 
@@ -23,12 +24,12 @@ impl Four<Gather, Sync, Exec, NoExtra> {
             gather: Gather::new(alloc),
             sync: Sync::new(alloc),
             exec: Exec::new(alloc),
-            dgram: NoExtra,
+            dgram: Dgram::new(alloc),
         }
     }
 }
 
-impl Extra for Four<Gather, Sync, Exec, NoExtra> {
+impl Extra for Four<Gather, Sync, Exec, Dgram> {
     ghost use Rattle.aio_reach.specs.Routed.{routed};
 
     ghost added = { routed };

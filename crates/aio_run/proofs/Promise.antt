@@ -16,10 +16,10 @@ use Rattle.model_commands.specs.Recorded.{recorded}
 use Rattle.model_commands.specs.Telling.{Between, TellsAll, TellsFirstAndOne}
 
 -- ---- an outside that was told this much was told that much
-module _ (seen : Between) (fails : Type 0) (mine more : Option (List ℕ) → List Event → Type 0)
+module _ (seen : Between) (same fails : Type 0) (mine more : Option (List ℕ) → List Event → Type 0)
     (wider : (file : Option (List ℕ)) (events : List Event) → mine file events → more file events) (caused : End → Type 0) where
   abbrev told_as : (Option (List ℕ) → List Event → Type 0) → (End → Type 0) → Outside
-  told_as told caused = record { seen = seen; fails = fails; told = told; caused = caused }
+  told_as told caused = record { seen = seen; same = same; fails = fails; told = told; caused = caused }
 
   abbrev whole_as : Outside
   whole_as = told_as mine caused
@@ -69,7 +69,7 @@ whole_stops may might none wider old new status (output, allowed, took_it, is) =
 
 -- ---- by how the program ended
 module _ {F W : Type 0} (given : List (List ℕ)) (old new : Moment F W) (files : KeepsFiles (command_of given) old.files new.files)
-    (wire : KeepsWire (command_of given) old.wire new.wire) (words : command_of given ≡ None → new.shelf ≡ old.shelf) where
+    (wire : KeepsWire (command_of given) old.files old.wire new.wire) (words : command_of given ≡ None → new.shelf ≡ old.shelf) where
   behaves_whole : (status : ℕ) → WritesWhole (MayWrite (whole old new) (command_of given)) old.sink new.sink status
       → Behaves given old new status
   behaves_whole status done = record {
@@ -77,8 +77,8 @@ module _ {F W : Type 0} (given : List (List ℕ)) (old new : Moment F W) (files 
     fault = λ is. inl (subst (λ (s : ℕ). WritesWhole (MayWrite (whole old new) (command_of given)) old.sink new.sink s) is done);
     memory = λ is. whole_stops (MayWrite (whole old new) (command_of given)) (MayWrite (starved old new) (command_of given))
         (IsUnbegun (starved old new) (command_of given))
-        (write_wider (between old new) old.fails (TellsAll (between old new)) (TellsFirstAndOne (between old new)) (first_of_all (between old new))
-        (IsCaused old.told new.told) (command_of given)) old.sink new.sink status done;
+        (write_wider (between old new) (new.wire ≡ old.wire) old.fails (TellsAll (between old new)) (TellsFirstAndOne (between old new))
+        (first_of_all (between old new)) (IsCaused old.told new.told) (command_of given)) old.sink new.sink status done;
     files = files;
     wire = wire;
     words = words;
@@ -108,7 +108,7 @@ module _ {F W : Type 0} (given : List (List ℕ)) (old new : Moment F W) (files 
 
 -- the same, by the words as they were passed on
 module _ {F W : Type 0} (given passed : List (List ℕ)) (same : passed ≡ given) (old new : Moment F W)
-    (files : KeepsFiles (command_of passed) old.files new.files) (wire : KeepsWire (command_of passed) old.wire new.wire)
+    (files : KeepsFiles (command_of passed) old.files new.files) (wire : KeepsWire (command_of passed) old.files old.wire new.wire)
     (words : command_of passed ≡ None → new.shelf ≡ old.shelf) where
   pub whole_behaves : (status : ℕ) → WritesWhole (MayWrite (whole old new) (command_of passed)) old.sink new.sink status
       → Behaves given old new status

@@ -6,6 +6,7 @@ use Rattle.std.proofs.Math.Path.{fun_ext}
 use Rattle.std.specs.Option.{option_map}
 use Rattle.model_tree.specs.Syntax.{Program}
 use Rattle.model_text.specs.FirstPass.{fault_at}
+use Rattle.model_text.specs.Scripts.{script_of}
 use Rattle.model_text.specs.SecondPass.{Judged}
 use Rattle.model_wire.specs.declared.event.End.TheVariants as end
 use Rattle.model_wire.specs.declared.event.Handed.{Handed}
@@ -17,7 +18,7 @@ use Rattle.model_program.specs.Runs.{run}
 use Rattle.model_program.specs.Written.{MayBegin, ProgramOutput}
 use Rattle.model_commands.specs.Asked as plain
 use Rattle.model_commands.specs.Asked.{Asks, AsksOnce}
-use Rattle.model_commands.specs.Outputs.{KeepsOthers, MayRun, MayRunOver, MayRunScript, Outside, Pace, faulted}
+use Rattle.model_commands.specs.Outputs.{HoldsNoScript, IsRefused, KeepsOthers, MayRun, MayRunOver, MayRunScript, Outside, Pace, faulted}
 use Rattle.model_commands.specs.Outputs as outputs
 use Rattle.model_commands.specs.Recorded.{FailsRecording, Records}
 use Rattle.model_commands.specs.Telling.{Between, TellsAll}
@@ -97,14 +98,14 @@ others_from file old mid new same kept = subst (λ (s : ShelfSeen). KeepsOthers 
 abbrev pub between_of : Driven → Between
 between_of it = between it.shelf.old it.shelf.new it.before it.after
 
-module _ (program : Program) (how : Manner) (it : Driven) (fails : Type 0) (undisturbed : it.undisturbed ≡ Undisturbed fails it.quiet) where
+module _ (program : Program) (how : Manner) (it : Driven) (same fails : Type 0) (undisturbed : it.undisturbed ≡ Undisturbed fails it.quiet) where
   pub runs_over : (known : List Event → Type 0) (told : Option (List ℕ) → List Event → Type 0) (caused : End → Type 0)
       → ((events : List Event) → known events → told it.shelf.name events) → (output : ProgramOutput)
       → MayDrive (run program) how end.WireFault (wire_by it known caused) output
-      → MayRun (record { seen = between_of it; fails = fails; told = told; caused = caused }) program (pace_of it.shelf.name how) output
-  runs_over known told caused same output (inl (calm, entries, agrees, is, holds, cause)) =
-      inl ((subst (λ (t : Type 0). t) undisturbed calm).0, entries, agrees, is, same _ holds, cause)
-  runs_over known told caused same output (inr (rose, had, told_so, over, is, holds)) = inr (inl (rose, had, told_so, over, is, same _ holds))
+      → MayRun (record { seen = between_of it; same = same; fails = fails; told = told; caused = caused }) program (pace_of it.shelf.name how) output
+  runs_over known told caused so output (inl (calm, entries, agrees, is, holds, cause)) =
+      inl ((subst (λ (t : Type 0). t) undisturbed calm).0, entries, agrees, is, so _ holds, cause)
+  runs_over known told caused so output (inr (rose, had, told_so, over, is, holds)) = inr (inl (rose, had, told_so, over, is, so _ holds))
 
   -- what no file but the one that is named lost
   pub others_told : (output : ProgramOutput) → MayTell (run program) how end.WireFault it output → KeepsOthers it.shelf.name it.shelf.old it.shelf.new
@@ -155,6 +156,7 @@ module _ (program : Program) (how : Manner) (it : Driven) (first mid : SinkSeen)
     made = stops.made;
     fewer = stops.fewer;
     turn = stops.turn;
+    next = stops.next;
     more = stops.more;
     events = stops.events;
     asked = asks-same ((run program stops.had stops.made).events ++ stops.turn) it.before it.after stops.asked;
@@ -171,37 +173,46 @@ module _ (program : Program) (how : Manner) (it : Driven) (first mid : SinkSeen)
   fault = codes "! fault shelf\n"
 
   -- the fault's line was written after those of the turns before, or a front of it
-  pub cut_written : (fails none : Type 0) (last : SinkSeen) (result : Result ℕ Halt) → IfOk result (λ status. (status ≡ 9) × (last ≡ took mid fault))
+  pub cut_written : (same fails none : Type 0) (last : SinkSeen) (result : Result ℕ Halt)
+      → IfOk result (λ status. (status ≡ 9) × (last ≡ took mid fault))
       → IfErr result (StopsWriting fault mid last)
-      → Writes (MayRun (told_by result (between_of it) fails) program (pace_of it.shelf.name how)) none first last result
+      → Writes (MayRun (told_by result (between_of it) same fails) program (pace_of it.shelf.name how)) none first last result
   unfolding cut_short
-  cut_written fails none last (Ok status) done stopped =
+  cut_written same fails none last (Ok status) done stopped =
       (cut_short, inr (inr stops_so), took_on first mid last lines fault stops.wrote done.1 ∙ ap (took first) (sym cut_text), done.0)
-  cut_written fails none last (Err halt) done stopped =
-      early_by (MayRun (told_by (Err halt) (between_of it) fails) program (pace_of it.shelf.name how)) none first mid lines stops.wrote cut_short
+  cut_written same fails none last (Err halt) done stopped =
+      early_by (MayRun (told_by (Err halt) (between_of it) same fails) program (pace_of it.shelf.name how)) none first mid lines stops.wrote cut_short
       (inr (inr stops_so)) fault [] (cut_text ∙ ap (λ (t : List ℕ). lines ++ t) (sym (append-nil fault))) last halt stopped
 
 -- ---- scripts
 -- a script's run, by the rules for its text; reading it changed nothing of the shelf
-pub run_by_script : (script : Program) (old mid new : ShelfSeen) (before after : WireSeen) (name : List ℕ) (fails : Type 0) (result : Result ℕ Halt)
-    (pace : Pace) → SpellsScript (old.file name) script → mid ≡ old → (output : ProgramOutput)
-    → MayRun (told_by result (between mid new before after) fails) script pace output
-    → MayRunOver (told_by result (between old new before after) fails) name pace output
-run_by_script script old mid new before after name fails result pace spells same output may =
-    let it : ShelfSeen → Outside = λ s. told_by result (between s new before after) fails in
-    let here = subst (λ (s : ShelfSeen). MayRun (it s) script pace output) same may in
+pub run_by_script : (script : Program) (old mid new : ShelfSeen) (before after : WireSeen) (name : List ℕ) (same fails : Type 0)
+    (result : Result ℕ Halt) (pace : Pace) → SpellsScript (old.file name) script → mid ≡ old → (output : ProgramOutput)
+    → MayRun (told_by result (between mid new before after) same fails) script pace output
+    → MayRunOver (told_by result (between old new before after) same fails) name pace output
+run_by_script script old mid new before after name same fails result pace spells kept output may =
+    let it : ShelfSeen → Outside = λ s. told_by result (between s new before after) same fails in
+    let here = subst (λ (s : ShelfSeen). MayRun (it s) script pace output) kept may in
     inr (spells.0, spells.1, subst (λ (p : Judged Program). MayRunScript (it old) p pace output) (sym spells.2) here)
 
-pub run_without : (none : NoScript) (old new : ShelfSeen) (seen : WireSeen) (name : List ℕ) (fails : Type 0) (result : Result ℕ Halt) (pace : Pace)
-    → IsMissing name old new none → new.file ≡ old.file → (output : ProgramOutput) → Tells none output
-    → MayRunOver (told_by result (between old new seen seen) fails) name pace output
-run_without (Refused number cause) old new seen name fails result pace missing kept output tells =
+pub run_without : (none : NoScript) (old new : ShelfSeen) (seen : WireSeen) (name : List ℕ) (same fails : Type 0) (unasked : same)
+    (result : Result ℕ Halt) (pace : Pace) → IsMissing name old new none → new.file ≡ old.file → (output : ProgramOutput) → Tells none output
+    → MayRunOver (told_by result (between old new seen seen) same fails) name pace output
+run_without (Refused number cause) old new seen name same fails unasked result pace missing kept output tells =
     let (text, why, says, spells, is) = missing.0 in
-    let it : Outside = told_by result (between old new seen seen) fails in
-    let refused : MayRunScript it (fault_at number why) pace output = ((refl, missing.1), refused_as number cause why output is tells) in
+    let it : Outside = told_by result (between old new seen seen) same fails in
+    let refused : MayRunScript it (fault_at number why) pace output =
+    ((unasked, refl), missing.1, refused_as number cause why output is tells) in
     inr (text, says, subst (λ (p : Judged Program). MayRunScript it p pace output) (sym spells) refused)
-run_without Failed old new seen name fails result pace missing kept output tells = inl (missing, kept, refl, tells)
-run_without NoMemory old new seen name fails result pace missing kept output tells = absurd tells
+run_without Failed old new seen name same fails unasked result pace missing kept output tells = inl (missing, kept, (unasked, refl), tells)
+run_without NoMemory old new seen name same fails unasked result pace missing kept output tells = absurd tells
+
+-- a file that holds no script spells none
+pub never_spelled : (held : Option (Option (List ℕ))) (script : Program) → SpellsScript held script → HoldsNoScript held → ⊥
+never_spelled None script spells none = none
+never_spelled (Some None) script (text, says, spells) none = says
+never_spelled (Some (Some held)) script (text, says, spells) none =
+    subst (λ (p : Judged Program). IsRefused p) (ap script_of (sym says) ∙ spells) none
 
 -- where memory was refused while a script was read nothing changed
 pub unread : (none : NoScript) (old new : ShelfSeen) (name : List ℕ) → IsMissing name old new none → none ≡ NoMemory → new ≡ old

@@ -28,6 +28,12 @@ abbrev pub IsCausedBy : Result ℕ Halt → (before after : WireSeen) → End �
 IsCausedBy (Ok status) before after end = IsCaused before after end
 IsCausedBy (Err halt) before after end = Unit {0}
 
-abbrev pub told_by : Result ℕ Halt → Between → (fails : Type 0) → Outside
-told_by result seen fails =
-    record { seen = seen; fails = fails; told = TellsBy result seen; caused = IsCausedBy result seen.before seen.after }
+abbrev pub told_by : Result ℕ Halt → Between → (same fails : Type 0) → Outside
+told_by result seen same fails =
+    record {
+      seen = seen;
+      same = same;
+      fails = fails;
+      told = TellsBy result seen;
+      caused = IsCausedBy result seen.before seen.after;
+    }

@@ -72,13 +72,14 @@ fn serve<F: Shelf, W: Wire, K: Sink>(
 ) -> Result<u8, Halt>
     ensures written { let it = told_by result
         (between (F.seen shelf.old) (F.seen shelf.new) (W.outside.seen wire.old)
-        (W.outside.seen wire.new)) (W.outside.fails wire.old) in
+        (W.outside.seen wire.new)) (wire.new ≡ wire.old) (W.outside.fails wire.old) in
         let command = plain_command_of (map string_bytes words.now) in
         Writes (MayWrite it command) (IsUnbegun it command)
         (K.seen out.old) (K.seen out.new) result }
     ensures files { KeepsFiles (plain_command_of (map string_bytes words.now))
         (F.seen shelf.old) (F.seen shelf.new) }
-    ensures wire { KeepsWire (plain_command_of (map string_bytes words.now)) wire.old wire.new }
+    ensures wire { KeepsWire (plain_command_of (map string_bytes words.now))
+        (F.seen shelf.old) wire.old wire.new }
     ensures words { plain_command_of (map string_bytes words.now) ≡ None → shelf.new ≡ shelf.old }
 {
     match command_of(words) {

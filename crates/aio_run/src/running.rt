@@ -2,7 +2,7 @@
 ghost use Rattle.std.specs.Prelude.{◌≡◌, ◌≤◌};
 ghost use Rattle.std.specs.Option.{option_copied};
 ghost use Rattle.model_commands.specs.Asked.{AsksOnce};
-ghost use Rattle.model_commands.specs.Outputs.{KeepsOthers, MayRun, MayRunOver};
+ghost use Rattle.model_commands.specs.Outputs.{HoldsNoScript, KeepsOthers, MayRun, MayRunOver};
 ghost use Rattle.aio_run.specs.Running.{between, pace_of, told_by};
 ghost use Rattle.aio_run.specs.Writes.{Writes};
 
@@ -29,12 +29,14 @@ pub fn run<F: Shelf, W: Wire, K: Sink>(
         (MayRunOver (told_by result
         (between (F.seen shelf.old) (F.seen shelf.new) (W.outside.seen wire.old)
         (W.outside.seen wire.new))
-        (W.outside.fails wire.old)) script.now (pace_of (option_copied journal.entry) manner))
+        (wire.new ≡ wire.old) (W.outside.fails wire.old)) script.now
+        (pace_of (option_copied journal.entry) manner))
         ((F.seen shelf.new ≡ F.seen shelf.old)
         × AsksOnce (W.outside.seen wire.old) (W.outside.seen wire.new))
         (K.seen out.old) (K.seen out.new) result }
     ensures files { KeepsOthers (option_copied journal.entry)
         (F.seen shelf.old) (F.seen shelf.new) }
+    ensures wire { HoldsNoScript ((F.seen shelf.old).file script.now) → wire.new ≡ wire.old }
 {
     match read_script(alloc, script, shelf) {
         Ok(program) => run_program(alloc, &program, journal, manner, shelf, wire, out),
@@ -57,7 +59,8 @@ fn run_program<F: Shelf, W: Wire, K: Sink>(
         (MayRun (told_by result
         (between (F.seen shelf.old) (F.seen shelf.new) (W.outside.seen wire.old)
         (W.outside.seen wire.new))
-        (W.outside.fails wire.old)) program.now (pace_of (option_copied journal.entry) manner))
+        (wire.new ≡ wire.old) (W.outside.fails wire.old)) program.now
+        (pace_of (option_copied journal.entry) manner))
         ((F.seen shelf.new ≡ F.seen shelf.old)
         × AsksOnce (W.outside.seen wire.old) (W.outside.seen wire.new))
         (K.seen out.old) (K.seen out.new) result }

@@ -23,7 +23,7 @@ use Rattle.model_machine.specs.Outcomes.{input_of}
 use Rattle.model_machine.specs.Replies as plain
 use Rattle.model_machine.specs.Replies.{ended, input_by, serves_as, serves_until, waits, woken, woken_within}
 use Rattle.model_machine.specs.State as resume_point
-use Rattle.model_machine.specs.Sound.{AreKeysKept, IsFree, names_made, sends_made}
+use Rattle.model_machine.specs.Sound.{AreKeysKept, Ids, IsFree, ids_of, names_made, sends_made}
 use Rattle.model_machine.specs.State.{Generator, State, stands}
 use Rattle.law_runs.specs.Allowed.{IsSaidAllowed, MayCall}
 use Rattle.law_runs.proofs.Called.{IsWokenFree, ended_sends, keys_called, may_call, may_on, none_free, said_free}
@@ -41,6 +41,7 @@ use Rattle.aio_extra.specs.Called.{IsAskedOf, IsServed, MayAsk, MayServe, SaysAs
 use Rattle.aio_extra.specs.declared.asked.Asked.{Asked}
 use Rattle.aio_extra.specs.declared.asked.Asked.TheVariants.{Answer, Raise, Wait}
 use Rattle.aio_body.specs.Asked.{HasSuspended, IsAskingFor, IsDeciding, IsInStep, Says}
+use Rattle.aio_body.specs.Ids.{ids_in}
 use Rattle.aio_body.specs.Slots.{resume_point_at}
 use Rattle.aio_body.specs.Stands.{IsOwnSleep, Context, Possible}
 use Rattle.aio_body.specs.declared.run_state.RunState.{RunState}
@@ -62,6 +63,7 @@ use Rattle.aio_body.specs.Asking.{Comes, ReplyBegins, or_stop, serving}
 use Rattle.aio_body.proofs.Answering.{alive_come}
 use Rattle.aio_body.specs.Answers.{with_answers}
 use Rattle.aio_body.proofs.Adding.{served_of, sound_called, stands_called, name_map_called}
+use Rattle.aio_body.proofs.Ids.{ids_as}
 use Rattle.aio_body.proofs.Lasting.{Spares}
 use Rattle.aio_body.proofs.Left.{leaves_suspend}
 use Rattle.aio_body.proofs.May.{same_prop}
@@ -144,7 +146,7 @@ some_of None e = absurd (cc)
 some_of (Some x) e = (x, refl)
 
 -- the items of a list that is handed on were made
-arguments_made : (n : ℕ) (it : Value) (items : List Value) → names_made n it ≡ true → as_list it ≡ Some items → list_all (names_made n) items ≡ true
+arguments_made : (n : Ids) (it : Value) (items : List Value) → names_made n it ≡ true → as_list it ≡ Some items → list_all (names_made n) items ≡ true
 arguments_made n (Items held) items made e =
     subst (λ l. list_all (names_made n) l ≡ true) (ap (λ o. option_map_or (λ (l : List Value). l) o items) e)
     (of_all n (list_of held) ((made_closed n).held held made))
@@ -173,7 +175,7 @@ module _ {X : Type 0} {a : Added X} where
             served_of (Some task) (Some task) c body s in_step.stands in_step.called in_step.running (may_call a.meaning (Some task) (Some task) s others);
         named = in_step.stands.futures;
         listed = listed;
-        made = arguments_made (next_task s.loop.parts) arguments items (handed_on a.meaning task s h.going.sound (request.Extra code arguments) h.says)
+        made = arguments_made (ids_of s) arguments items (handed_on a.meaning task s h.going.sound (request.Extra code arguments) h.says)
             listed;
       }
 
@@ -322,7 +324,7 @@ module _ {X : Type 0} {a : Added X} (task on key : ℕ) (c : Context a) (body : 
   pub wakes_so : (outcome : Outcome) (input : Input) → outcome_at (slice_get body.parts.futures on) ≡ Some outcome → input ≡ input_of outcome
       → (v : View) (x : X) (asked : Asked)
       → ((t : NameMap) (now : State a.Kept) → IsServed a body.parts.running t now body.extra body.parts
-      → (a.meaning.keeps now.extra).has_key key ≡ true → sends_made (next_task now.loop.parts) input ≡ true
+      → (a.meaning.keeps now.extra).has_key key ≡ true → sends_made (ids_of now) input ≡ true
       → SaysAs a t now body.parts v x asked (a.meaning.wake key input now))
       → AnswersAgain task asked c (record body { parts = v; extra = x }) (answered a.meaning task (extra.Waits on key) s)
   wakes_so outcome input is heard v x asked wakes = record {
@@ -340,9 +342,9 @@ module _ {X : Type 0} {a : Added X} (task on key : ℕ) (c : Context a) (body : 
         ∙ ap (λ o. serves_until o (woken a.meaning task) task on key s) (sym (sym outcome_is ∙ is));
   }
     where
-      made : sends_made (next_task s.loop.parts) input ≡ true
+      made : sends_made (ids_of s) input ≡ true
       made =
-          ap (sends_made (next_task s.loop.parts)) heard ∙ ended_sends a.meaning (Some task) s h.may on outcome (sym outcome_is ∙ is)
+          ap (sends_made (ids_of s)) heard ∙ ended_sends a.meaning (Some task) s h.may on outcome (sym outcome_is ∙ is)
 
 pub waits_may : {X : Type 0} {a : Added X} (task on key : ℕ) (body : RunState X) → Possible a (HasAnswer task (Wait on key)) body
     → outcome_at (slice_get body.parts.futures on) ≡ None → is_pending_at (slice_get body.parts.futures on) ≡ true
@@ -408,16 +410,16 @@ module _ {X : Type 0} (a : Added X) (task : ℕ) (body : RunState X) (code argum
       answers
 
 module _ {X : Type 0} {a : Added X} (task key : ℕ) (body : RunState X) (input : Input) (v : View) (x : X) (asked : Asked)
-    (made : sends_made (length body.slots.items) input ≡ true)
+    (made : sends_made (ids_in body) input ≡ true)
     (wakes : (t : NameMap) (s : State a.Kept) → IsServed a body.parts.running t s body.extra body.parts
-    → (a.meaning.keeps s.extra).has_key key ≡ true → sends_made (next_task s.loop.parts) input ≡ true
+    → (a.meaning.keeps s.extra).has_key key ≡ true → sends_made (ids_of s) input ≡ true
     → SaysAs a t s body.parts v x asked (a.meaning.wake key input s)) where
   woken_so : (c : Context a) (s : State a.Kept) → IsDeciding task (resume_point.Serving key) c body s
       → IsAnswering task asked (a.meaning.wake key input s).answer c (record body { parts = v; extra = x })
       (called (a.meaning.wake key input s).call s)
   woken_so c s h =
       let may = may_call a.meaning (Some task) (Some task) s h.asked.others in
-      let good : sends_made (next_task s.loop.parts) input ≡ true = subst (λ n. sends_made n input ≡ true) h.in_step.stands.made made in
+      let good : sends_made (ids_of s) input ≡ true = subst (λ n. sends_made n input ≡ true) (ids_as (Some task) c body s h.in_step.stands) made in
       answering_so task c body s h.in_step may h.asked.others.keys v x asked (Some key) (alone_free s.generators key h.asked.alone.0) (a.meaning.wake key input s)
       (a.allowed.wake task key input s may h.asked.alone.1 good)
       (wakes h.in_step.stands.name_map s

@@ -12,11 +12,10 @@ use Rattle.model_machine.specs.Extra as extra
 use Rattle.model_machine.specs.Extra.{ExtraAnswer, called, key_of}
 use Rattle.model_machine.specs.Replies as plain
 use Rattle.model_machine.specs.Replies.{input_by, woken}
-use Rattle.model_machine.specs.Sound.{AreKeysKept}
+use Rattle.model_machine.specs.Sound.{AreKeysKept, ids_of}
 use Rattle.model_machine.specs.State as resume_point
 use Rattle.model_machine.specs.State.{State, noted}
 use Rattle.model_machine.specs.Went.{answered_so, answers_in, fitted_so}
-use Rattle.model_loop.specs.Tasks.{next_task}
 use Rattle.law_replies.specs.InStep.{MayStandAt}
 use Rattle.law_runs.specs.Allowed.{MayCall}
 use Rattle.law_runs.proofs.Called.{answer_sends, may_heard}
@@ -273,10 +272,10 @@ module _ {X W : Type 0} (a : Added X) (o : Outside W) (task : ℕ) (code : ℤ) 
           it = said.answer;
           answering =
               answering_so task c body t h.in_step h.may h.keys new.parts new.extra next (Some key) (alone_free t.generators key h.keyed.0) said
-              (a.allowed.wake task key (input_by answer) t h.may h.keyed.1 (answer_sends (next_task t.loop.parts) answer))
+              (a.allowed.wake task key (input_by answer) t h.may h.keyed.1 (answer_sends (ids_of t) answer))
               (woke.says h.in_step.stands.name_map t
               (served_of (Some task) body.parts.running c body t h.in_step.stands h.in_step.called refl (runs_may c at h)) h.keyed.1
-              (answer_sends (next_task t.loop.parts) answer));
+              (answer_sends (ids_of t) answer));
           same = sym (woken_on a.meaning a.falls task key (input_by answer) t) ∙ sym h.same;
         })
 

@@ -1,8 +1,7 @@
 -- What comes of an answer of what is added, in a state that is stood for.
 use Rattle.std.specs.Prelude.{◌≡◌, ℕ, true, Some}
-use Rattle.model_loop.specs.Tasks.{next_task}
 use Rattle.model_machine.specs.Extra.{Extra, ExtraAnswer, key_of}
-use Rattle.model_machine.specs.Sound.{AreKeysKept, sends_made}
+use Rattle.model_machine.specs.Sound.{AreKeysKept, ids_of, sends_made}
 use Rattle.model_machine.specs.Replies as plain
 use Rattle.model_value.specs.Input.{Input}
 use Rattle.model_machine.specs.Replies.{decides, serves_as, woken}
@@ -52,7 +51,7 @@ pub record AnswersAgain {X : Type 0} {a : Added X} (task : ℕ) (asked : Asked) 
 pub record Woke {X : Type 0} (a : Added X) (key : ℕ) (input : Input) (old new : RunState X) (asked : Asked) : Type 0 where
   pub frame : new ≡ record old { parts = new.parts; extra = new.extra }
   pub says : (t : NameMap) (s : State a.Kept) → called.IsServed a old.parts.running t s old.extra old.parts
-      → (a.meaning.keeps s.extra).has_key key ≡ true → sends_made (next_task s.loop.parts) input ≡ true
+      → (a.meaning.keeps s.extra).has_key key ≡ true → sends_made (ids_of s) input ≡ true
       → called.SaysAs a t s old.parts new.parts new.extra asked (a.meaning.wake key input s)
 
 abbrev pub AnswersAs : {X : Type 0} {a : Added X} → ℕ → Context a → RunState X → Answered → plain.RequestReply a.Kept → Type 0

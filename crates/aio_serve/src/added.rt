@@ -1,5 +1,5 @@
 //! Requests that are added to the loop's own.
-ghost use Rattle.std.specs.Prelude.{◌≡◌, true, IfOk, is_some, length};
+ghost use Rattle.std.specs.Prelude.{◌≡◌, true, IfOk, is_some};
 ghost use Rattle.model_value.specs.declared.request.Request.TheVariants as request;
 ghost use Rattle.model_machine.specs.Extra.{ExtraAnswer};
 ghost use Rattle.model_machine.specs.Replies.{extra_refused as plain_extra_refused, input_by as plain_input_by};
@@ -12,6 +12,7 @@ ghost use Rattle.aio_extra.specs.declared.asked.Asked.{Asked as AnyAsked};
 ghost use Rattle.aio_extra.specs.declared.asked.Asked.TheVariants.{Outside, Wait};
 ghost use Rattle.aio_body.specs.Asked.{IsDeciding, IsAskingFor};
 ghost use Rattle.aio_body.specs.Asking.{Comes, serving};
+ghost use Rattle.aio_body.specs.Ids.{ids_in};
 ghost use Rattle.aio_body.specs.Stands.{Context, Possible};
 ghost use Rattle.aio_serve.specs.Adding.{AnswersAs, HasAnswer, IsAnswering, Woke, answered};
 ghost use Rattle.aio_serve.specs.Adding.{answering, answering_once, waking};
@@ -69,7 +70,7 @@ pub fn wake<W: Wire, X: Extra>(
     input: Input,
 ) -> Result<RequestReply, Stop>
     requires deciding { Possible X.added (IsDeciding task (Serving key)) body.old }
-    requires made { sends_made (length body.old.slots.items) input ≡ true }
+    requires made { sends_made (ids_in body.old) input ≡ true }
     ensures { Comes W.outside (waking X.added task key input body.old body.new)
         (ported wire.old body.old.events) (ported wire.new body.new.events) result }
 {

@@ -6,21 +6,24 @@ use Rattle.model_value.specs.declared.input.Input.TheVariants.{Send}
 use Rattle.model_wire.specs.declared.event.Event.TheVariants as event
 use Rattle.model_loop.specs.Tasks.{lives, next_task}
 use Rattle.model_machine.specs.Replies.{decides}
-use Rattle.model_machine.specs.Sound.{IsAsking, IsLeft, IsOpenedAt, sends_made}
+use Rattle.model_machine.specs.Sound.{Ids, IsAsking, IsLeft, IsOpenedAt, ids_of, sends_made}
 use Rattle.model_machine.specs.State as plain
 use Rattle.model_machine.specs.State.{State, generator_of, noted, unbooked_in}
 use Rattle.law_cancel.proofs.Lookups.{get_within}
 use Rattle.law_replies.specs.InStep.{IsAsked, RepliesInStep}
-use Rattle.law_runs.proofs.Beginning.{begins_in, begun_asked, stepped_lives, heard_made, same_count as count_kept}
+use Rattle.law_runs.proofs.Beginning.{begins_in, begun_asked, stepped_lives, heard_made, begun_more}
+use Rattle.law_replies.proofs.Ids.{input_up}
 use Rattle.law_steps.proofs.Waiting.{task_there}
 use Rattle.aio_extra.specs.Added.{Added}
 use Rattle.aio_body.specs.declared.run_state.RunState.{RunState}
 use Rattle.aio_body.specs.declared.resume_point.Slot.{Slot}
 use Rattle.aio_body.specs.Stands.{Context, HasSlot}
 use Rattle.aio_step.specs.Stepping.{IsCalled, HearsMade, begun_by, begun_in}
+use Rattle.aio_body.specs.Ids.{ids_in}
+use Rattle.aio_body.proofs.Ids.{ids_as}
 use Rattle.aio_body.proofs.Sound.{extra_sound}
 
-pub made_as : (n m : ℕ) (input : Input) → n ≡ m → sends_made m input ≡ true → sends_made n input ≡ true
+pub made_as : (n m : Ids) (input : Input) → n ≡ m → sends_made m input ≡ true → sends_made n input ≡ true
 made_as n m input same made = ap (λ k. sends_made k input) same ∙ made
 
 module _ {X : Type 0} {a : Added X} (task : ℕ) (c : Context a) (body : RunState X) (s : State a.Kept) (h : IsCalled task c body s) where
@@ -67,21 +70,22 @@ module _ {X : Type 0} {a : Added X} (task : ℕ) (c : Context a) (body : RunStat
       subst (λ (x : State a.Kept). IsOpenedAt (begun_in task input x).streams (generator_of task x).resume_point) (sym h.after)
       (h.sound.resume_point task lived refl).opened
 
-  same_count : length body.slots.items ≡ next_task h.before.loop.parts
-  same_count = h.stands.made ∙ ap (λ (x : State a.Kept). next_task x.loop.parts) h.after
+  same_ids : ids_in body ≡ ids_of h.before
+  same_ids = ids_as None c body s h.stands ∙ ap (λ (x : State a.Kept). ids_of x) h.after
 
   -- what it is taken for names what was made
   pub called_heard : (input : Input) → HearsMade input body
-      → sends_made (next_task (begun_in task input s).loop.parts) (begun_by task input s).input ≡ true
+      → sends_made (ids_of (begun_in task input s)) (begun_by task input s).input ≡ true
   called_heard input made =
-      subst (λ (x : State a.Kept). sends_made (next_task (begun_in task input x).loop.parts) (begun_by task input x).input ≡ true) (sym h.after)
-      (made_as _ _ (begun_by task input (noted (event.Ran h.handle.action) (unbooked_in (λ p. record p { pending = h.rest }) h.before))).input
-      (count_kept a.meaning h.before task input h.handle h.rest h.pending h.live h.steps h.sound (extra_sound a) given_)
+      subst (λ (x : State a.Kept). sends_made (ids_of (begun_in task input x)) (begun_by task input x).input ≡ true) (sym h.after)
+      (input_up (ids_of h.before) (ids_of (begun_in task input (noted (event.Ran h.handle.action) (unbooked_in (λ p. record p { pending = h.rest }) h.before))))
+      (begun_more a.meaning h.before task input h.handle h.rest h.pending h.live h.steps h.sound)
+      (begun_by task input (noted (event.Ran h.handle.action) (unbooked_in (λ p. record p { pending = h.rest }) h.before))).input
       (heard_made a.meaning h.before task input h.handle h.rest h.pending h.live h.steps h.sound (extra_sound a) given_
       (generator_of task h.before).resume_point))
     where
-      given_ : sends_made (next_task h.before.loop.parts) input ≡ true
-      given_ = ap (λ n. sends_made n input) (sym same_count) ∙ made
+      given_ : sends_made (ids_of h.before) input ≡ true
+      given_ = ap (λ n. sends_made n input) (sym same_ids) ∙ made
 
   -- what the input means is sound
   pub called_sound : (input : Input) → HearsMade input body
@@ -91,4 +95,4 @@ module _ {X : Type 0} {a : Added X} (task : ℕ) (c : Context a) (body : RunStat
       RepliesInStep a.meaning true task (decides a.meaning (generator_of task x).resume_point task (begun_by task input x).input (begun_in task input x)))
       (sym h.after)
       (begins_in a.meaning h.before task input h.handle h.rest h.pending h.live h.steps h.sound (extra_sound a)
-      (ap (λ n. sends_made n input) (sym same_count) ∙ made))
+      (ap (λ n. sends_made n input) (sym same_ids) ∙ made))

@@ -23,6 +23,8 @@ use Rattle.aio_body.specs.declared.resume_point.ResumePoint.TheVariants.{Asked, 
 use Rattle.aio_body.specs.Asked.{IsDeciding}
 use Rattle.aio_body.specs.GivingUp.{IsNoTasks}
 use Rattle.aio_body.specs.Stands.{Context, StandsAt, WaitsAs, holding, Possible}
+use Rattle.aio_body.specs.Ids.{ids_in}
+use Rattle.aio_body.proofs.Ids.{ids_as}
 use Rattle.aio_body.proofs.May.{same_prop}
 use Rattle.aio_step.specs.declared.steps.Started.{Started}
 use Rattle.aio_step.specs.Stepping.{DecidesAs, HasBegun, HearsMade, IsCalled, begun_by, begun_in, IsDecidingAs}
@@ -122,8 +124,10 @@ module _ {X : Type 0} {a : Added X} where
   decide_hears task input old new started may made begun =
       ∥∥₁_elim may (hlevel props) (λ w.
       let b = begun w.0 w.1.0 w.1.1 in
-      ap (sends_made (length new.slots.items)) b.heard
-      ∙ made_as _ _ (begun_by task input w.1.0).input b.deciding.in_step.stands.made (called_heard task w.0 old w.1.0 w.1.1 input made))
+      ap (sends_made (ids_in new)) b.heard
+      ∙ made_as _ _ (begun_by task input w.1.0).input
+      (ids_as (Some task) (holding started.coroutine w.0) new (begun_in task input w.1.0) b.deciding.in_step.stands)
+      (called_heard task w.0 old w.1.0 w.1.1 input made))
 
   -- where the machine's task stood at this alone
   pub stood_of : (task : ℕ) (code : ResumePoint) (stood : plain.ResumePoint) → ((other : plain.ResumePoint) → DecidesAs code other → stood ≡ other)

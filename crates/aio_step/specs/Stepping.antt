@@ -1,5 +1,5 @@
 -- A step of a task, piece by piece.
-use Rattle.std.specs.Prelude.{◌≡◌, ℕ, true, false, Bool, List, ◌∷◌, ◌++◌, Some, None, length}
+use Rattle.std.specs.Prelude.{◌≡◌, ℕ, true, false, Bool, List, ◌∷◌, ◌++◌, Some, None}
 use Rattle.model_value.specs.Input.{Input}
 use Rattle.model_wire.specs.declared.event.End.TheVariants as end
 use Rattle.model_wire.specs.declared.event.Event.TheVariants as event
@@ -26,6 +26,7 @@ use Rattle.aio_step.specs.declared.steps.Stepped.TheVariants as went
 use Rattle.aio_body.specs.declared.reply.RequestReply.{RequestReply}
 use Rattle.aio_body.specs.Asked.{IsInStep, IsDeciding, Says}
 use Rattle.aio_body.specs.Asking.{Piece, ReplyBegins, WentBegins}
+use Rattle.aio_body.specs.Ids.{ids_in}
 use Rattle.aio_body.specs.Stands.{Context, Stands, IsBetween, holding}
 use Rattle.law_replies.specs.InStep.{IsStepSound}
 
@@ -52,9 +53,9 @@ pub record IsCalled {X : Type 0} {a : Added X} (task : ℕ) (c : Context a) (bod
   pub called : body.parts.called ≡ Some task
   pub running : body.parts.running ≡ None
 
--- the tasks that an input names were made
+-- what an input names was made
 abbrev pub HearsMade : {X : Type 0} → Input → RunState X → Type 0
-HearsMade input body = sends_made (length body.slots.items) input ≡ true
+HearsMade input body = sends_made (ids_in body) input ≡ true
 
 -- the machine's step, as it has begun
 abbrev pub begun_by : {S : Type 0} → ℕ → Input → State S → Begun

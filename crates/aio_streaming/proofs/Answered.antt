@@ -2,7 +2,6 @@
 use Rattle.std.proofs.Common.{◌≡◌, ℕ, length, Result, Ok, Err, inl, inr, refl, sym, ap, subst, ◌∙◌}
 use Rattle.model_value.specs.Request.{Request}
 use Rattle.model_loop.specs.Futures.{next_future}
-use Rattle.model_loop.specs.Owning.{is_plain}
 use Rattle.model_stream.specs.Doing.{Doing}
 use Rattle.model_stream.specs.Streams.{Streams}
 use Rattle.model_machine.specs.Replies as plain
@@ -14,6 +13,7 @@ use Rattle.aio_wire.specs.Port.{ported}
 use Rattle.aio_wire.specs.declared.stop.Stop.{Stop}
 use Rattle.aio_exchange.specs.Follows.{reach}
 use Rattle.law_reach.specs.Reaches.{left_by}
+use Rattle.law_cases.specs.TreeEnd.{owned_in as plain_in}
 use Rattle.law_cases.specs.Trees.{AnswersStreams, Keeping}
 use Rattle.aio_transports.specs.Standing.{Answers as AnswersTree}
 use Rattle.aio_extra.specs.Added.{Added}
@@ -35,7 +35,7 @@ module _ {X W R : Type 0} {a : Added X} (task : ℕ) (request : Request) (old : 
     → reply a.meaning task request s ≡ streams_do (tree (next_future s.loop.parts) s.streams) next s)
     (forgets : ForgetsWritten (tree (length old.parts.futures))) (Waits : (ℕ → Type 0) → R → Type 0)
     (keeping : (s : State a.Kept) → AreStreamsFutures s
-    → Keeping (AnswersStreams Waits (is_plain s.loop.parts) (next_future s.loop.parts) s.streams) (is_plain s.loop.parts) (next_future s.loop.parts)
+    → Keeping (AnswersStreams Waits (plain_in s) (next_future s.loop.parts) s.streams) (plain_in s) (next_future s.loop.parts)
     (tree (next_future s.loop.parts) s.streams))
     (frame : new ≡ record old { parts = new.parts; events = new.events; transports = new.transports }) where
   abbrev ComesTo : Result RequestReply Stop → Type 0

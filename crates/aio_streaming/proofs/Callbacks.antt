@@ -1,12 +1,11 @@
 -- A callback of a listener, a connection or a child, but `made`: the machine does what code does of it.
-use Rattle.std.proofs.Common.{◌≡◌, ℕ, Bool, true, None, Result, Ok, Err, length, ◌∙◌, refl, sym, ap}
+use Rattle.std.proofs.Common.{◌≡◌, ℕ, Bool, true, None, Result, Ok, Err, length, ◌∙◌, le_refl, refl, sym, ap}
 use Rattle.std.proofs.Math.Logic.{∥∥₁_elim}
 use Rattle.std.proofs.lemmas.Bool.{false≢true}
 use Rattle.model_value.specs.declared.action.Action.TheVariants as action
 use Rattle.model_value.specs.Action.{Action}
 use Rattle.model_says.specs.Says.{step_limit}
 use Rattle.model_loop.specs.Futures.{future_outcome, next_future}
-use Rattle.model_loop.specs.Owning.{is_plain}
 use Rattle.model_loop.specs.Tasks.{future_of}
 use Rattle.model_stream.specs.Doing.{Doing}
 use Rattle.model_stream.specs.Streams as streams
@@ -22,6 +21,7 @@ use Rattle.aio_wire.specs.declared.stop.Stop.{Stop}
 use Rattle.aio_exchange.specs.Follows.{reach}
 use Rattle.refine_parts.proofs.Telling.{future_of_kept, outcome_kept}
 use Rattle.law_runs.proofs.Counts.{goes_on_same}
+use Rattle.law_cases.specs.TreeEnd.{owned_in as plain_in}
 use Rattle.law_cases.proofs.Opening.{acts}
 use Rattle.aio_task.specs.View.{parts, stepped}
 use Rattle.aio_transports.specs.Owned.{OwnsTransports}
@@ -134,7 +134,7 @@ module _ {X : Type 0} {a : Added X} (it : Action) (old : RunState X) where
         (act_forgets (length old.parts.futures) returned it) why call
     acts_so (Ok said) call frame =
         let come = change_goes o piece None old new wire after may (taken_streams possible) tree Goes means said call
-        (λ s kept. acts (is_plain s.loop.parts) (next_future s.loop.parts) returned it s.streams kept) frame in
+        (λ s kept. acts (plain_in s) (next_future s.loop.parts) returned it s.streams kept (le_refl _)) frame in
         gone_ends o piece None old new wire after (λ first now. Unit {0}) Goes come new said refl
         (λ c s began g.
         callback_so it (before come.0 c) c old new s began (steps_none it of) (λ first now. Unit {0}) (piece.does s) Goes g)

@@ -29,6 +29,7 @@ use Rattle.aio_exchange.specs.Follows.{EndsBy, Follows, reach}
 use Rattle.aio_exchange.specs.Ways.{Move, Did, Heard, Leads}
 use Rattle.refine_parts.proofs.Telling.{next_kept}
 use Rattle.law_steps.proofs.CancelSound.{plain_within}
+use Rattle.law_cases.specs.TreeEnd.{owned_in as plain_in}
 use Rattle.law_cases.specs.Trees.{AnswersStreams, IsMade, Keeping}
 use Rattle.law_cases.proofs.Fits.{asked_kept, kept_nowhere}
 use Rattle.law_cases.proofs.Opening.{connects}
@@ -114,10 +115,10 @@ module _ {X W : Type 0} {a : Added X} (task number : ℕ) (request : Request) (o
       (reach new.parts after new.events) result
 
   keeping : (s : State a.Kept) → AreStreamsFutures s
-      → Keeping (AnswersStreams BegunWaits (is_plain s.loop.parts) (next_future s.loop.parts) s.streams) (is_plain s.loop.parts) (next_future s.loop.parts)
+      → Keeping (AnswersStreams BegunWaits (plain_in s) (next_future s.loop.parts) s.streams) (plain_in s) (next_future s.loop.parts)
       (connect number (next_future s.loop.parts) s.streams)
   keeping s kept =
-      let own = is_plain s.loop.parts in
+      let own = plain_in s in
       let next = next_future s.loop.parts in
       begun_waits own next next s.streams (connect number next s.streams) (connects own next number s.streams kept)
 

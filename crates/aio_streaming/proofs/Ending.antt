@@ -3,7 +3,6 @@ use Rattle.std.proofs.Common.{◌≡◌, ℕ, length, Result, Ok, Err, ◌∙◌
 use Rattle.model_value.specs.Request.{Request}
 use Rattle.model_value.specs.Value.{Nothing}
 use Rattle.model_loop.specs.Futures.{next_future}
-use Rattle.model_loop.specs.Owning.{is_plain}
 use Rattle.model_stream.specs.Doing.{Doing}
 use Rattle.model_stream.specs.Streams.{Streams}
 use Rattle.model_machine.specs.Replies as plain
@@ -14,6 +13,7 @@ use Rattle.aio_wire.specs.Outside.{Outside}
 use Rattle.aio_wire.specs.Port.{ported}
 use Rattle.aio_wire.specs.declared.stop.Stop.{Stop}
 use Rattle.aio_exchange.specs.Follows.{reach}
+use Rattle.law_cases.specs.TreeEnd.{owned_in as plain_in}
 use Rattle.law_cases.specs.Trees.{Keeping, KeepsStreams}
 use Rattle.aio_transports.specs.Standing.{Comes as Changes}
 use Rattle.aio_extra.specs.Added.{Added}
@@ -46,7 +46,7 @@ module _ {X W R : Type 0} {a : Added X} (task : ℕ) (request : Request) (old : 
     → reply a.meaning task request s ≡ streams_change (tree (next_future s.loop.parts) s.streams) (plain.Answers Nothing) s)
     (forgets : ForgetsWritten (tree (length old.parts.futures)))
     (keeping : (s : State a.Kept) → AreStreamsFutures s
-    → Keeping (KeepsStreams (is_plain s.loop.parts) (next_future s.loop.parts) s.streams) (is_plain s.loop.parts) (next_future s.loop.parts)
+    → Keeping (KeepsStreams (plain_in s) (next_future s.loop.parts) s.streams) (plain_in s) (next_future s.loop.parts)
     (tree (next_future s.loop.parts) s.streams))
     (frame : new ≡ record old { parts = new.parts; events = new.events; transports = new.transports }) where
   pub done_so : (result : Result R Stop)

@@ -10,7 +10,6 @@ use Rattle.model_wire.specs.declared.event.Handed.TheVariants as to
 use Rattle.model_says.specs.Says.{step_limit}
 use Rattle.model_loop.specs.Futures.{next_future, register}
 use Rattle.model_loop.specs.Loop.{in_parts}
-use Rattle.model_loop.specs.Owning.{is_plain}
 use Rattle.model_loop.specs.Parts.{Future, Parts}
 use Rattle.model_loop.specs.Tasks.{future_of, next_task, spawn}
 use Rattle.model_stream.specs.Doing.{Doing}
@@ -25,6 +24,7 @@ use Rattle.model_machine.specs.Went.{Went, Goes, Stops}
 use Rattle.law_replies.proofs.Counts.{own_there}
 use Rattle.refine_parts.proofs.Calls.{kept_register, kept_spawn}
 use Rattle.refine_parts.proofs.Telling.{future_of_kept}
+use Rattle.law_cases.specs.TreeEnd.{owned_in as plain_in}
 use Rattle.law_cases.proofs.Asking.{closes}
 use Rattle.aio_ready.specs.Queue as queue
 use Rattle.aio_future.specs.Settled.{registered, soon_at, soon_if_done, soon_until}
@@ -127,7 +127,7 @@ module _ {X : Type 0} (a : Added X) (conn : ℕ) (old : RunState X) where
           let g = change_tells piece None old new may (taken_streams made old possible) events
           (frame ∙ ap (λ es. record old { parts = new.parts; events = es; transports = new.transports }) (sym events))
           tree Goes means told
-          (λ s kept. closes (is_plain s.loop.parts) (next_future s.loop.parts) (to.Conn conn) s.streams kept) c s h in
+          (λ s kept. closes (plain_in s) (next_future s.loop.parts) (to.Conn conn) s.streams kept) c s h in
           subst (CallbackGoesOn c new) (sym g.does) (callback_so made c c old new s h refl (λ first now. Unit {0}) (does_ s) Goes g)
 
     -- ---- its task is made

@@ -9,7 +9,6 @@ use Rattle.model_value.specs.declared.request.Request.TheVariants as request
 use Rattle.model_value.specs.Request.{Request}
 use Rattle.model_value.specs.Value.{Bytes, Exc, Value}
 use Rattle.model_loop.specs.Futures.{is_pending_at, next_future}
-use Rattle.model_loop.specs.Owning.{is_plain}
 use Rattle.model_stream.specs.declared.answers.StreamGot.TheVariants as got
 use Rattle.model_stream.specs.Reading.{ReadOp}
 use Rattle.model_stream.specs.Receivers.{AllGot, StreamGot}
@@ -23,6 +22,7 @@ use Rattle.model_machine.specs.Replies.{reads, reads_all, reads_all_as, reads_as
 use Rattle.model_machine.specs.State as state
 use Rattle.model_machine.specs.State.{State}
 use Rattle.law_replies.proofs.Counts.{lives_within}
+use Rattle.law_cases.specs.TreeEnd.{owned_in as plain_in}
 use Rattle.law_cases.specs.Trees.{AllWaits, IsMade, ReadWaits}
 use Rattle.law_cases.proofs.Asking.{reads as reads_keep, reads_all as reads_all_keep}
 use Rattle.aio_task.specs.View.{View}
@@ -136,7 +136,7 @@ module _ {X : Type 0} {a : Added X} (task : ℕ) where
             tells_answers task old looked (λ c s. RunsOn task c old s) machine may in_step on_streams refl refl
             (λ n. read n op (reader_as from))
             (reads_as task op (reader_as from)) (λ c s h. refl) ReadWaits it told
-            (λ s kept. reads_keep (is_plain s.loop.parts) (next_future s.loop.parts) op (reader_as from) s.streams kept)
+            (λ s kept. reads_keep (plain_in s) (next_future s.loop.parts) op (reader_as from) s.streams kept)
             (Bytes bytes)
             (λ t. ap (λ w. reads_as task op (reader_as from) w t) is)
 
@@ -145,7 +145,7 @@ module _ {X : Type 0} {a : Added X} (task : ℕ) where
             tells_raises task old looked (λ c s. RunsOn task c old s) machine may in_step on_streams refl refl
             (λ n. read n op (reader_as from))
             (reads_as task op (reader_as from)) (λ c s h. refl) ReadWaits it told
-            (λ s kept. reads_keep (is_plain s.loop.parts) (next_future s.loop.parts) op (reader_as from) s.streams kept) fault
+            (λ s kept. reads_keep (plain_in s) (next_future s.loop.parts) op (reader_as from) s.streams kept) fault
             (λ t. ap (λ w. reads_as task op (reader_as from) w t) is)
 
         module _ (on : ℕ) (is : it ≡ got.Waits on) where
@@ -154,7 +154,7 @@ module _ {X : Type 0} {a : Added X} (task : ℕ) where
               tells_running task old looked (λ c s. RunsOn task c old s) machine may in_step on_streams refl refl
               (λ n. read n op (reader_as from))
               (reads_as task op (reader_as from)) (λ c s h. refl) ReadWaits it told
-              (λ s kept. reads_keep (is_plain s.loop.parts) (next_future s.loop.parts) op (reader_as from) s.streams kept)
+              (λ s kept. reads_keep (plain_in s) (next_future s.loop.parts) op (reader_as from) s.streams kept)
               possible
 
           pub read_pending : is_pending_at (slice_get v.futures on) ≡ true
@@ -162,7 +162,7 @@ module _ {X : Type 0} {a : Added X} (task : ℕ) where
               tells_pending task old looked (λ c s. RunsOn task c old s) machine may in_step on_streams refl refl
               (λ n. read n op (reader_as from))
               (reads_as task op (reader_as from)) (λ c s h. refl) ReadWaits it told
-              (λ s kept. reads_keep (is_plain s.loop.parts) (next_future s.loop.parts) op (reader_as from) s.streams kept)
+              (λ s kept. reads_keep (plain_in s) (next_future s.loop.parts) op (reader_as from) s.streams kept)
               possible on
               (λ first now made. subst (ReadWaits (IsMade first now)) is made)
 
@@ -173,7 +173,7 @@ module _ {X : Type 0} {a : Added X} (task : ℕ) where
               tells_stands task old looked (λ c s. RunsOn task c old s) machine may in_step on_streams refl refl
               (λ n. read n op (reader_as from))
               (reads_as task op (reader_as from)) (λ c s h. refl) ReadWaits it told
-              (λ s kept. reads_keep (is_plain s.loop.parts) (next_future s.loop.parts) op (reader_as from) s.streams kept) last on
+              (λ s kept. reads_keep (plain_in s) (next_future s.loop.parts) op (reader_as from) s.streams kept) last on
               w
               (code.Reading from op on) (state.Reading (reader_as from) op on) whole items on_within
               (λ t p named. (refl, refl, refl))
@@ -195,7 +195,7 @@ module _ {X : Type 0} {a : Added X} (task : ℕ) where
             tells_answers task old looked (λ c s. RunsOn task c old s) joins may in_step on_streams refl refl
             (λ n. read_all n (reader_as from)) next
             (λ c s h. refl) AllWaits it told
-            (λ s kept. reads_all_keep (is_plain s.loop.parts) (next_future s.loop.parts) (reader_as from) s.streams kept)
+            (λ s kept. reads_all_keep (plain_in s) (next_future s.loop.parts) (reader_as from) s.streams kept)
             (Bytes (taken ++ it.taken))
             (λ t. ap (λ w. reads_all_as task (reader_as from) (taken ++ it.taken) w t) is)
 
@@ -204,7 +204,7 @@ module _ {X : Type 0} {a : Added X} (task : ℕ) where
             tells_raises task old looked (λ c s. RunsOn task c old s) joins may in_step on_streams refl refl
             (λ n. read_all n (reader_as from)) next
             (λ c s h. refl) AllWaits it told
-            (λ s kept. reads_all_keep (is_plain s.loop.parts) (next_future s.loop.parts) (reader_as from) s.streams kept) fault
+            (λ s kept. reads_all_keep (plain_in s) (next_future s.loop.parts) (reader_as from) s.streams kept) fault
             (λ t. ap (λ w. reads_all_as task (reader_as from) (taken ++ it.taken) w t) is)
 
         module _ (on : ℕ) (is : it.got ≡ got.Waits on) where
@@ -213,7 +213,7 @@ module _ {X : Type 0} {a : Added X} (task : ℕ) where
               tells_running task old looked (λ c s. RunsOn task c old s) joins may in_step on_streams refl refl
               (λ n. read_all n (reader_as from)) next
               (λ c s h. refl) AllWaits it told
-              (λ s kept. reads_all_keep (is_plain s.loop.parts) (next_future s.loop.parts) (reader_as from) s.streams kept)
+              (λ s kept. reads_all_keep (plain_in s) (next_future s.loop.parts) (reader_as from) s.streams kept)
               possible
 
           pub all_pending : is_pending_at (slice_get v.futures on) ≡ true
@@ -221,7 +221,7 @@ module _ {X : Type 0} {a : Added X} (task : ℕ) where
               tells_pending task old looked (λ c s. RunsOn task c old s) joins may in_step on_streams refl refl
               (λ n. read_all n (reader_as from)) next
               (λ c s h. refl) AllWaits it told
-              (λ s kept. reads_all_keep (is_plain s.loop.parts) (next_future s.loop.parts) (reader_as from) s.streams kept)
+              (λ s kept. reads_all_keep (plain_in s) (next_future s.loop.parts) (reader_as from) s.streams kept)
               possible on
               (λ first now made. subst (ReadWaits (IsMade first now)) is made)
 
@@ -233,7 +233,7 @@ module _ {X : Type 0} {a : Added X} (task : ℕ) where
               tells_stands task old looked (λ c s. RunsOn task c old s) joins may in_step on_streams refl refl
               (λ n. read_all n (reader_as from)) next
               (λ c s h. refl) AllWaits it told
-              (λ s kept. reads_all_keep (is_plain s.loop.parts) (next_future s.loop.parts) (reader_as from) s.streams kept) last
+              (λ s kept. reads_all_keep (plain_in s) (next_future s.loop.parts) (reader_as from) s.streams kept) last
               on w
               (code.ReadingAll from (taken ++ it.taken) on) (state.ReadingAll (reader_as from) (taken ++ it.taken) on) whole items
               on_within

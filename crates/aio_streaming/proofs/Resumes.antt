@@ -6,7 +6,6 @@ use Rattle.model_value.specs.declared.input.Input.TheVariants.{Send, Throw}
 use Rattle.model_value.specs.Input.{Input}
 use Rattle.model_value.specs.Value.{Exc, Value}
 use Rattle.model_loop.specs.Futures.{next_future}
-use Rattle.model_loop.specs.Owning.{is_plain}
 use Rattle.model_stream.specs.Requests.{StreamReader, drop_connect, give_up_read}
 use Rattle.model_machine.specs.Replies as plain
 use Rattle.model_machine.specs.Replies.{decides, hears, waits_no_more}
@@ -17,6 +16,7 @@ use Rattle.aio_wire.specs.Port.{ported}
 use Rattle.aio_wire.specs.declared.stop.Stop.{Stop}
 use Rattle.aio_exchange.proofs.Among.{told_none}
 use Rattle.aio_exchange.specs.Follows.{reach}
+use Rattle.law_cases.specs.TreeEnd.{owned_in as plain_in}
 use Rattle.law_cases.proofs.Asking.{drops}
 use Rattle.aio_transports.specs.Kept.{Kept as Transports}
 use Rattle.aio_transports.specs.Owned.{OwnsTransports}
@@ -160,7 +160,7 @@ module _ {X : Type 0} (a : Added X) (task : ℕ) (stood : state.ResumePoint) (ol
           (changed_goes o task old new new wire after (λ c s. IsDeciding task stood c old s)
           (decides a.meaning stood task (Throw fault)) may in_step
           (λ n. drop_connect conn) (plain.Raises fault) (λ c s h. means s) (deciding_streams possible) it call
-          (λ s kept. drops (is_plain s.loop.parts) (next_future s.loop.parts) conn s.streams kept) frame)
+          (λ s kept. drops (plain_in s) (next_future s.loop.parts) conn s.streams kept) frame)
           refl fault (λ t. refl)
       connect_raises {R} (Err why) call =
           changed_fails o task old new new wire after (λ c s. IsDeciding task stood c old s)

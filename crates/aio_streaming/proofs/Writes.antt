@@ -12,7 +12,6 @@ use Rattle.model_value.specs.declared.action.Action.TheVariants.{Step}
 use Rattle.model_value.specs.declared.kind.Kind.TheVariants.{ValueError}
 use Rattle.model_wire.specs.declared.event.Handed.{Handed}
 use Rattle.model_loop.specs.Futures.{is_pending_at, next_future}
-use Rattle.model_loop.specs.Owning.{is_plain}
 use Rattle.model_loop.specs.Tasks.{pause}
 use Rattle.model_stream.specs.declared.answers.Drain.TheVariants as drain_as
 use Rattle.model_stream.specs.declared.put.Limited.{Limited}
@@ -27,6 +26,7 @@ use Rattle.model_machine.specs.Sound.{AreStreamsFutures}
 use Rattle.model_machine.specs.State as state
 use Rattle.model_machine.specs.State.{State, unbooked_in}
 use Rattle.law_replies.proofs.Counts.{lives_within}
+use Rattle.law_cases.specs.TreeEnd.{owned_in as plain_in}
 use Rattle.law_cases.specs.Trees.{AnswersStreams, DrainWaits, IsMade, Keeping, KeepsStreams, WaitsNever}
 use Rattle.law_cases.proofs.Asking.{drains}
 use Rattle.aio_base.specs.declared.memory.Memory.{Memory}
@@ -68,7 +68,7 @@ module _ {X W R : Type 0} {a : Added X} (task : ℕ) (request : Request) (old : 
     → reply a.meaning task request s ≡ streams_change (tree (next_future s.loop.parts) s.streams) (plain.Answers Nothing) s)
     (forgets : ForgetsWritten (tree (length old.parts.futures)))
     (keeping : (s : State a.Kept) → AreStreamsFutures s
-    → Keeping (KeepsStreams (is_plain s.loop.parts) (next_future s.loop.parts) s.streams) (is_plain s.loop.parts)
+    → Keeping (KeepsStreams (plain_in s) (next_future s.loop.parts) s.streams) (plain_in s)
     (next_future s.loop.parts) (tree (next_future s.loop.parts) s.streams))
     (frame : new ≡ record old { parts = new.parts; events = new.events; transports = new.transports })
     (events : new.events ≡ old.events) where
@@ -91,7 +91,7 @@ module _ {X : Type 0} {a : Added X} (task : ℕ) (request : Request) (old : RunS
     → reply a.meaning task request s ≡ streams_do (tree (next_future s.loop.parts) s.streams) limits_as s)
     (it : Limited) (told : ToldWith (tree (length old.parts.futures)) old.transports new.transports old.parts new.parts it)
     (keeping : (s : State a.Kept) → AreStreamsFutures s
-    → Keeping (AnswersStreams WaitsNever (is_plain s.loop.parts) (next_future s.loop.parts) s.streams) (is_plain s.loop.parts)
+    → Keeping (AnswersStreams WaitsNever (plain_in s) (next_future s.loop.parts) s.streams) (plain_in s)
     (next_future s.loop.parts) (tree (next_future s.loop.parts) s.streams)) where
   at : (l : Limited) → it ≡ l → Serves a task request old new (Ok (limited_as l))
   at limited.Set e =
@@ -159,9 +159,9 @@ module _ {X : Type 0} {a : Added X} (task : ℕ) (old : RunState X) where
         means c s h = refl
 
         keeping : (s : State a.Kept) → AreStreamsFutures s
-            → Keeping (AnswersStreams DrainWaits (is_plain s.loop.parts) (next_future s.loop.parts) s.streams)
-            (is_plain s.loop.parts) (next_future s.loop.parts) (tree (next_future s.loop.parts) s.streams)
-        keeping s kept = drains (is_plain s.loop.parts) (next_future s.loop.parts) yielded whom s.streams kept
+            → Keeping (AnswersStreams DrainWaits (plain_in s) (next_future s.loop.parts) s.streams)
+            (plain_in s) (next_future s.loop.parts) (tree (next_future s.loop.parts) s.streams)
+        keeping s kept = drains (plain_in s) (next_future s.loop.parts) yielded whom s.streams kept
 
         pub drain_goes : it ≡ drain_as.Goes → RepliesOn a task makes old new (Ok (said.Answers Nothing))
         drain_goes is =

@@ -16,8 +16,7 @@ use Rattle.model_says.specs.Operations.{out_of_range}
 use Rattle.model_machine.specs.Arguments.{as_list}
 use Rattle.model_machine.specs.Extra as extra
 use Rattle.model_machine.specs.Extra.{Answers, ExtraAnswer, ExtraCall, ExtraSaid, ExtraStep, MakesPlain, Raises, Settles, called}
-use Rattle.model_machine.specs.Sound.{IsOwned, sends_made}
-use Rattle.model_loop.specs.Tasks.{next_task}
+use Rattle.model_machine.specs.Sound.{IsOwned, ids_of, sends_made}
 use Rattle.model_machine.specs.State.{State}
 use Rattle.model_reach.specs.Part.{can_draw, only_says, passes, place_of, refuses, stays}
 use Rattle.model_sync.specs.Synced.{Acquires, Awaits, Gets, Puts, Synced, Waiting, next_key, sync_keeps, sync_part, waiting_at}
@@ -154,7 +153,7 @@ module _ (running : Option ℕ) (t : NameMap) (s : State Synced) (x : Sync) (v :
   module _ (woken_ : Option ℕ) (y : Sync) (w : View) (call : ExtraCall Synced) (seen : CallsSeen (kept_of y) v w call)
       (may : IsCallAllowed sync_means woken_ call s) (older : AreOlder p.next_tag call.steps) where
     goes : Goes t p v w (called call s).loop.parts
-    goes = steps_go t v w (owns_at (sync_keeps s.extra) p) s.loop call.steps h.keeps h.rules may.steps older (seen.steps t.known)
+    goes = steps_go t v w (owns_at (ids_of s) (sync_keeps s.extra) p) s.loop call.steps h.keeps h.rules may.steps older (seen.steps t.known)
 
     stays_there : (id : ℕ) → IsAmong (sync_keeps s.extra).own id ⊎ (next_future p ≤ id) → t.gone id ≡ false
     stays_there id (inl old) = h.stands.1 id old
@@ -292,7 +291,7 @@ stays_by t s x v h key = stays_so None t s x v h (sync_allowed.act key s h.may)
 
 pub wakes_at : (running : Option ℕ) → is_some running ≡ true → (t : NameMap) (s : State Synced) (x : Sync) (v : View)
     → IsServed sync_added running t s x v → (key : ℕ) (input : Input) → (sync_keeps s.extra).has_key key ≡ true
-    → sends_made (next_task s.loop.parts) input ≡ true → (place : ℕ) → place ≡ place_of sync_part key → (y : Sync) (w : View) (asked : Asked)
+    → sends_made (ids_of s) input ≡ true → (place : ℕ) → place ≡ place_of sync_part key → (y : Sync) (w : View) (asked : Asked)
     → SaysSeen (kept_of y) v w asked (woken (waiting_at place (kept_of x)) key place input (parts v) (kept_of x))
     → SaysAs sync_added t s v w y asked (sync_means.wake key input s)
 wakes_at None e t s x v h key input known made place at y w asked seen = absurd (cc)

@@ -1,5 +1,5 @@
 -- A callback of the loop's own that steps no task leaves the futures that the loop of itself doesn't hold, but for cancels.
-use Rattle.std.proofs.Common.{◌≡◌, ℕ, ◌<◌, Bool, true, false, List, [], ◌∷◌, Option, Some, None, nat_lt, refl, sym, subst, inl}
+use Rattle.std.proofs.Common.{◌≡◌, ℕ, ◌<◌, Bool, true, false, List, [], ◌∷◌, Option, Some, None, nat_lt, le_refl, refl, sym, subst, inl}
 use Rattle.std.specs.List.{AllByRecursion as Each}
 use Rattle.std.proofs.lemmas.Bool.{false≢true}
 use Rattle.model_value.specs.Action.{Action}
@@ -46,7 +46,8 @@ module _ (ours : ℕ → Bool) (made : ℕ) (below : (future : ℕ) → ours fut
     acts_on : (returned : Bool) (it : Action) (s : State S) → GoesOn s (streams_go (act (next_future s.loop.parts) returned it s.streams) s)
     acts_on returned it s =
         go_on (act (next_future s.loop.parts) returned it s.streams) s
-        (λ a. opening.acts (own ours made below s) (next_future s.loop.parts) returned it s.streams (kept_own ours made below s a))
+        (λ a. opening.acts (own ours made below s) (next_future s.loop.parts) returned it s.streams (kept_own ours made below s a)
+        (le_refl _))
 
     handled_on : (b : Bool) (coroutine conn : ℕ) (s : State S) → GoesOn s (handled_if b coroutine conn s)
     handled_on true coroutine conn s =

@@ -52,7 +52,7 @@ cancel_stays id p = at (slice_get p.futures id) refl
     at (Some future) e = until future e future.outcome refl
 
 -- two things, one after the other
-stays_then : (p q r : Parts) (on : ℕ) → StaysOrIsCancelled p q on → StaysOrIsCancelled q r on → StaysOrIsCancelled p r on
+pub stays_then : (p q r : Parts) (on : ℕ) → StaysOrIsCancelled p q on → StaysOrIsCancelled q r on → StaysOrIsCancelled p r on
 stays_then p q r on (inl a) (inl b) = inl (b ∙ a)
 stays_then p q r on (inl a) (inr b) = inr (sym a ∙ b.0, b.1)
 stays_then p q r on (inr a) (inl b) = inr (a.0, b ∙ a.1)
@@ -187,7 +187,7 @@ module _ (ours : ℕ → Bool) (made : ℕ) (below : (future : ℕ) → ours fut
       let same = length-set p.futures id new in
       apart_later p (slice_set p.futures id new) (omega (arith, same)) (each_set CallsNoSleep p.futures id new a.callbacks fine) a
 
-  settle_apart : (id : ℕ) (outcome : Outcome) (p : Parts) → Apart p → Apart (settle id outcome p)
+  pub settle_apart : (id : ℕ) (outcome : Outcome) (p : Parts) → Apart p → Apart (settle id outcome p)
   settle_apart id outcome p a = at (slice_get p.futures id) refl
     where
       until : (future : Future) → slice_get p.futures id ≡ Some future → (o : Option Outcome) → Apart (settled_as o id future outcome p)

@@ -1,7 +1,7 @@
 -- A request that isn't for what is added, and what a task makes of its input where it stands at none of its requests, leave the futures
 -- that the loop of itself doesn't hold, but for cancels.
 use Rattle.std.proofs.Common.{◌≡◌, inl, inr, ℕ, suc, ◌+◌, ◌<◌, ◌≤◌, ◌&&◌, not, arith, length-append, ap, subst, ◌∙◌, le_refl, ℤ, pos, negsuc, Bool, true}
-use Rattle.std.proofs.Common.{false, List, [], ◌∷◌, ◌++◌, Option, Some, None, nat_lt, refl, sym}
+use Rattle.std.proofs.Common.{false, List, [], ◌∷◌, ◌++◌, Option, Some, None, length, nat_lt, refl, sym}
 use Rattle.std.specs.List.{AllByRecursion as Each}
 use Rattle.std.proofs.lemmas.Bool.{and_from, and_parts, false≢true, lt-ltb, ltb-true}
 use Rattle.model_value.specs.Action.{Action}
@@ -65,7 +65,7 @@ use Rattle.law_changes.specs.Changes.{PartsChange, CallsLater, CallsSoon, MakesF
 use Rattle.law_reach.specs.Reaches.{left_by}
 use Rattle.model_machine.specs.Arguments.{as_future}
 use Rattle.model_stream.specs.Kept.{StreamsKeep}
-use Rattle.law_cases.specs.Trees.{IsKnown, IsOwn}
+use Rattle.law_cases.specs.Trees.{IsKnown, IsOwn, Owned}
 use Rattle.law_cases.proofs.Composing.{streams_more}
 use Rattle.law_sync.proofs.Lists.{each_append, each_at, each_on}
 use Rattle.law_apart.specs.Apart.{IsApart, IsLoopApart, IsTheirs, Leaves, ends_sleep, is_extra_request, serves_none}
@@ -142,10 +142,14 @@ module _ (ours : ℕ → Bool) (made : ℕ) (below : (future : ℕ) → ours fut
     coroutine_beside coroutine arguments s = beside_as s (with_coroutine coroutine arguments s) refl refl refl
 
     -- ---- streams
-    abbrev pub own : State S → ℕ → Bool
-    own s future = not (ours future) && nat_lt future (next_future s.loop.parts)
+    abbrev pub own : State S → Owned
+    own s =
+        record {
+          has = λ future. not (ours future) && nat_lt future (next_future s.loop.parts);
+          connections = length s.streams.connections;
+        }
 
-    own_theirs : (s : State S) (future : ℕ) → own s future ≡ true → IsTheirs ours (next_future s.loop.parts) future
+    own_theirs : (s : State S) (future : ℕ) → IsOwn (own s) future → IsTheirs ours (next_future s.loop.parts) future
     own_theirs s future is =
         let parts = and_parts (not (ours future)) (nat_lt future (next_future s.loop.parts)) is in
         (not_true (ours future) parts.0, ltb-true future (next_future s.loop.parts) parts.1)

@@ -15,13 +15,13 @@ use Rattle.law_calls.specs.Told.{Acts, Asks, HasCalled, HasHappened, HasNews, He
 use Rattle.law_calls.specs.Told.{asks_last, told_after}
 use Rattle.law_calls.proofs.Events.{last_on, told_on, untold_on}
 
-asks_none : (task : ℕ) (answer : ExtraAnswer) → asks_outside answer ≡ false → (question_by task answer ≡ None) × (called_by answer ≡ [])
+pub asks_none : (task : ℕ) (answer : ExtraAnswer) → asks_outside answer ≡ false → (question_by task answer ≡ None) × (called_by answer ≡ [])
 asks_none task (extra.Answers value) is = (refl, refl)
 asks_none task (extra.Raises fault) is = (refl, refl)
 asks_none task (extra.Waits on key) is = (refl, refl)
 asks_none task (extra.Asks code bytes key) is = absurd (true≢false is)
 
-pub history_tells : {S : Type 0} (limit : ℕ) (added : Extra S) (first : Told S)
+abbrev pub history_tells : {S : Type 0} (limit : ℕ) (added : Extra S) (first : Told S)
     → Tells limit added (HasHappened limit added first) (HasCalled limit added first)
 history_tells limit added first = record {
   beside = λ kept events more untold h. record {

@@ -1,5 +1,5 @@
-mod Events
-mod Rows
+pub mod Events
+pub mod Rows
 pub mod Serving
 pub mod Turning
 pub mod History

@@ -1,6 +1,6 @@
 -- What goes on holds after a step, a callback and a turn, after each callback of a turn, and of every state of a run.
 use Rattle.std.proofs.Common.{◌≡◌, inl, inr, ℕ, zero, suc, ◌+◌, Bool, true, false, cond, not, ◌&&◌, List, [], ◌∷◌, Option, Some, None}
-use Rattle.std.proofs.Common.{nat_lt, refl, ap}
+use Rattle.std.proofs.Common.{length, nat_lt, le_refl, refl, ap}
 use Rattle.std.proofs.lemmas.Bool.{eq-eqb}
 use Rattle.std.proofs.lemmas.List.{append_assoc}
 use Rattle.model_value.specs.Action.{Action}
@@ -33,11 +33,11 @@ use Rattle.model_machine.specs.Step.{given_up, says_of, serve, serve_all, served
 use Rattle.model_machine.specs.Turn.{call_of, cancelled_if, effect, finished_if, goes_with, handled_if, has_returned, is_stalled, made_by, next_below, ran}
 use Rattle.model_machine.specs.Turn.{run_below, run_first, run_if, run_pending, streams_go, turn, turn_over, turn_unless, turned_by, woken_by}
 use Rattle.model_machine.specs.Went.{Went, Goes, Stops, went_on}
-use Rattle.law_cases.specs.Trees.{Keeping, KeepsStreams, is_aside}
+use Rattle.law_cases.specs.Trees.{Keeping, KeepsStreams, Owned, is_aside}
 use Rattle.law_cases.proofs.Asking.{closes}
 use Rattle.law_cases.proofs.Opening.{acts}
 use Rattle.law_reach.specs.Reaches.{IsUnmet}
-use Rattle.law_reach.proofs.Opened.{any, any_kept}
+use Rattle.law_reach.proofs.Opened.{any_kept, any_of}
 use Rattle.law_walk.proofs.Trees.{asked_comes}
 use Rattle.law_calls.specs.Tells.{AfterTurn, AreAllIn, In, IsRunIn, LeavesBy, LeavesTo, Tells}
 use Rattle.law_calls.specs.Told.{HasBegun, is_of_extra}
@@ -95,7 +95,7 @@ module _ {S : Type 0} {limit : ℕ} {added : Extra S} {Holds : S → List Event 
         ),
       ) holds
 
-  does_in : {A : Type 0} (Left : ℕ → A → Type 0) (own : ℕ → Bool) (number : ℕ) (tree : Doing A) (next : A → State S → Went S) (s : State S)
+  does_in : {A : Type 0} (Left : ℕ → A → Type 0) (own : Owned) (number : ℕ) (tree : Doing A) (next : A → State S → Went S) (s : State S)
       → Keeping Left own number tree → In Holds s → ((it : A) (t : State S) → In Holds t → LeavesTo Holds (next it t))
       → LeavesTo Holds (does Stops tree next s)
   does_in Left own number (Ends result) next s keeps holds each = each result s holds
@@ -110,17 +110,19 @@ module _ {S : Type 0} {limit : ℕ} {added : Extra S} {Holds : S → List Event 
       (λ came left fit. does_in Left own number (rest came) next (heard it came left s) (keeps.1 came) (heard_in it came left s keeps.0 holds) each)
 
   go_in : (tree : Doing Streams) (s : State S)
-      → Keeping (KeepsStreams any (next_future s.loop.parts) s.streams) any (next_future s.loop.parts) tree → In Holds s
+      → Keeping (KeepsStreams (any_of (length s.streams.connections)) (next_future s.loop.parts) s.streams)
+      (any_of (length s.streams.connections)) (next_future s.loop.parts) tree → In Holds s
       → LeavesTo Holds (streams_go tree s)
   go_in tree s keeps holds =
-      does_in (KeepsStreams any (next_future s.loop.parts) s.streams) any (next_future s.loop.parts) tree goes_with s keeps holds
+      does_in (KeepsStreams (any_of (length s.streams.connections)) (next_future s.loop.parts) s.streams)
+      (any_of (length s.streams.connections)) (next_future s.loop.parts) tree goes_with s keeps holds
       (λ streams t it. it)
 
   acts_in : (it : Action) (returned : Bool) (s : State S) → In Holds s
       → LeavesTo Holds (streams_go (act (next_future s.loop.parts) returned it s.streams) s)
   acts_in it returned s holds =
       go_in (act (next_future s.loop.parts) returned it s.streams) s
-      (acts any (next_future s.loop.parts) returned it s.streams (any_kept s.streams)) holds
+      (acts (any_of (length s.streams.connections)) (next_future s.loop.parts) returned it s.streams (any_kept s.streams) (le_refl _)) holds
 
   made_in : (handler : Option ℕ) (conn : ℕ) (s : State S) → In Holds s → LeavesTo Holds (made_by handler conn s)
   made_in None conn s holds = holds
@@ -128,7 +130,8 @@ module _ {S : Type 0} {limit : ℕ} {added : Extra S} {Holds : S → List Event 
     where
       at : (b : Bool) → LeavesTo Holds (handled_if b coroutine conn s)
       at true = holds
-      at false = go_in (close (to.Conn conn) s.streams) s (closes any (next_future s.loop.parts) (to.Conn conn) s.streams (any_kept s.streams)) holds
+      at false = go_in (close (to.Conn conn) s.streams) s
+          (closes (any_of (length s.streams.connections)) (next_future s.loop.parts) (to.Conn conn) s.streams (any_kept s.streams)) holds
 
   -- ---- a handle runs, which the events say
   ran_in : (it : Action) (s : State S) → is_of_extra it ≡ false → In Holds s → In Holds (noted (event.Ran it) s)

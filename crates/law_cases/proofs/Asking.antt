@@ -24,7 +24,7 @@ use Rattle.model_stream.specs.Requests.{write_eof, close, drop_connect, read, re
 use Rattle.model_stream.specs.Senders.{Sender}
 use Rattle.model_stream.specs.Streams.{Streams, its_children, its_connections}
 use Rattle.model_stream.specs.Kept.{ChildKeeps, StreamsKeep, child_times}
-use Rattle.law_cases.specs.Trees.{AllWaits, AnswersStreams, DrainWaits, ExitWaits, IsKnown, IsMade, IsOwn, Keeping, KeepsStreams, ReadWaits, WaitsNever}
+use Rattle.law_cases.specs.Trees.{AllWaits, AnswersStreams, DrainWaits, ExitWaits, IsKnown, IsMade, IsOwn, Keeping, KeepsStreams, Owned, ReadWaits, WaitsNever}
 use Rattle.law_cases.proofs.Composing.{keeping_more, keeping_then, streams_more}
 use Rattle.law_cases.proofs.Fits.{ChildFits, ConnectionFits, Limits, ReceiverFits, both_grown, child_still, connection_still, grown, now_connection}
 use Rattle.law_cases.proofs.Fits.{now_receiver, receiver_now}
@@ -34,7 +34,7 @@ use Rattle.law_cases.proofs.Standing.{asked_pipe, asked_receiver, child_closes, 
 use Rattle.law_cases.proofs.Standing.{conn_closes, conn_drains, conn_drops, conn_ends, conn_limits, conn_writes}
 
 -- ---- as its task is resumed, a read is given up
-pub gives_up : (own : ℕ → Bool) (first on : ℕ) (from : StreamReader) (s : Streams) → StreamsKeep (IsOwn own) s
+pub gives_up : (own : Owned) (first on : ℕ) (from : StreamReader) (s : Streams) → StreamsKeep (IsOwn own) s
     → KeepsStreams own first s first (give_up_read on from s)
 gives_up own first on (OfConn id) s kept = at (slice_get s.connections id) refl
   where
@@ -73,7 +73,7 @@ gives_up own first on (OfChild pipe id) s kept = at (slice_get s.children id) re
         (child_still own (λ future. child_times future p) first first after (one pipe p (kept.children id p e)))
 
 -- where none is made
-pub gives_up_own : (own : ℕ → Bool) (on : ℕ) (from : StreamReader) (s : Streams) → StreamsKeep (IsOwn own) s
+pub gives_up_own : (own : Owned) (on : ℕ) (from : StreamReader) (s : Streams) → StreamsKeep (IsOwn own) s
     → StreamsKeep (IsOwn own) (give_up_read on from s)
 gives_up_own own on from s kept = streams_more (IsKnown own 0 0) (IsOwn own) of (give_up_read on from s) (gives_up own 0 on from s kept).kept
   where
@@ -81,7 +81,7 @@ gives_up_own own on from s kept = streams_more (IsKnown own 0 0) (IsOwn own) of 
     of future (inl h) = h
     of future (inr h) = absurd (let below = h.1 in omega (arith, below))
 
-module _ (own : ℕ → Bool) (first : ℕ) where
+module _ (own : Owned) (first : ℕ) where
   -- ---- one of a kind changes, with an answer
   module _ {R : Type 0} (Waits : (ℕ → Type 0) → R → Type 0) (other : R) (none : (P : ℕ → Type 0) → Waits P other) where
     asked_connection : (id : ℕ) (change : Connection → Doing (Connection × R)) (s : Streams) → StreamsKeep (IsOwn own) s
@@ -153,8 +153,17 @@ module _ (own : ℕ → Bool) (first : ℕ) where
   noted_keeps : (whom : Handed) (piece : List ℕ) (s : Streams) (next : ℕ) (done : Streams × Wrote)
       → AnswersStreams {R = Wrote} WaitsNever own first (noted whom piece s) next done → AnswersStreams {R = Wrote} WaitsNever own first s next done
   noted_keeps whom [] s next done h = h
-  noted_keeps whom (byte ∷ bytes) s next done h =
-      (record { kept = h.0.kept; times = h.0.times; asked = h.0.asked; connections = h.0.connections; children = h.0.children }, tt)
+  noted_keeps whom (byte ∷ bytes) s next done h = (
+    record {
+      kept = h.0.kept;
+      times = h.0.times;
+      asked = h.0.asked;
+      servers = h.0.servers;
+      connections = h.0.connections;
+      children = h.0.children;
+    },
+    tt,
+  )
 
   unnoted_keeps : (whom : Handed) (piece : List ℕ) (s : Streams) → StreamsKeep (IsOwn own) s
       → Keeping (AnswersStreams {R = Wrote} WaitsNever own first s) own first (write_unnoted whom piece s)

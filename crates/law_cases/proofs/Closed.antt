@@ -24,7 +24,7 @@ use Rattle.model_value.specs.declared.input.Input.TheVariants.{Send, Throw}
 use Rattle.model_value.specs.Input.{Input}
 use Rattle.model_machine.specs.Replies.{RequestReply, Answers, Raises, Halts, decides, given, numbered_if, replied, reply, drains, drains_as, reads}
 use Rattle.model_machine.specs.Replies.{reads_as, reads_all, reads_all_as, streams_change, waits_no_more}
-use Rattle.model_machine.specs.Sound.{IsClosed, sends_made}
+use Rattle.model_machine.specs.Sound.{Ids, IsClosed, sends_made}
 use Rattle.model_machine.specs.State.{ResumePoint, Asked, Sleeping, Leaving, Serving, Connecting, Yielding, Reading, ReadingAll, State, with_streams}
 use Rattle.model_machine.specs.Extra.{Extra}
 use Rattle.model_machine.specs.Turn.{effect, has_returned, made_by, streams_go}
@@ -206,20 +206,20 @@ module _ {S : Type 0} (s : State S) (closed : IsClosed s) where
   gives_up_none on (OfConn id) = ap (λ streams. with_streams (give_up_read on (OfConn id) streams) s) closed ∙ unchanged
   gives_up_none on (OfChild pipe id) = ap (λ streams. with_streams (give_up_read on (OfChild pipe id) streams) s) closed ∙ unchanged
 
-  -- What is heard at such a request, where nothing is open: the input, or an answer that names no task.
+  -- What is heard at such a request, where nothing is open: the input, or an answer that names nothing.
   pub decides_none : (added : Extra S) (task : ℕ) (resume_point : ResumePoint) (heard : Input) → stands_at_streams resume_point ≡ true
       → (said : Input) × (decides added resume_point task heard s ≡ replied said s)
-      × ((made : ℕ) → sends_made made heard ≡ true → sends_made made said ≡ true)
-  decides_none added task (Connecting conn) (Send value) is = (Send value, refl, λ made h. h)
-  decides_none added task (Connecting conn) (Throw fault) is = (Throw fault, drops_none conn fault, λ made h. h)
-  decides_none added task (Yielding whom) (Send value) is = (Send Nothing, drains_none true task whom, λ made h. refl)
-  decides_none added task (Yielding whom) (Throw fault) is = (Throw fault, refl, λ made h. h)
+      × ((ids : Ids) → sends_made ids heard ≡ true → sends_made ids said ≡ true)
+  decides_none added task (Connecting conn) (Send value) is = (Send value, refl, λ ids h. h)
+  decides_none added task (Connecting conn) (Throw fault) is = (Throw fault, drops_none conn fault, λ ids h. h)
+  decides_none added task (Yielding whom) (Send value) is = (Send Nothing, drains_none true task whom, λ ids h. refl)
+  decides_none added task (Yielding whom) (Throw fault) is = (Throw fault, refl, λ ids h. h)
   decides_none added task (Reading from op on) (Send value) is =
-      (Send (Bytes []), ap (reads task op from) (gives_up_none on from) ∙ reads_none task op from, λ made h. refl)
-  decides_none added task (Reading from op on) (Throw fault) is = (Throw fault, ap (Raises fault) (gives_up_none on from), λ made h. h)
+      (Send (Bytes []), ap (reads task op from) (gives_up_none on from) ∙ reads_none task op from, λ ids h. refl)
+  decides_none added task (Reading from op on) (Throw fault) is = (Throw fault, ap (Raises fault) (gives_up_none on from), λ ids h. h)
   decides_none added task (ReadingAll from taken on) (Send value) is =
-      (Send (Bytes (taken ++ [])), ap (reads_all task from taken) (gives_up_none on from) ∙ reads_all_none task from taken, λ made h. refl)
-  decides_none added task (ReadingAll from taken on) (Throw fault) is = (Throw fault, ap (Raises fault) (gives_up_none on from), λ made h. h)
+      (Send (Bytes (taken ++ [])), ap (reads_all task from taken) (gives_up_none on from) ∙ reads_all_none task from taken, λ ids h. refl)
+  decides_none added task (ReadingAll from taken on) (Throw fault) is = (Throw fault, ap (Raises fault) (gives_up_none on from), λ ids h. h)
   decides_none added task Asked heard is = absurd (false≢true is)
   decides_none added task (Sleeping tag) heard is = absurd (false≢true is)
   decides_none added task (Leaving group) heard is = absurd (false≢true is)

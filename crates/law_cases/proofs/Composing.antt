@@ -11,7 +11,7 @@ use Rattle.model_stream.specs.Receivers.{Receiver}
 use Rattle.model_stream.specs.Senders.{Sender}
 use Rattle.model_stream.specs.Streams.{Streams}
 use Rattle.model_stream.specs.Kept.{AllAre, OneIs, SenderKeeps, ReceiverKeeps, ConnectionKeeps, ChildKeeps, StreamsKeep}
-use Rattle.law_cases.specs.Trees.{IsKnown, IsMade, IsOwn, Keeping, is_aside, names_nobody}
+use Rattle.law_cases.specs.Trees.{IsKnown, IsMade, IsOwn, Keeping, Owned, is_aside, names_opened}
 
 -- ---- where more is so
 module _ (P Q : ℕ → Type 0) (more : (future : ℕ) → P future → Q future) where
@@ -65,14 +65,14 @@ all_then P [] future h it = (it, tt)
 all_then P (other ∷ futures) future h it = (h.0, all_then P futures future h.1 it)
 
 -- what was kept before is known
-pub known : (own : ℕ → Bool) (first next future : ℕ) → IsOwn own future → IsKnown own first next future
+pub known : (own : Owned) (first next future : ℕ) → IsOwn own future → IsKnown own first next future
 known own first next future h = inl h
 
 pub made_first : (first : ℕ) → IsMade first (first + 1) first
 made_first first = (omega arith, omega arith)
 
 -- what is known stays so
-pub known_on : (own : ℕ → Bool) (first next later future : ℕ) → next ≤ later → IsKnown own first next future → IsKnown own first later future
+pub known_on : (own : Owned) (first next later future : ℕ) → next ≤ later → IsKnown own first next future → IsKnown own first later future
 known_on own first next later future on (inl h) = inl h
 known_on own first next later future on (inr h) = inr (h.0, (let below = h.1 in omega (arith, on, below)))
 
@@ -99,7 +99,7 @@ either_is P x y here there (inl same) = subst P same here
 either_is P x y here there (inr other) = there other
 
 -- ---- trees
-module _ (own : ℕ → Bool) where
+module _ (own : Owned) where
   pub keeping_then : {A B : Type 0} (Left : ℕ → B → Type 0) (next : ℕ) (doing : Doing A) (then_ : A → Doing B)
       → Keeping (λ after result. Keeping Left own after (then_ result)) own next doing → Keeping Left own next (and_then doing then_)
   keeping_then Left next (Ends result) then_ h = h
@@ -122,7 +122,8 @@ module _ (own : ℕ → Bool) where
   keeping_if Left next false x y here there = there
 
   pub keeping_settles : {A : Type 0} (Left : ℕ → A → Type 0) (next : ℕ) (futures : List ℕ) (outcome : Outcome) (rest : Doing A)
-      → AllAre (IsOwn own) futures → names_nobody outcome ≡ true → Keeping Left own next rest → Keeping Left own next (settles futures outcome rest)
+      → AllAre (IsOwn own) futures → names_opened own.connections outcome ≡ true → Keeping Left own next rest
+      → Keeping Left own next (settles futures outcome rest)
   keeping_settles Left next [] outcome rest all none h = h
   keeping_settles Left next (future ∷ futures) outcome rest all none h =
       ((all.0, none), keeping_settles Left next futures outcome rest all.1 none h)

@@ -26,8 +26,8 @@ use Rattle.law_steps.proofs.CancelSound.{plain_within}
 use Rattle.law_steps.proofs.Settling.{IsSettled, settle_cases}
 use Rattle.law_changes.specs.Changes.{CallsSoon, MakesFuture, Settles}
 use Rattle.law_changes.specs.Reaches.{stays, goes}
-use Rattle.law_cases.specs.Trees.{Keeping, is_of_streams, names_nobody}
-use Rattle.law_cases.specs.TreeEnd.{IsTreeEnd}
+use Rattle.law_cases.specs.Trees.{Keeping, is_of_streams, names_opened}
+use Rattle.law_cases.specs.TreeEnd.{IsTreeEnd, owned_in}
 
 -- what is asked tells no group
 told_called : (events : List Event) (call : Call) (group : ℕ) → told_in (events ++ event.Called call ∷ []) group ≡ told_in events group
@@ -134,7 +134,8 @@ module _ {S : Type 0} (s : State S) where
     made = it.made;
   }
 
-  tree_settles : (id : ℕ) (outcome : Outcome) (u : State S) → is_plain s.loop.parts id ≡ true → names_nobody outcome ≡ true → IsTreeEnd s u
+  tree_settles : (id : ℕ) (outcome : Outcome) (u : State S) → is_plain s.loop.parts id ≡ true
+      → names_opened (length s.streams.connections) outcome ≡ true → IsTreeEnd s u
       → IsTreeEnd s (unbooked_in (settle id outcome) u)
   tree_settles id outcome u own none it =
       let leaves = settle_leaves id outcome u.loop.parts in
@@ -210,7 +211,7 @@ module _ {S R A : Type 0} (halts : End → State S → R) (P : R → Type 0) (s 
       by (Refused line cause ∷ entries) = halted _ _ (tree_asks s call u it)
       by (Answered answer ∷ entries) = fit (fits call answer) answer entries
 
-  along : (tree : Doing A) (number : ℕ) (u : State S) → number ≡ next_future u.loop.parts → Keeping Left (is_plain s.loop.parts) number tree
+  along : (tree : Doing A) (number : ℕ) (u : State S) → number ≡ next_future u.loop.parts → Keeping Left (owned_in s) number tree
       → IsTreeEnd s u → P (does halts tree next u)
   along (Ends result) number u same keeps it = each result u it (subst (λ n. Left n result) same keeps)
   along (Changes MakeFuture rest) number u same keeps it =
@@ -224,5 +225,5 @@ module _ {S R A : Type 0} (halts : End → State S → R) (P : R → Type 0) (s 
       asked call (λ answer. does halts (rest answer) next) u it
       (λ answer left. along (rest answer) number (heard call answer left u) same (keeps.1 answer) (tree_hears s call answer left u it))
 
-  pub tree_ends : (tree : Doing A) → Keeping Left (is_plain s.loop.parts) (next_future s.loop.parts) tree → P (does halts tree next s)
+  pub tree_ends : (tree : Doing A) → Keeping Left (owned_in s) (next_future s.loop.parts) tree → P (does halts tree next s)
   tree_ends tree keeps = along tree (next_future s.loop.parts) s refl keeps (tree_same s)

@@ -12,7 +12,7 @@ use Rattle.model_stream.specs.Senders.{Sender}
 use Rattle.model_stream.specs.Streams.{Streams}
 use Rattle.model_stream.specs.Kept.{AllAre, OneIs, SenderKeeps, ReceiverKeeps, ConnectionKeeps, ChildKeeps, StreamsKeep, child_times, connection_times}
 use Rattle.model_stream.specs.Kept.{connection_asked, one_time, receiver_times, sender_times, times_asked, times_kept}
-use Rattle.law_cases.specs.Trees.{IsKnown, IsOwn, made_in}
+use Rattle.law_cases.specs.Trees.{IsKnown, IsOwn, Owned, made_in}
 use Rattle.law_cases.proofs.Composing.{all_more, known, one_more, receiver_more, sender_more}
 
 abbrev pub SenderFits : (ℕ → Type 0) → (ℕ → ℕ) → Sender → Type 0
@@ -59,7 +59,7 @@ pub receiver_now : (P : ℕ → Type 0) (r : Receiver) → ReceiverKeeps P r →
 receiver_now P r kept = (kept, λ future. le_refl _)
 
 -- ---- what was kept is so where more is known, and more may be kept
-module _ (own : ℕ → Bool) (limit : ℕ → ℕ) (first next : ℕ) where
+module _ (own : Owned) (limit : ℕ → ℕ) (first next : ℕ) where
   abbrev Known : ℕ → Type 0
   Known = IsKnown own first next
 
@@ -82,7 +82,7 @@ module _ (own : ℕ → Bool) (limit : ℕ → ℕ) (first next : ℕ) where
     λ future. let a = kept.4 future in omega (arith, a),
   )
 
-pub connection_still : (own : ℕ → Bool) (limit : Limits) (first next : ℕ) (c : Connection) → ConnectionFits (IsOwn own) limit c
+pub connection_still : (own : Owned) (limit : Limits) (first next : ℕ) (c : Connection) → ConnectionFits (IsOwn own) limit c
     → ConnectionFits (IsKnown own first next) (both_grown limit first next) c
 connection_still own limit first next c kept = (
   one_more (IsOwn own) (IsKnown own first next) (known own first next) c.making kept.0,

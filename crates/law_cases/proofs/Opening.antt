@@ -1,5 +1,5 @@
 -- What opens something, and callbacks.
-use Rattle.std.proofs.Common.{◌≡◌, inr, ℕ, zero, suc, ◌+◌, ◌≤◌, Bool, true, cond, List, [], ◌∷◌, Option, Some, None, length}
+use Rattle.std.proofs.Common.{◌≡◌, inr, ℕ, zero, suc, ◌+◌, ◌≤◌, ◌<◌, Bool, true, cond, List, [], ◌∷◌, ◌++◌, Option, Some, None, length}
 use Rattle.std.proofs.Common.{slice_get, slice_set, refl, ap, sym, ◌∙◌, le_refl, length-append, length-set, arith}
 use Rattle.std.specs.List.{sum_by}
 use Rattle.std.proofs.lemmas.List.Sums.{sum_by_push}
@@ -15,8 +15,9 @@ use Rattle.model_stream.specs.Streams.{Streams, act, add_connection, add_child, 
 use Rattle.model_stream.specs.Streams.{its_connections, its_children, on_one, may_connect, listen, connect, launch}
 use Rattle.model_stream.specs.Streams.{close_server, closed_server}
 use Rattle.model_stream.specs.Kept.{ConnectionKeeps, ChildKeeps, StreamsKeep, child_times, connection_asked, connection_times, one_time}
-use Rattle.law_cases.specs.Trees.{AnswersStreams, ConnectsStreams, IsKnown, IsOwn, Keeping, KeepsStreams, WaitsNever}
-use Rattle.law_cases.proofs.Composing.{either_is, keeping_if, keeping_then, known, known_on, push_get, set_get, streams_more}
+use Rattle.law_cancel.proofs.Lookups.{get_within}
+use Rattle.law_cases.specs.Trees.{AnswersStreams, ConnectsStreams, IsKnown, IsOwn, Keeping, KeepsStreams, OpensStreams, Owned, WaitsNever}
+use Rattle.law_cases.proofs.Composing.{either_is, keeping_if, keeping_more, keeping_then, known, known_on, push_get, set_get, streams_more}
 use Rattle.law_cases.proofs.Fits.{ChildFits, ConnectionFits, Limits, both_grown, child_still, connection_still, grown, made_next, now_connection, sum_set}
 use Rattle.law_cases.proofs.Standing.{conn_readable, conn_started, conn_up, conn_down, conn_handled, conn_loses, conn_writable}
 use Rattle.law_cases.proofs.Standing.{child_loses, child_told, child_feeds}
@@ -54,7 +55,7 @@ connection_now P c kept = (kept.0, kept.1, kept.2, λ future. (le_refl _, le_ref
 pub child_now : (P : ℕ → Type 0) (p : Child) → ChildKeeps P p → ChildFits P (λ future. child_times future p) p
 child_now P p kept = (kept.0, kept.1, kept.2, kept.3, λ future. le_refl _)
 
-module _ (own : ℕ → Bool) (first : ℕ) where
+module _ (own : Owned) (first : ℕ) where
   abbrev pub Known : ℕ → ℕ → Type 0
   Known next = IsKnown own first next
 
@@ -65,9 +66,9 @@ module _ (own : ℕ → Bool) (first : ℕ) where
   later next more s on kept = streams_more (Known next) (Known more) (λ future h. known_on own first next more future on h) s kept
 
   -- the same connections and children
-  pub same_keeps : (next : ℕ) (s after : Streams) → StreamsKeep (IsOwn own) s → after.connections ≡ s.connections → after.children ≡ s.children
-      → KeepsStreams own first s next after
-  same_keeps next s after kept connections children =
+  pub same_keeps : (next : ℕ) (s after : Streams) → StreamsKeep (IsOwn own) s → length s.servers ≤ length after.servers
+      → after.connections ≡ s.connections → after.children ≡ s.children → KeepsStreams own first s next after
+  same_keeps next s after kept servers connections children =
       let still = known_still next s kept in
       record {
         kept = record {
@@ -82,12 +83,13 @@ module _ (own : ℕ → Bool) (first : ℕ) where
             let a = ap (sum_by (connection_asked future)) connections in
             let b = ap (sum_by (child_times future)) children in
             omega (arith, a, b);
+        servers = servers;
         connections = let a = ap length connections in omega (arith, a);
         children = let a = ap length children in omega (arith, a);
       }
 
   pub still : (next : ℕ) (s : Streams) → StreamsKeep (IsOwn own) s → KeepsStreams own first s next s
-  still next s kept = same_keeps next s s kept refl refl
+  still next s kept = same_keeps next s s kept (le_refl _) refl refl
 
   -- ---- one of a kind changes
   pub connection_set : (next id : ℕ) (s : Streams) (c after : Connection) → StreamsKeep (IsOwn own) s → slice_get s.connections id ≡ Some c
@@ -103,6 +105,7 @@ module _ (own : ℕ → Bool) (first : ℕ) where
         let a = sum_set (connection_asked future) s.connections id c after e in
         let b = (h.3 future).1 in
         omega (arith, a, b);
+    servers = le_refl _;
     connections = let a = length-set s.connections id after in omega (arith, a);
     children = le_refl _;
   }
@@ -120,15 +123,16 @@ module _ (own : ℕ → Bool) (first : ℕ) where
         let a = sum_set (child_times future) s.children id p after e in
         let b = h.4 future in
         omega (arith, a, b);
+    servers = le_refl _;
     connections = le_refl _;
     children = let a = length-set s.children id after in omega (arith, a);
   }
 
-  pub one_connection : (id : ℕ) (change : Connection → Doing Connection) (s : Streams) → StreamsKeep (IsOwn own) s
-      → ((limit : Limits) (Left : ℕ → Connection → Type 0) (c : Connection) → ConnectionFits (IsOwn own) limit c
+  one_there : (id : ℕ) (change : Connection → Doing Connection) (s : Streams) → StreamsKeep (IsOwn own) s
+      → (id < length s.connections → (limit : Limits) (Left : ℕ → Connection → Type 0) (c : Connection) → ConnectionFits (IsOwn own) limit c
       → ((after : Connection) → ConnectionFits (IsOwn own) limit after → Left first after) → Keeping Left own first (change c))
       → Keeping (KeepsStreams own first s) own first (on_one its_connections id change s)
-  one_connection id change s kept here = at (slice_get s.connections id) refl
+  one_there id change s kept here = at (slice_get s.connections id) refl
     where
       at : (found : Option Connection) → slice_get s.connections id ≡ found
           → Keeping (KeepsStreams own first s) own first (elim found [
@@ -138,10 +142,16 @@ module _ (own : ℕ → Bool) (first : ℕ) where
       at None e = still first s kept
       at (Some c) e =
           keeping_then own (KeepsStreams own first s) first (change c) (λ after. Ends (record s { connections = slice_set s.connections id after }))
-          (here (now_connection c)
+          (here (get_within s.connections id c e) (now_connection c)
           (λ next after. KeepsStreams own first s next (record s { connections = slice_set s.connections id after })) c
           (connection_now (IsOwn own) c (kept.connections id c e))
           (λ after h. connection_set first id s c after kept e (connection_still own (now_connection c) first first after h)))
+
+  pub one_connection : (id : ℕ) (change : Connection → Doing Connection) (s : Streams) → StreamsKeep (IsOwn own) s
+      → ((limit : Limits) (Left : ℕ → Connection → Type 0) (c : Connection) → ConnectionFits (IsOwn own) limit c
+      → ((after : Connection) → ConnectionFits (IsOwn own) limit after → Left first after) → Keeping Left own first (change c))
+      → Keeping (KeepsStreams own first s) own first (on_one its_connections id change s)
+  one_connection id change s kept here = one_there id change s kept (λ there. here)
 
   pub one_child : (id : ℕ) (change : Child → Doing Child) (s : Streams) → StreamsKeep (IsOwn own) s
       → ((limit : ℕ → ℕ) (Left : ℕ → Child → Type 0) (p : Child) → ChildFits (IsOwn own) limit p
@@ -179,6 +189,7 @@ module _ (own : ℕ → Bool) (first : ℕ) where
         let d = sum_by_push (connection_asked future) now.connections c in
         let e = made_next first next future on in
         omega (arith, a, b, d, e);
+    servers = h.servers;
     connections = let a = h.connections in let b = length-append now.connections (c ∷ []) in omega (arith, a, b);
     children = h.children;
   }
@@ -216,7 +227,9 @@ module _ (own : ℕ → Bool) (first : ℕ) where
   closes_server id s kept = at (slice_get s.servers id)
     where
       same : (server : Server) → KeepsStreams own first s first (record s { servers = slice_set s.servers id (closed_server server) })
-      same server = same_keeps first s (record s { servers = slice_set s.servers id (closed_server server) }) kept refl refl
+      same server =
+          let a = length-set s.servers id (closed_server server) in
+          same_keeps first s (record s { servers = slice_set s.servers id (closed_server server) }) kept (omega (arith, a)) refl refl
 
       at : (found : Option Server)
           → Keeping (KeepsStreams own first s) own first (elim found [
@@ -231,45 +244,56 @@ module _ (own : ℕ → Bool) (first : ℕ) where
           (refl, λ answer. same server) (still first s kept)
 
   -- ---- callbacks
-  pub acts : (returned : Bool) (it : Action) (s : Streams) → StreamsKeep (IsOwn own) s
+  pub acts : (returned : Bool) (it : Action) (s : Streams) → StreamsKeep (IsOwn own) s → length s.connections ≤ own.connections
       → Keeping (KeepsStreams own first s) own first (act first returned it s)
-  acts returned (action.ReadableServer id) s kept = server_keeps (slice_get s.servers id) id s kept
-  acts returned (action.StartRead id) s kept =
+  acts returned (action.ReadableServer id) s kept few = server_keeps (slice_get s.servers id) id s kept
+  acts returned (action.StartRead id) s kept few =
       one_connection id (λ c. Ends (start_read c)) s kept (λ limit Left c h each. conn_started own limit Left first each c h)
-  acts returned (action.Readable id) s kept = one_connection id (readable id) s kept (λ limit Left c h each. conn_readable own limit Left first each id c h)
-  acts returned (action.Writable id) s kept = one_connection id (writable id) s kept (λ limit Left c h each. conn_writable own limit Left first each id c h)
-  acts returned (action.Up id) s kept = one_connection id (up id) s kept (λ limit Left c h each. conn_up own limit Left first each id c h)
-  acts returned (action.Down id) s kept = one_connection id (down id) s kept (λ limit Left c h each. conn_down own limit Left first each id c h)
-  acts returned (action.Lost id broken) s kept =
+  acts returned (action.Readable id) s kept few = one_connection id (readable id) s kept (λ limit Left c h each. conn_readable own limit Left first each id c h)
+  acts returned (action.Writable id) s kept few = one_connection id (writable id) s kept (λ limit Left c h each. conn_writable own limit Left first each id c h)
+  acts returned (action.Up id) s kept few =
+      one_there id (up id) s kept (λ there limit Left c h each. conn_up own limit Left first each id c (omega (arith, there, few)) h)
+  acts returned (action.Down id) s kept few = one_connection id (down id) s kept (λ limit Left c h each. conn_down own limit Left first each id c h)
+  acts returned (action.Lost id broken) s kept few =
       one_connection id (lose id broken) s kept (λ limit Left c h each. conn_loses own limit Left first each id broken c h)
-  acts returned (action.HandlerDone id task) s kept =
+  acts returned (action.HandlerDone id task) s kept few =
       one_connection id (handler_done id returned) s kept (λ limit Left c h each. conn_handled own limit Left first each id returned c h)
-  acts returned (action.WritableChild id) s kept = one_child id (feed_more id) s kept (λ limit Left p h each. child_feeds own limit Left first each id p h)
-  acts returned (action.ChildItem id item) s kept =
+  acts returned (action.WritableChild id) s kept few = one_child id (feed_more id) s kept (λ limit Left p h each. child_feeds own limit Left first each id p h)
+  acts returned (action.ChildItem id item) s kept few =
       one_child id (tell_child id item) s kept (λ limit Left p h each. child_told own limit Left first each id item p h)
-  acts returned (action.LostChild id broken) s kept =
+  acts returned (action.LostChild id broken) s kept few =
       one_child id (lose_child id broken) s kept (λ limit Left p h each. child_loses own limit Left first each id broken p h)
-  acts returned (action.Made id) s kept = still first s kept
-  acts returned (action.Step task) s kept = still first s kept
-  acts returned (action.StepInCycle task cycle) s kept = still first s kept
-  acts returned (action.Wakeup task) s kept = still first s kept
-  acts returned (action.SleepDone task future) s kept = still first s kept
-  acts returned (action.GroupDone group task) s kept = still first s kept
-  acts returned (action.Fires timeout) s kept = still first s kept
-  acts returned action.MainDone s kept = still first s kept
-  acts returned (action.ExtraItem code bytes) s kept = still first s kept
-  acts returned (action.Extra key) s kept = still first s kept
+  acts returned (action.Made id) s kept few = still first s kept
+  acts returned (action.Step task) s kept few = still first s kept
+  acts returned (action.StepInCycle task cycle) s kept few = still first s kept
+  acts returned (action.Wakeup task) s kept few = still first s kept
+  acts returned (action.SleepDone task future) s kept few = still first s kept
+  acts returned (action.GroupDone group task) s kept few = still first s kept
+  acts returned (action.Fires timeout) s kept few = still first s kept
+  acts returned action.MainDone s kept few = still first s kept
+  acts returned (action.ExtraItem code bytes) s kept few = still first s kept
+  acts returned (action.Extra key) s kept few = still first s kept
 
   -- ---- what opens one
-  pub listens : (port handler : ℕ) (s : Streams) → StreamsKeep (IsOwn own) s
-      → Keeping (AnswersStreams {R = Option ℕ} WaitsNever own first s) own first (listen port handler s)
-  listens port handler s kept = (
+  pub opens_server : (port handler : ℕ) (s : Streams) → StreamsKeep (IsOwn own) s
+      → Keeping (OpensStreams (λ it. length it.servers) own first s) own first (listen port handler s)
+  opens_server port handler s kept = (
     refl,
     λ came.
-        keeping_if own (AnswersStreams {R = Option ℕ} WaitsNever own first s) first (is_done came)
+        keeping_if own (OpensStreams (λ it. length it.servers) own first s) first (is_done came)
         (Ends (add_server (record { handler = handler; is_open = true }) s, Some (length s.servers))) (Ends (s, None))
-        (same_keeps first s (add_server (record { handler = handler; is_open = true }) s) kept refl refl, tt) (still first s kept, tt),
+        (same_keeps first s (add_server (record { handler = handler; is_open = true }) s) kept (omega (arith, more)) refl refl, omega (arith, more))
+        (still first s kept, tt),
   )
+    where
+      more : length (s.servers ++ record { handler = handler; is_open = true } ∷ []) ≡ length s.servers + 1
+      more = length-append s.servers (record { handler = handler; is_open = true } ∷ [])
+
+  pub listens : (port handler : ℕ) (s : Streams) → StreamsKeep (IsOwn own) s
+      → Keeping (AnswersStreams {R = Option ℕ} WaitsNever own first s) own first (listen port handler s)
+  listens port handler s kept =
+      keeping_more own (OpensStreams (λ it. length it.servers) own first s) (AnswersStreams {R = Option ℕ} WaitsNever own first s)
+      (λ next done h. (h.0, tt)) first (listen port handler s) (opens_server port handler s kept)
 
   pub connects : (port : ℕ) (s : Streams) → StreamsKeep (IsOwn own) s
       → Keeping (ConnectsStreams own first s) own first (connect port first s)
@@ -298,17 +322,19 @@ module _ (own : ℕ → Bool) (first : ℕ) where
             let b = made_next first first future (le_refl first) in
             let c = made_next first (first + 1) future (omega arith) in
             omega (arith, a, b, c);
+        servers = le_refl _;
         connections = let a = length-append s.connections (connecting first (first + 1) ∷ []) in omega (arith, a);
         children = le_refl _;
       }
 
-  pub launches : (words : List (List ℕ)) (s : Streams) → StreamsKeep (IsOwn own) s
-      → Keeping (AnswersStreams {R = Option ℕ} WaitsNever own first s) own first (launch words first s)
-  launches words s kept = (
+  pub opens_child : (words : List (List ℕ)) (s : Streams) → StreamsKeep (IsOwn own) s
+      → Keeping (OpensStreams (λ it. length it.children) own first s) own first (launch words first s)
+  opens_child words s kept = (
     refl,
     λ came.
-        keeping_if own (AnswersStreams {R = Option ℕ} WaitsNever own first s) first (is_child came)
-        (Changes MakeFuture (Ends (add_child (new_child first) s, Some (length s.children)))) (Ends (s, None)) (launched_one, tt)
+        keeping_if own (OpensStreams (λ it. length it.children) own first s) first (is_child came)
+        (Changes MakeFuture (Ends (add_child (new_child first) s, Some (length s.children)))) (Ends (s, None))
+        (launched_one, let a = length-append s.children (new_child first ∷ []) in omega (arith, a))
         (still first s kept, tt),
   )
     where
@@ -323,6 +349,13 @@ module _ (own : ℕ → Bool) (first : ℕ) where
             let a = sum_by_push (child_times future) s.children (new_child first) in
             let b = made_next first first future (le_refl first) in
             omega (arith, a, b);
+        servers = le_refl _;
         connections = le_refl _;
         children = let a = length-append s.children (new_child first ∷ []) in omega (arith, a);
       }
+
+  pub launches : (words : List (List ℕ)) (s : Streams) → StreamsKeep (IsOwn own) s
+      → Keeping (AnswersStreams {R = Option ℕ} WaitsNever own first s) own first (launch words first s)
+  launches words s kept =
+      keeping_more own (OpensStreams (λ it. length it.children) own first s) (AnswersStreams {R = Option ℕ} WaitsNever own first s)
+      (λ next done h. (h.0, tt)) first (launch words first s) (opens_child words s kept)

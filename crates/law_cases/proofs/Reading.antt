@@ -8,7 +8,7 @@ use Rattle.model_stream.specs.Reading.{Reading, ReadOp, Take, Taken, feed_eof, f
 use Rattle.model_stream.specs.Receivers.{Receiver, StreamGot, AllGot, wakes, receive, receive_end, receive_loss, second_waiter, wait_for_data}
 use Rattle.model_stream.specs.Receivers.{read, read_as, read_all, all_taken, give_up_read}
 use Rattle.model_stream.specs.Kept.{OneIs}
-use Rattle.law_cases.specs.Trees.{IsKnown, IsMade, IsOwn, Keeping, ReadWaits}
+use Rattle.law_cases.specs.Trees.{IsKnown, IsMade, IsOwn, Keeping, Owned, ReadWaits}
 use Rattle.law_cases.proofs.Composing.{keeping_if, keeping_then, made_first}
 use Rattle.law_cases.proofs.Fits.{ReceiverFits, grown, made_next, receiver_still}
 
@@ -24,7 +24,7 @@ give_up_keeps P limit on r kept = at r.waiter
     at None = kept
     at (Some future) = if_so (eqb future on)
 
-module _ (own : ℕ → Bool) (limit : ℕ → ℕ) (Left : ℕ → Receiver → Type 0) (next : ℕ)
+module _ (own : Owned) (limit : ℕ → ℕ) (Left : ℕ → Receiver → Type 0) (next : ℕ)
     (each : (after : Receiver) → ReceiverFits (IsOwn own) limit after → Left next after) where
   pub wakes_keep : (reader : Reading) (waiter : Option ℕ) → OneIs (IsOwn own) waiter → Keeping Left own next (wakes reader waiter)
   wakes_keep reader None kept = each (record { reader = reader; waiter = None }) (tt, λ future. omega arith)
@@ -41,7 +41,7 @@ module _ (own : ℕ → Bool) (limit : ℕ → ℕ) (Left : ℕ → Receiver →
   receive_loss_keeps (Some fault) r kept = wakes_keep (fail fault r.reader) r.waiter kept.0
 
 -- ---- reads: the waiter is known, and a future that is waited on was made
-module _ (own : ℕ → Bool) (limit : ℕ → ℕ) (first : ℕ) where
+module _ (own : Owned) (limit : ℕ → ℕ) (first : ℕ) where
   abbrev pub Reads : ℕ → Receiver × StreamGot → Type 0
   Reads next done = ReceiverFits (IsKnown own first next) (grown limit first next) done.0 × ReadWaits (IsMade first next) done.1
 

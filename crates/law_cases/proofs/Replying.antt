@@ -3,7 +3,7 @@
 use Rattle.std.proofs.Common.{◌≡◌, inl, inr, ◌⊎◌, ℕ, ◌<◌, ◌&&◌, ℤ, pos, negsuc, refl, subst, cond, length, arith}
 use Rattle.std.proofs.Common.{ap, Bool, true, false, List, [], ◌++◌, Option, Some, None}
 use Rattle.std.proofs.Common.{is_none, nat_lt, slice_get}
-use Rattle.std.proofs.lemmas.Bool.{false≢true, ltb-true}
+use Rattle.std.proofs.lemmas.Bool.{false≢true, lt-ltb, ltb-true}
 use Rattle.std.specs.Option.{option_map, option_map_or}
 use Rattle.model_value.specs.declared.input.Input.TheVariants.{Send, Throw}
 use Rattle.model_value.specs.declared.request.Request.TheVariants as request
@@ -48,13 +48,13 @@ use Rattle.model_machine.specs.Replies.{writes_as}
 use Rattle.model_machine.specs.Sound.{AreStreamsFutures, IsOpenedAt, IsOpenedReader, IsOpenedWriter, stands_at}
 use Rattle.model_machine.specs.State.{ResumePoint, Asked, Sleeping, Leaving, Serving, Connecting, Yielding, Reading, ReadingAll, State, with_streams}
 use Rattle.law_cases.specs.Trees.{AllWaits, AnswersStreams, ConnectWaits, ConnectsStreams, DrainWaits, ExitWaits, IsKnown}
-use Rattle.law_cases.specs.Trees.{IsMade, Keeping, KeepsStreams, ReadWaits, WaitsNever}
+use Rattle.law_cases.specs.Trees.{IsMade, IsOneOf, Keeping, KeepsStreams, OpensStreams, Owned, ReadWaits, WaitsNever}
 use Rattle.law_cases.proofs.Composing.{streams_more}
 use Rattle.law_cases.proofs.Asking as asking
 use Rattle.law_cases.proofs.Opening as opening
 use Rattle.law_cases.specs.Closed.{is_to_streams, stands_at_streams}
 use Rattle.law_cases.specs.StreamReplies.{StreamReplies, refuses, tells, hands_on, awaits, halts, answers, raises, waits_on, stands_on, yields}
-use Rattle.law_cases.specs.TreeEnd.{IsStreamsEnd, IsTreeEnd}
+use Rattle.law_cases.specs.TreeEnd.{IsStreamsEnd, IsTreeEnd, owned_in}
 use Rattle.law_cases.proofs.Ending.{tree_ends}
 
 some_is : (x y : ℕ) → Some x ≡ Some y → x ≡ y
@@ -62,18 +62,19 @@ some_is x y e = ap (λ o. option_map_or (λ (z : ℕ). z) o x) e
 
 -- what is known where a tree ends: what was plain, and what was made
 pub end_keeps : {S : Type 0} (s t : State S) (streams : Streams) → IsTreeEnd s t
-    → KeepsStreams (is_plain s.loop.parts) (next_future s.loop.parts) s.streams (next_future t.loop.parts) streams → IsStreamsEnd s t streams
+    → KeepsStreams (owned_in s) (next_future s.loop.parts) s.streams (next_future t.loop.parts) streams → IsStreamsEnd s t streams
 end_keeps s t streams it keeps = record {
   ended = it;
-  kept = streams_more (IsKnown (is_plain s.loop.parts) (next_future s.loop.parts) (next_future t.loop.parts))
+  kept = streams_more (IsKnown (owned_in s) (next_future s.loop.parts) (next_future t.loop.parts))
       (λ future. is_plain t.loop.parts future ≡ true) plain streams keeps.kept;
   times = keeps.times;
   asked = keeps.asked;
+  servers = keeps.servers;
   connections = keeps.connections;
   children = keeps.children;
 }
   where
-    plain : (future : ℕ) → IsKnown (is_plain s.loop.parts) (next_future s.loop.parts) (next_future t.loop.parts) future
+    plain : (future : ℕ) → IsKnown (owned_in s) (next_future s.loop.parts) (next_future t.loop.parts) future
         → is_plain t.loop.parts future ≡ true
     plain future (inl own) = it.kept future own
     plain future (inr made) = (it.made future made.0 made.1).0
@@ -147,8 +148,8 @@ module _ {S : Type 0} (task : ℕ) (stood : ResumePoint) (s : State S) (asked : 
       at false = refuses _
 
   -- ---- trees
-  abbrev own : ℕ → Bool
-  own = is_plain s.loop.parts
+  abbrev own : Owned
+  own = owned_in s
 
   abbrev first : ℕ
   first = next_future s.loop.parts
@@ -172,9 +173,10 @@ module _ {S : Type 0} (task : ℕ) (stood : ResumePoint) (s : State S) (asked : 
   pending_is t streams on it made = (it.ended.made on made.0 made.1).1
 
   -- ---- what follows
-  listened_is : (server : Option ℕ) (t : State S) (streams : Streams) → IsStreamsEnd s t streams → Unit {0} → Is (listens_as server (with_streams streams t))
+  listened_is : (server : Option ℕ) (t : State S) (streams : Streams) → IsStreamsEnd s t streams → IsOneOf (length streams.servers) server
+      → Is (listens_as server (with_streams streams t))
   listened_is None t streams it w = raises t streams _ it
-  listened_is (Some id) t streams it w = answers t streams (Server id) it (λ made. refl)
+  listened_is (Some id) t streams it w = answers t streams (Server id) it (lt-ltb id (length streams.servers) w)
 
   connected_is : stands_at (Connecting 0) asked ≡ true → (begun : Option (ℕ × ℕ)) (t : State S) (streams : Streams) → IsStreamsEnd s t streams
       → ConnectWaits (length streams.connections) (IsMade first (next_future t.loop.parts)) begun → Is (connects_as task begun (with_streams streams t))
@@ -188,35 +190,44 @@ module _ {S : Type 0} (task : ℕ) (stood : ResumePoint) (s : State S) (asked : 
       (λ done t it k. connected_is may done.1 t done.0 (end_keeps s t done.0 it k.0) k.1) (connect port first s.streams)
       (opening.connects own first port s.streams kept)
 
+  opened_is : (count : Streams → ℕ) (tree : Doing (Streams × Option ℕ)) (next : Option ℕ → State S → RequestReply S)
+      → Keeping (OpensStreams count own first s.streams) own first tree
+      → ((it : Option ℕ) (t : State S) (streams : Streams) → IsStreamsEnd s t streams → IsOneOf (count streams) it
+      → Is (next it (with_streams streams t))) → Is (streams_do tree next s)
+  opened_is count tree next keeps each =
+      tree_ends Halts Is s halts (OpensStreams count own first s.streams) (λ done now. next done.1 (with_streams done.0 now))
+      (λ done t it k. each done.1 t done.0 (end_keeps s t done.0 it k.0) k.1) tree keeps
+
   wrote_is : (it : Wrote) (t : State S) (streams : Streams) → IsStreamsEnd s t streams → Unit {0} → Is (writes_as it (with_streams streams t))
-  wrote_is wrote.Done t streams it w = answers t streams Nothing it (λ made. refl)
+  wrote_is wrote.Done t streams it w = answers t streams Nothing it refl
   wrote_is wrote.AfterEof t streams it w = raises t streams _ it
 
   drained_is : stands_at Asked asked ≡ true → (whom : Handed) → stands_at (Yielding whom) asked ≡ true → Opens (IsOpenedWriter s.streams whom)
       → (it : Drain) (t : State S) (streams : Streams)
       → IsStreamsEnd s t streams → DrainWaits (IsMade first (next_future t.loop.parts)) it → Is (drains_as task whom it (with_streams streams t))
-  drained_is may whom yield was drain_as.Goes t streams it w = answers t streams Nothing it (λ made. refl)
+  drained_is may whom yield was drain_as.Goes t streams it w = answers t streams Nothing it refl
   drained_is may whom yield was drain_as.Yields t streams it w = yields t streams whom it yield (λ h. writer_on s t streams it whom (was h))
   drained_is may whom yield was (drain_as.Waits on) t streams it w = waits_on t streams on it (pending_is t streams on it w) may
   drained_is may whom yield was (drain_as.Raises fault) t streams it w = raises t streams fault it
 
   limited_is : (it : Limited) (t : State S) (streams : Streams) → IsStreamsEnd s t streams → Unit {0} → Is (limits_as it (with_streams streams t))
-  limited_is limited.Set t streams it w = answers t streams Nothing it (λ made. refl)
+  limited_is limited.Set t streams it w = answers t streams Nothing it refl
   limited_is limited.BadLimits t streams it w = raises t streams _ it
 
-  launched_is : (it : Option ℕ) (t : State S) (streams : Streams) → IsStreamsEnd s t streams → Unit {0} → Is (launches_as it (with_streams streams t))
+  launched_is : (it : Option ℕ) (t : State S) (streams : Streams) → IsStreamsEnd s t streams → IsOneOf (length streams.children) it
+      → Is (launches_as it (with_streams streams t))
   launched_is None t streams it w = raises t streams _ it
-  launched_is (Some id) t streams it w = answers t streams (Child id) it (λ made. refl)
+  launched_is (Some id) t streams it w = answers t streams (Child id) it (lt-ltb id (length streams.children) w)
 
   exited_is : stands_at Asked asked ≡ true → (it : ChildWait) (t : State S) (streams : Streams) → IsStreamsEnd s t streams
       → ExitWaits (IsMade first (next_future t.loop.parts)) it → Is (awaits_exit_as task it (with_streams streams t))
-  exited_is may (wait_as.Code code) t streams it w = answers t streams (Int code) it (λ made. refl)
+  exited_is may (wait_as.Code code) t streams it w = answers t streams (Int code) it refl
   exited_is may (wait_as.Waits on) t streams it w = waits_on t streams on it (pending_is t streams on it w) may
 
   read_is : (op : ReadOp) (from : StreamReader) → stands_at (Reading from op 0) asked ≡ true → Opens (IsOpenedReader s.streams from)
       → (it : StreamGot) (t : State S) (streams : Streams) → IsStreamsEnd s t streams
       → ReadWaits (IsMade first (next_future t.loop.parts)) it → Is (reads_as task op from it (with_streams streams t))
-  read_is op from may was (got.Bytes bytes) t streams it w = answers t streams (Bytes bytes) it (λ made. refl)
+  read_is op from may was (got.Bytes bytes) t streams it w = answers t streams (Bytes bytes) it refl
   read_is op from may was (got.Raises fault) t streams it w = raises t streams fault it
   read_is op from may was (got.Waits on) t streams it w =
       stands_on t streams (Reading from op on) on it (pending_is t streams on it w) refl may
@@ -225,7 +236,7 @@ module _ {S : Type 0} (task : ℕ) (stood : ResumePoint) (s : State S) (asked : 
   all_is : (from : StreamReader) (taken : List ℕ) → stands_at (ReadingAll from taken 0) asked ≡ true → Opens (IsOpenedReader s.streams from)
       → (it : StreamGot) (t : State S) (streams : Streams) → IsStreamsEnd s t streams
       → ReadWaits (IsMade first (next_future t.loop.parts)) it → Is (reads_all_as task from taken it (with_streams streams t))
-  all_is from taken may was (got.Bytes bytes) t streams it w = answers t streams (Bytes taken) it (λ made. refl)
+  all_is from taken may was (got.Bytes bytes) t streams it w = answers t streams (Bytes taken) it refl
   all_is from taken may was (got.Raises fault) t streams it w = raises t streams fault it
   all_is from taken may was (got.Waits on) t streams it w =
       stands_on t streams (ReadingAll from taken on) on it (pending_is t streams on it w) refl may (λ h. reader_on s t streams it from (was h))
@@ -262,7 +273,7 @@ module _ {S : Type 0} (task : ℕ) (stood : ResumePoint) (s : State S) (asked : 
       until on plain None e = awaits on (plain_pending on plain e) may
 
       at : (found : Option ℕ) → closed_future whom s.streams ≡ found → Is (awaits_closed_as found task s)
-      at None e = tells Nothing (λ made. refl)
+      at None e = tells Nothing refl
       at (Some on) e = until on (closed_plain whom kept on e) (ended s on) refl
 
   -- ---- trees that tasks stand at too
@@ -288,11 +299,11 @@ module _ {S : Type 0} (task : ℕ) (stood : ResumePoint) (s : State S) (asked : 
       change_is (drop_connect conn s.streams) (Raises fault) (asking.drops own first conn s.streams kept) (λ t streams it. raises t streams fault it)
 
   done_is : (tree : Doing Streams) → Keeping (KeepsStreams own first s.streams) own first tree → Is (streams_change tree (Answers Nothing) s)
-  done_is tree keeps = change_is tree (Answers Nothing) keeps (λ t streams it. answers t streams Nothing it (λ made. refl))
+  done_is tree keeps = change_is tree (Answers Nothing) keeps (λ t streams it. answers t streams Nothing it refl)
 
 module _ {S : Type 0} (added : Extra S) (task : ℕ) (s : State S) (kept : AreStreamsFutures s) where
-  abbrev before : ℕ → Bool
-  before = is_plain s.loop.parts
+  abbrev before : Owned
+  before = owned_in s
 
   abbrev number : ℕ
   number = next_future s.loop.parts
@@ -307,8 +318,8 @@ module _ {S : Type 0} (added : Extra S) (task : ℕ) (s : State S) (kept : AreSt
   streams_reply (request.Listen port handler) is =
       let q = request.Listen port handler in
       given_is task Asked s q (as_int port) _ (λ at e. numbered_is task Asked s q (may_listen s.streams) _ (port_is task Asked s q at (listens handler) (λ it.
-      do_is task Asked s q {R = Option ℕ} WaitsNever (listen it handler s.streams) listens_as (opening.listens before number it handler s.streams kept)
-      (listened_is task Asked s q))))
+      opened_is task Asked s q (λ now. length now.servers) (listen it handler s.streams) listens_as
+      (opening.opens_server before number it handler s.streams kept) (listened_is task Asked s q))))
   streams_reply (request.Connect port) is =
       let q = request.Connect port in
       given_is task Asked s q (as_int port) _ (λ at e. numbered_is task Asked s q (may_connect s.streams) _ (port_is task Asked s q at (connects task) (λ it.
@@ -316,8 +327,8 @@ module _ {S : Type 0} (added : Extra S) (task : ℕ) (s : State S) (kept : AreSt
   streams_reply (request.Launch words) is =
       let q = request.Launch words in
       given_is task Asked s q (as_words words) _ (λ program e. numbered_is task Asked s q (may_launch s.streams) (launches program)
-      (do_is task Asked s q {R = Option ℕ} WaitsNever (launch program number s.streams) launches_as (opening.launches before number program s.streams kept)
-      (launched_is task Asked s q)))
+      (opened_is task Asked s q (λ now. length now.children) (launch program number s.streams) launches_as
+      (opening.opens_child before number program s.streams kept) (launched_is task Asked s q)))
   streams_reply (request.Write stream bytes) is =
       let q = request.Write stream bytes in
       given_is task Asked s q (as_writer s stream) _ (λ whom e. given_is task Asked s q (as_bytes bytes) _ (λ piece f.
@@ -361,7 +372,7 @@ module _ {S : Type 0} (added : Extra S) (task : ℕ) (s : State S) (kept : AreSt
       given_is task Asked s q (as_reader s stream) _ (λ from e. reads_is task Asked s q kept Line from refl (λ was. reader_opened s stream from e))
   streams_reply (request.StandardError child) is =
       let q = request.StandardError child in
-      given_is task Asked s q (as_child s child) _ (λ id e. tells (Errs id) (λ made. refl))
+      given_is task Asked s q (as_child s child) _ (λ id e. tells (Errs id) (lt-ltb id (length s.streams.children) (child_opened s child id e)))
   streams_reply (request.WaitChild child) is =
       let q = request.WaitChild child in
       given_is task Asked s q (as_child s child) _ (λ id e.
@@ -372,8 +383,8 @@ module _ {S : Type 0} (added : Extra S) (task : ℕ) (s : State S) (kept : AreSt
       given_is task Asked s q (as_child s child) _ (λ id e. code (returncode id s.streams))
     where
       code : (it : Option ℤ) → StreamReplies task Asked s (request.ReturnCode child) (Answers (code_of it) s)
-      code None = tells Nothing (λ made. refl)
-      code (Some it) = tells (Int it) (λ made. refl)
+      code None = tells Nothing refl
+      code (Some it) = tells (Int it) refl
   streams_reply (request.Kill child) is =
       let q = request.Kill child in
       given_is task Asked s q (as_child s child) _ (λ id e. done_is task Asked s q (kill id s.streams) (asking.kills before number id s.streams kept))
@@ -392,8 +403,8 @@ woken_kept (Leaving group) s kept = kept
 woken_kept (Serving key) s kept = kept
 woken_kept (Connecting conn) s kept = kept
 woken_kept (Yielding whom) s kept = kept
-woken_kept (Reading from op on) s kept = asking.gives_up_own (is_plain s.loop.parts) on from s.streams kept
-woken_kept (ReadingAll from taken on) s kept = asking.gives_up_own (is_plain s.loop.parts) on from s.streams kept
+woken_kept (Reading from op on) s kept = asking.gives_up_own (owned_in s) on from s.streams kept
+woken_kept (ReadingAll from taken on) s kept = asking.gives_up_own (owned_in s) on from s.streams kept
 
 drain_stands : (whom : Handed) (asked : Request) → stands_at (Yielding whom) asked ≡ true → stands_at Asked asked ≡ true
 drain_stands whom (request.Drain stream) h = refl

@@ -19,7 +19,7 @@ use Rattle.model_stream.specs.Senders.{close_sender, lose_sender, waiting_for_lo
 use Rattle.model_stream.specs.Senders.{drain_sender, limits_sender, lost_text}
 use Rattle.model_stream.specs.Sending.{took, put, put_answer, limits, limits_answer}
 use Rattle.model_stream.specs.Kept.{AllAre}
-use Rattle.law_cases.specs.Trees.{DrainWaits, IsKnown, IsMade, IsOwn, Keeping, is_of_streams, is_aside, names_nobody}
+use Rattle.law_cases.specs.Trees.{DrainWaits, IsKnown, IsMade, IsOwn, Keeping, Owned, is_aside, is_of_streams, names_opened}
 use Rattle.law_cases.proofs.Composing.{all_then, keeping_if, keeping_settles, keeping_then, made_first}
 use Rattle.law_cases.proofs.Fits.{SenderFits, grown, made_next, sender_still, times_push}
 
@@ -35,7 +35,7 @@ outlet_is id = record { sends = λ bytes. refl; closes = refl; loses = λ broken
 pub inlet_is : (id : ℕ) → IsOutlet (inlet id)
 inlet_is id = record { sends = λ bytes. refl; closes = refl; loses = λ broken. refl }
 
-module _ (own : ℕ → Bool) (limit : ℕ → ℕ) (o : Outlet) (is : IsOutlet o) (Left : ℕ → Sender → Type 0) (next : ℕ)
+module _ (own : Owned) (limit : ℕ → ℕ) (o : Outlet) (is : IsOutlet o) (Left : ℕ → Sender → Type 0) (next : ℕ)
     (each : (after : Sender) → SenderFits (IsOwn own) limit after → Left next after) where
   pub schedule_keeps : (broken : Bool) (s : Sender) → SenderFits (IsOwn own) limit s → Keeping Left own next (schedule_loss o broken s)
   schedule_keeps broken s kept = (is.loses broken, each (ended_sender (phase.Losing broken) s) kept)
@@ -58,7 +58,7 @@ module _ (own : ℕ → Bool) (limit : ℕ → ℕ) (o : Outlet) (is : IsOutlet 
   waiting_kept true s kept = (kept.0, kept.1)
   waiting_kept false s kept = (kept.0, tt)
 
-  lost_names : (fault : Option Exc) → names_nobody (outcome_of fault) ≡ true
+  lost_names : (fault : Option Exc) → names_opened own.connections (outcome_of fault) ≡ true
   lost_names None = refl
   lost_names (Some fault) = refl
 
@@ -111,7 +111,7 @@ module _ (own : ℕ → Bool) (limit : ℕ → ℕ) (o : Outlet) (is : IsOutlet 
   offer_keeps s came kept = offered_keeps came s kept
 
 -- ---- with an answer
-module _ (own : ℕ → Bool) (limit : ℕ → ℕ) (first : ℕ) where
+module _ (own : Owned) (limit : ℕ → ℕ) (first : ℕ) where
   module _ (o : Outlet) (is : IsOutlet o) (Left : ℕ → Sender × Wrote → Type 0)
       (each : (done : Sender × Wrote) → SenderFits (IsOwn own) limit done.0 → Left first done) where
     as_keeps : (it : Put) (s : Sender) → SenderFits (IsOwn own) limit s → Keeping Left own first (write_as it o s)

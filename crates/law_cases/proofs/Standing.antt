@@ -1,6 +1,7 @@
 -- Connections and children.
-use Rattle.std.proofs.Common.{inr, ℕ, ◌+◌, ℤ, Bool, false, cond, not, ◌&&◌, ◌||◌, List}
+use Rattle.std.proofs.Common.{inr, ℕ, ◌+◌, ◌<◌, ℤ, Bool, false, cond, not, ◌&&◌, ◌||◌, List}
 use Rattle.std.proofs.Common.{[], ◌∷◌, ◌++◌, Option, Some, None, is_some, is_none, refl, le_refl, arith}
+use Rattle.std.proofs.lemmas.Bool.{lt-ltb}
 use Rattle.model_pump.specs.declared.stream.Stream.{Stream}
 use Rattle.model_pump.specs.declared.stream.Stream.TheVariants as stream
 use Rattle.model_value.specs.declared.action.ChildItem.{ChildItem}
@@ -27,7 +28,7 @@ use Rattle.model_stream.specs.Senders.{Sender, Drain, has_unsent, is_closing, is
 use Rattle.model_stream.specs.Senders.{schedule_loss, write, drain_sender, limits_sender, loss_of}
 use Rattle.model_stream.specs.Sending.{set_eof}
 use Rattle.model_stream.specs.Kept.{OneIs}
-use Rattle.law_cases.specs.Trees.{DrainWaits, ExitWaits, IsKnown, IsMade, IsOwn, Keeping}
+use Rattle.law_cases.specs.Trees.{DrainWaits, ExitWaits, IsKnown, IsMade, IsOwn, Keeping, Owned}
 use Rattle.law_cases.proofs.Composing.{all_then, keeping_if, keeping_settles, keeping_then, made_first}
 use Rattle.law_cases.proofs.Fits.{ChildFits, ConnectionFits, Limits, ReceiverFits, SenderFits, both_grown, child_still, connection_still, grown, made_next}
 use Rattle.law_cases.proofs.Fits.{now_receiver}
@@ -37,7 +38,7 @@ use Rattle.law_cases.proofs.Sending.{close_keeps, drain_keeps, fail_keeps, inlet
 use Rattle.law_cases.proofs.Sending.{send_keeps, write_keeps}
 
 -- ---- a connection that makes no future
-module _ (own : ℕ → Bool) (limit : Limits) (Left : ℕ → Connection → Type 0) (next : ℕ)
+module _ (own : Owned) (limit : Limits) (Left : ℕ → Connection → Type 0) (next : ℕ)
     (each : (after : Connection) → ConnectionFits (IsOwn own) limit after → Left next after) where
   on_sender : (c : Connection) → ConnectionFits (IsOwn own) limit c → (change : Sender → Doing Sender)
       → (SenderFits (IsOwn own) (now_sender c.sender) c.sender
@@ -101,13 +102,14 @@ module _ (own : ℕ → Bool) (limit : Limits) (Left : ℕ → Connection → Ty
   unmaking : (c : Connection) → ConnectionFits (IsOwn own) limit c → ConnectionFits (IsOwn own) limit (record c { making = None })
   unmaking c kept = (tt, kept.1, kept.2, λ future. let a = kept.3 future in (omega (arith, a.0), omega (arith, a.1)))
 
-  up_keeps : (id : ℕ) (making : Option ℕ) (c : Connection) → OneIs (IsOwn own) making → ConnectionFits (IsOwn own) limit c
+  up_keeps : (id : ℕ) (making : Option ℕ) (c : Connection) → id < own.connections → OneIs (IsOwn own) making → ConnectionFits (IsOwn own) limit c
       → Keeping Left own next (elim making [ Some future ↦ stand_up id future c | None ↦ Ends c ])
-  up_keeps id (Some future) c mine kept = (refl, (refl, ((mine, refl), each (record c { making = None }) (unmaking c kept))))
-  up_keeps id None c mine kept = each c kept
+  up_keeps id (Some future) c there mine kept =
+      (refl, (refl, ((mine, lt-ltb id own.connections there), each (record c { making = None }) (unmaking c kept))))
+  up_keeps id None c there mine kept = each c kept
 
-  pub conn_up : (id : ℕ) (c : Connection) → ConnectionFits (IsOwn own) limit c → Keeping Left own next (up id c)
-  conn_up id c kept = up_keeps id c.making c kept.0 kept
+  pub conn_up : (id : ℕ) (c : Connection) → id < own.connections → ConnectionFits (IsOwn own) limit c → Keeping Left own next (up id c)
+  conn_up id c there kept = up_keeps id c.making c there kept.0 kept
 
   down_keeps : (id : ℕ) (making : Option ℕ) (c : Connection) → OneIs (IsOwn own) making → ConnectionFits (IsOwn own) limit c
       → Keeping Left own next (elim making [
@@ -135,7 +137,7 @@ module _ (own : ℕ → Bool) (limit : Limits) (Left : ℕ → Connection → Ty
       (keeping_if own Left next (has_unsent c.sender) (Ends after) (asks (call.Shut id) (Ends after)) (each after kept) (refl, λ answer. each after kept))
 
 -- the loss: its reader is told first
-pub conn_loses : (own : ℕ → Bool) (limit : Limits) (Left : ℕ → Connection → Type 0) (next : ℕ)
+pub conn_loses : (own : Owned) (limit : Limits) (Left : ℕ → Connection → Type 0) (next : ℕ)
     → ((after : Connection) → ConnectionFits (IsOwn own) limit after → Left next after) → (id : ℕ) (broken : Bool) (c : Connection)
     → ConnectionFits (IsOwn own) limit c → Keeping Left own next (lose id broken c)
 conn_loses own limit Left next each id broken c kept =
@@ -147,7 +149,7 @@ conn_loses own limit Left next each id broken c kept =
     (λ then_ after. Keeping Left own then_ (on its_sender (lose_sender (outlet id) broken) (record c { receiver = after }))) next left
     (loss_of (outlet id) broken) c.receiver mine))
 
-module _ (own : ℕ → Bool) (limit : Limits) (Left : ℕ → Connection → Type 0) (next : ℕ)
+module _ (own : Owned) (limit : Limits) (Left : ℕ → Connection → Type 0) (next : ℕ)
     (each : (after : Connection) → ConnectionFits (IsOwn own) limit after → Left next after) where
   flushed_keeps : (id : ℕ) (c : Connection) → ConnectionFits (IsOwn own) limit c → Keeping Left own next (flushed id c)
   flushed_keeps id c kept =
@@ -166,7 +168,7 @@ module _ (own : ℕ → Bool) (limit : Limits) (Left : ℕ → Connection → Ty
       (each c kept)
 
 -- ---- a connection, with an answer
-module _ {R : Type 0} (own : ℕ → Bool) (limit : Limits) (first : ℕ) (Waits : (ℕ → Type 0) → R → Type 0) (Left : ℕ → Connection × R → Type 0)
+module _ {R : Type 0} (own : Owned) (limit : Limits) (first : ℕ) (Waits : (ℕ → Type 0) → R → Type 0) (Left : ℕ → Connection × R → Type 0)
     (each : (next : ℕ) (done : Connection × R) → ConnectionFits (IsKnown own first next) (both_grown limit first next) done.0
     → Waits (IsMade first next) done.1 → Left next done) where
   pub asked_sender : (c : Connection) → ConnectionFits (IsOwn own) limit c → (change : Sender → Doing (Sender × R))
@@ -194,7 +196,7 @@ module _ {R : Type 0} (own : ℕ → Bool) (limit : Limits) (first : ℕ) (Waits
       (still.0, still.1, h.0, λ future. let a = h.1 future in let b = kept.3 future in (omega (arith, a, b.0), omega (arith, a, b.1))) waits))
 
 -- the requests on it
-module _ (own : ℕ → Bool) (limit : Limits) (first : ℕ) where
+module _ (own : Owned) (limit : Limits) (first : ℕ) where
   pub conn_writes : (Left : ℕ → Connection × Wrote → Type 0)
       → ((next : ℕ) (done : Connection × Wrote) → ConnectionFits (IsKnown own first next) (both_grown limit first next) done.0 → Unit {0} → Left next done)
       → (id : ℕ) (piece : List ℕ) (c : Connection) → ConnectionFits (IsOwn own) limit c → Keeping Left own first (write_to id piece c)
@@ -237,7 +239,7 @@ module _ (own : ℕ → Bool) (limit : Limits) (first : ℕ) where
           (each first (c, drain_as.Raises fault) (connection_still own limit first first c kept) tt)
 
 -- ---- a child that makes no future
-module _ (own : ℕ → Bool) (limit : ℕ → ℕ) (Left : ℕ → Child → Type 0) (next : ℕ)
+module _ (own : Owned) (limit : ℕ → ℕ) (Left : ℕ → Child → Type 0) (next : ℕ)
     (each : (after : Child) → ChildFits (IsOwn own) limit after → Left next after) where
   on_stdin : (p : Child) → ChildFits (IsOwn own) limit p → (change : Sender → Doing Sender)
       → (SenderFits (IsOwn own) (now_sender p.stdin) p.stdin
@@ -313,7 +315,7 @@ module _ (own : ℕ → Bool) (limit : ℕ → ℕ) (Left : ℕ → Child → Ty
   pub child_killed : (id : ℕ) (p : Child) → ChildFits (IsOwn own) limit p → Keeping Left own next (kill id p)
   child_killed id p kept = keeping_if own Left next (is_none p.code) (asks (call.Kill id) (Ends p)) (Ends p) (refl, λ answer. each p kept) (each p kept)
 
-pub child_feeds : (own : ℕ → Bool) (limit : ℕ → ℕ) (Left : ℕ → Child → Type 0) (next : ℕ)
+pub child_feeds : (own : Owned) (limit : ℕ → ℕ) (Left : ℕ → Child → Type 0) (next : ℕ)
     → ((after : Child) → ChildFits (IsOwn own) limit after → Left next after)
     → (id : ℕ) (p : Child) → ChildFits (IsOwn own) limit p → Keeping Left own next (feed_more id p)
 child_feeds own limit Left next each id p kept =
@@ -327,7 +329,7 @@ child_feeds own limit Left next each id p kept =
     (each p kept)
 
 -- ---- a child, with an answer
-module _ {R : Type 0} (own : ℕ → Bool) (limit : ℕ → ℕ) (first : ℕ) (Waits : (ℕ → Type 0) → R → Type 0) (Left : ℕ → Child × R → Type 0)
+module _ {R : Type 0} (own : Owned) (limit : ℕ → ℕ) (first : ℕ) (Waits : (ℕ → Type 0) → R → Type 0) (Left : ℕ → Child × R → Type 0)
     (each : (next : ℕ) (done : Child × R) → ChildFits (IsKnown own first next) (grown limit first next) done.0
     → Waits (IsMade first next) done.1 → Left next done) where
   pub asked_stdin : (p : Child) → ChildFits (IsOwn own) limit p → (change : Sender → Doing (Sender × R))
@@ -361,7 +363,7 @@ module _ {R : Type 0} (own : ℕ → Bool) (limit : ℕ → ℕ) (first : ℕ) (
       each next (record p { errs = done.0 }, done.1)
       (still.0, still.1, h.0, still.3, λ future. let a = h.1 future in let b = kept.4 future in omega (arith, a, b)) waits))
 
-module _ (own : ℕ → Bool) (limit : ℕ → ℕ) (first : ℕ) where
+module _ (own : Owned) (limit : ℕ → ℕ) (first : ℕ) where
   pub child_writes : (Left : ℕ → Child × Wrote → Type 0)
       → ((next : ℕ) (done : Child × Wrote) → ChildFits (IsKnown own first next) (grown limit first next) done.0 → Unit {0} → Left next done)
       → (id : ℕ) (piece : List ℕ) (p : Child) → ChildFits (IsOwn own) limit p → Keeping Left own first (write_child id piece p)

@@ -10,14 +10,19 @@ use Rattle.model_machine.specs.State.{State}
 use Rattle.model_machine.specs.Told.{told_in}
 use Rattle.law_changes.specs.Changes.{PartsChange, CallsSoon, MakesFuture, Settles, made_of_parts}
 use Rattle.law_changes.specs.Reaches.{Reaches}
-use Rattle.law_cases.specs.Trees.{is_of_streams, made_in, names_nobody}
+use Rattle.law_cases.specs.Trees.{Owned, is_of_streams, made_in, names_opened}
 
--- a change of the parts that a tree may make
-abbrev pub MayInTree : PartsChange → Parts → Type 0
-MayInTree (CallsSoon it) p = is_of_streams it ≡ true
-MayInTree (MakesFuture kind) p = kind ≡ Plain
-MayInTree (Settles future outcome) p = (is_plain p future ≡ true) × (names_nobody outcome ≡ true)
-MayInTree _ p = ⊥
+-- what there was where a tree begins
+abbrev pub owned_in : {S : Type 0} → State S → Owned
+owned_in s = record { has = is_plain s.loop.parts; connections = length s.streams.connections }
+
+-- a change of the parts that a tree may make, where there are so many connections
+abbrev pub MayInTree : (connections : ℕ) → PartsChange → Parts → Type 0
+MayInTree connections (CallsSoon it) p = is_of_streams it ≡ true
+MayInTree connections (MakesFuture kind) p = kind ≡ Plain
+MayInTree connections (Settles future outcome) p =
+    (is_plain p future ≡ true) × (names_opened connections outcome ≡ true)
+MayInTree connections _ p = ⊥
 
 pub record IsTreeEnd {S : Type 0} (s t : State S) : Type 0 where
   pub program : t.program ≡ s.program
@@ -27,7 +32,7 @@ pub record IsTreeEnd {S : Type 0} (s t : State S) : Type 0 where
   pub futures : t.futures ≡ s.futures
   pub main_done : t.main_done ≡ s.main_done
   pub loop : t.loop ≡ record s.loop { parts = t.loop.parts }
-  pub row : Reaches made_of_parts MayInTree s.loop.parts t.loop.parts
+  pub row : Reaches made_of_parts (MayInTree (length s.streams.connections)) s.loop.parts t.loop.parts
   pub told : (group : ℕ) → told_in t.events group ≡ told_in s.events group
   -- futures that were plain are, and those that were made are plain and pending
   pub kept : (future : ℕ) → is_plain s.loop.parts future ≡ true → is_plain t.loop.parts future ≡ true
@@ -43,5 +48,6 @@ pub record IsStreamsEnd {S : Type 0} (s t : State S) (streams : Streams) : Type 
       → times_kept future streams ≤ times_kept future s.streams + made_in (next_future s.loop.parts) (next_future t.loop.parts) future
   pub asked : (future : ℕ)
       → times_asked future streams ≤ times_asked future s.streams + made_in (next_future s.loop.parts) (next_future t.loop.parts) future
+  pub servers : length s.streams.servers ≤ length streams.servers
   pub connections : length s.streams.connections ≤ length streams.connections
   pub children : length s.streams.children ≤ length streams.children

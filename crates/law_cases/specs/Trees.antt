@@ -1,6 +1,6 @@
 -- What a tree of streams does to the loop: the handles that it appends are of streams, it asks nothing that a turn or what is
--- added asks, the futures that it settles are its own, with no value of a script's, and those that are kept then were its own or
--- made in it, each as often as before, or once.
+-- added asks, the futures that it settles are its own, with no value of a script's but a connection that is there, and those that
+-- are kept then were its own or made in it, each as often as before, or once.
 use Rattle.std.specs.Prelude.{◌≡◌, ◌⊎◌, ℕ, ◌+◌, ◌≤◌, ◌<◌, Bool, true, false, ◌&&◌, Option, Some, None, length, nat_le, nat_lt, if◌then◌else◌}
 use Rattle.model_value.specs.declared.action.Action.TheVariants as action
 use Rattle.model_value.specs.declared.outcome.Outcome.TheVariants.{Value as Returned, Failed}
@@ -44,32 +44,36 @@ is_aside (call.Select wait watched) = true
 is_aside (call.Extra code bytes) = true
 is_aside _ = false
 
--- an outcome that is no value of a script's
-abbrev pub names_nobody : Outcome → Bool
-names_nobody (Returned Nothing) = true
-names_nobody (Returned (Int number)) = true
-names_nobody (Returned (Conn id)) = true
-names_nobody (Failed fault) = true
-names_nobody _ = false
+-- an outcome that is no value of a script's, or one of so many connections
+abbrev pub names_opened : (connections : ℕ) → Outcome → Bool
+names_opened connections (Returned Nothing) = true
+names_opened connections (Returned (Int number)) = true
+names_opened connections (Returned (Conn id)) = nat_lt id connections
+names_opened connections (Failed fault) = true
+names_opened connections _ = false
 
--- ---- futures: `own` tells those that were kept before
-abbrev pub IsOwn : (own : ℕ → Bool) → ℕ → Type 0
-IsOwn own future = own future ≡ true
+-- ---- what there was before: `own` tells the futures that were kept, and how many connections there were
+pub record Owned : Type 0 where
+  pub has : ℕ → Bool
+  pub connections : ℕ
+
+abbrev pub IsOwn : (own : Owned) → ℕ → Type 0
+IsOwn own future = own.has future ≡ true
 
 -- numbered from `first` on, and below `next`
 abbrev pub IsMade : (first next : ℕ) → ℕ → Type 0
 IsMade first next future = (first ≤ future) × (future < next)
 
-abbrev pub IsKnown : (own : ℕ → Bool) → (first next : ℕ) → ℕ → Type 0
+abbrev pub IsKnown : (own : Owned) → (first next : ℕ) → ℕ → Type 0
 IsKnown own first next future = IsOwn own future ⊎ IsMade first next future
 
 -- ---- a tree, where the future that is made next has the number `next`; `Left` is of what it ends with
-abbrev pub Keeping : {A : Type 0} → (Left : (next : ℕ) → A → Type 0) → (own : ℕ → Bool) → (next : ℕ) → Doing A → Type 0
+abbrev pub Keeping : {A : Type 0} → (Left : (next : ℕ) → A → Type 0) → (own : Owned) → (next : ℕ) → Doing A → Type 0
 Keeping Left own next (Ends result) = Left next result
 Keeping Left own next (Changes MakeFuture rest) = Keeping Left own (next + 1) rest
 Keeping Left own next (Changes (CallSoon it) rest) = (is_of_streams it ≡ true) × Keeping Left own next rest
 Keeping Left own next (Changes (Settle future outcome) rest) =
-    (IsOwn own future × (names_nobody outcome ≡ true)) × Keeping Left own next rest
+    (IsOwn own future × (names_opened own.connections outcome ≡ true)) × Keeping Left own next rest
 Keeping Left own next (Asks asked rest) = (is_aside asked ≡ false) × ((answer : Answer) → Keeping Left own next (rest answer))
 
 -- ---- what a tree ends with: streams
@@ -79,15 +83,16 @@ made_in first next future = if nat_le first future && nat_lt future next then 1 
 
 -- Of the streams from which it began: a future is kept no more often than there, but for those that were made, and what is open
 -- there is open still.
-pub record KeepsStreams (own : ℕ → Bool) (first : ℕ) (before : Streams) (next : ℕ) (after : Streams) : Type 0 where
+pub record KeepsStreams (own : Owned) (first : ℕ) (before : Streams) (next : ℕ) (after : Streams) : Type 0 where
   pub kept : StreamsKeep (IsKnown own first next) after
   pub times : (future : ℕ) → times_kept future after ≤ times_kept future before + made_in first next future
   pub asked : (future : ℕ) → times_asked future after ≤ times_asked future before + made_in first next future
+  pub servers : length before.servers ≤ length after.servers
   pub connections : length before.connections ≤ length after.connections
   pub children : length before.children ≤ length after.children
 
 -- and an answer: a future that it waits on was made in it
-abbrev pub AnswersStreams : {R : Type 0} → (Waits : (ℕ → Type 0) → R → Type 0) → (own : ℕ → Bool) → (first : ℕ) → (before : Streams)
+abbrev pub AnswersStreams : {R : Type 0} → (Waits : (ℕ → Type 0) → R → Type 0) → (own : Owned) → (first : ℕ) → (before : Streams)
     → (next : ℕ) → Streams × R → Type 0
 AnswersStreams Waits own first before next done = KeepsStreams own first before next done.0 × Waits (IsMade first next) done.1
 
@@ -117,6 +122,14 @@ abbrev pub ConnectWaits : (connections : ℕ) → (ℕ → Type 0) → Option (�
 ConnectWaits connections P None = Unit {0}
 ConnectWaits connections P (Some begun) = (begun.0 < connections) × P begun.1
 
-abbrev pub ConnectsStreams : (own : ℕ → Bool) → (first : ℕ) → (before : Streams) → (next : ℕ) → Streams × Option (ℕ × ℕ) → Type 0
+abbrev pub ConnectsStreams : (own : Owned) → (first : ℕ) → (before : Streams) → (next : ℕ) → Streams × Option (ℕ × ℕ) → Type 0
 ConnectsStreams own first before next done =
     KeepsStreams own first before next done.0 × ConnectWaits (length done.0.connections) (IsMade first next) done.1
+
+-- what is opened: its number, which one of so many has then
+abbrev pub IsOneOf : (count : ℕ) → Option ℕ → Type 0
+IsOneOf count None = Unit {0}
+IsOneOf count (Some id) = id < count
+
+abbrev pub OpensStreams : (count : Streams → ℕ) → (own : Owned) → (first : ℕ) → (before : Streams) → (next : ℕ) → Streams × Option ℕ → Type 0
+OpensStreams count own first before next done = KeepsStreams own first before next done.0 × IsOneOf (count done.0) done.1

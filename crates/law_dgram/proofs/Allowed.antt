@@ -11,19 +11,19 @@ use Rattle.model_loop.specs.Futures.{next_future}
 use Rattle.model_loop.specs.Loop.{Loop}
 use Rattle.model_loop.specs.Owning.{owner_at}
 use Rattle.model_loop.specs.Parts.{Parts, Plain}
-use Rattle.model_loop.specs.Tasks.{next_task}
 use Rattle.model_says.specs.Operations.{out_of_range}
 use Rattle.model_says.specs.Requests.{bad_argument}
 use Rattle.model_machine.specs.Extra.{Answers, Asks, ExtraAnswer, ExtraCall, ExtraSaid, ExtraStep, MakesPlain, Raises, Settles, Waits, called, key_of, made_by}
 use Rattle.model_machine.specs.Extra.{made_by_all, unknown_code}
-use Rattle.model_machine.specs.Sound.{AreKept, IsNoneOf, IsOwned, names_made, sends_made}
+use Rattle.model_machine.specs.Sound.{AreKept, Ids, IsNoneOf, IsOwned, ids_of, names_made, sends_made}
 use Rattle.model_machine.specs.State.{State}
 use Rattle.model_reach.specs.Part.{can_draw, only_says, passes, place_of, refuses, stays}
 use Rattle.law_cancel.proofs.Lookups.{get-push_last}
 use Rattle.law_steps.proofs.CancelSound.{plain_within}
 use Rattle.law_runs.specs.Allowed.{AreAllowed, IsAllowed, IsAmong, IsAnswerAllowed, IsCallAllowed, IsKeyAllowed, IsOwn, IsSaidAllowed, MakesAllowedSteps, MayCall}
 use Rattle.law_runs.specs.Allowed.{Owns, ends_made, owns_at}
-use Rattle.law_runs.proofs.Called.{steps_keep}
+use Rattle.law_replies.proofs.Ids.{IsMore, names_up}
+use Rattle.law_runs.proofs.Called.{called_more, steps_keep}
 use Rattle.law_runs.proofs.Steps.{all_after}
 use Rattle.model_dgram.specs.Endpoints.{Closes, Endpoints, Offers, Opens, Receives, Sends, Waiting, dgram_keeps, dgram_part, next_key, waiting_at}
 use Rattle.model_dgram.specs.Serving.{Wanted, asked_for, dgram_means, served, told, wanted_of, woken}
@@ -41,24 +41,24 @@ IsNone (Some it) = ⊥
 -- what is its own stays so
 owned_on : (own : Owns) (step : ExtraStep) (l : Loop) (id : ℕ) → IsAllowed own step l → IsOwned l.parts id → IsOwned (made_by step l).parts id
 owned_on own step l id may o =
-    let a = (all_after (next_task l.parts) None own (step ∷ []) l refl (may, tt)).parts in
+    let a = (all_after None own (step ∷ []) l (may, tt)).parts in
     (let f = a.futures in let w = o.0 in omega (arith, f, w), a.owners id o.0 ∙ o.1)
 
 module _ (running : Option ℕ) (s : State Endpoints) (may : MayCall dgram_means running s) where
   abbrev p : Parts
   p = s.loop.parts
 
-  abbrev n : ℕ
-  n = next_task s.loop.parts
+  abbrev n : Ids
+  n = ids_of s
 
   abbrev own : Owns
-  own = owns_at (dgram_keeps s.extra) s.loop.parts
+  own = owns_at (ids_of s) (dgram_keeps s.extra) s.loop.parts
 
   abbrev Old : ℕ → Type 0
   Old id = IsAmong (dgram_keeps s.extra).own id
 
   abbrev Made : Value → Type 0
-  Made value = names_made (next_task s.loop.parts) value ≡ true
+  Made value = names_made (ids_of s) value ≡ true
 
   pub holds : Holds Old s.extra.waiting
   holds = holds_from Old s.extra (each_from Old (dgram_keeps s.extra).own (λ id among. among))
@@ -89,7 +89,7 @@ module _ (running : Option ℕ) (s : State Endpoints) (may : MayCall dgram_means
       let ok : IsAllowed own (Settles future outcome) l = (
         inl wakes.0.0,
         owned future wakes.0.0,
-        ap (ends_made (next_task l.parts)) wakes.0.1,
+        ap (ends_made (ids_of s)) wakes.0.1,
       ) in
       (ok, wakes_allowed steps (made_by (Settles future outcome) l) wakes.1 (λ id old. owned_on own (Settles future outcome) l id ok (owned id old)))
   wakes_allowed (_ ∷ steps) l wakes owned = absurd wakes.0
@@ -135,16 +135,16 @@ module _ (running : Option ℕ) (s : State Endpoints) (may : MayCall dgram_means
       ok : AreAllowed own steps s.loop
       ok = wakes_allowed steps s.loop wakes old_owned
 
-      kept_on : AreKept (dgram_keeps s.extra) s.futures (made_by_all steps s.loop).parts
+      kept_on : AreKept (ids_of s) (dgram_keeps s.extra) s.futures (made_by_all steps s.loop).parts
       kept_on = steps_keep own (dgram_keeps s.extra) s.futures steps s.loop ok may.kept
 
   -- ---- one that goes through, or asks the outside
-  answer_made : (may : Type 0) (key : ℕ) (answer : ExtraAnswer) (t : State Endpoints) → next_task t.loop.parts ≡ n → AnswerHolds Old Made may key answer
+  answer_made : (may : Type 0) (key : ℕ) (answer : ExtraAnswer) (t : State Endpoints) → IsMore n (ids_of t) → AnswerHolds Old Made may key answer
       → IsAnswerAllowed answer t
-  answer_made may key (Answers value) t same h = ap (λ k. names_made k value) same ∙ h
-  answer_made may key (Raises exception) t same h = tt
-  answer_made may key (Waits on other) t same h = absurd h
-  answer_made may key (Asks code bytes other) t same h = tt
+  answer_made may key (Answers value) t more h = names_up n (ids_of t) more value h
+  answer_made may key (Raises exception) t more h = tt
+  answer_made may key (Waits on other) t more h = absurd h
+  answer_made may key (Asks code bytes other) t more h = tt
 
   answer_key : (may : Type 0) (key : ℕ) (answer : ExtraAnswer) → AnswerHolds Old Made may key answer → (other : ℕ) → key_of answer ≡ Some other → key ≡ other
   answer_key may key (Answers value) h other e = absurd (cc)
@@ -160,7 +160,7 @@ module _ (running : Option ℕ) (s : State Endpoints) (may : MayCall dgram_means
     call = wakes_call woken said.call.steps said.call.state g.steps g.state (let e = g.keys in omega (arith, e, more));
     answer =
         answer_made (may_ask said.call.state) key said.answer (called said.call s)
-        ((all_after n None own said.call.steps s.loop refl (wakes_allowed said.call.steps s.loop g.steps old_owned)).parts.same refl) g.answer;
+        (called_more dgram_means said.call s (wakes_allowed said.call.steps s.loop g.steps old_owned)) g.answer;
     key = λ other e.
         subst (IsKeyAllowed woken (dgram_keeps s.extra) (dgram_keeps said.call.state)) (answer_key (may_ask said.call.state) key said.answer g.answer other e)
         (keyed said.call.state g.keys);

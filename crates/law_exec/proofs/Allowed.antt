@@ -1,30 +1,26 @@
 -- Jobs beside the loop make allowed steps alone, and what they keep stays right.
-use Rattle.std.proofs.Common.{◌≡◌, ℕ, ℤ, pos, ◌+◌, ◌<◌, ◌≤◌, ◌⊎◌, inl, inr, Bool, true, false, List, [], ◌∷◌, Option, Some, None, length}
+use Rattle.std.proofs.Common.{◌≡◌, ℕ, ℤ, pos, ◌+◌, ◌≤◌, ◌⊎◌, inl, inr, Bool, true, false, List, [], ◌∷◌, Option, Some, None}
 use Rattle.std.proofs.Common.{refl, sym, ap, subst, ◌∙◌, arith, le_refl, length-append}
 use Rattle.std.specs.Prelude.{if◌then◌else◌}
-use Rattle.std.specs.List.{AllByRecursion as Each}
 use Rattle.std.specs.Option.{option_map_or}
 use Rattle.model_value.specs.Input.{Input}
-use Rattle.model_value.specs.Value.{Nothing, Value}
+use Rattle.model_value.specs.Value.{Bytes, Nothing, Value}
 use Rattle.model_value.specs.declared.input.Input.TheVariants.{Send, Throw}
 use Rattle.model_value.specs.declared.outcome.Outcome.TheVariants.{Value as Returned}
 use Rattle.model_loop.specs.Futures.{next_future}
 use Rattle.model_loop.specs.Loop.{Loop}
 use Rattle.model_loop.specs.Owning.{owner_at}
 use Rattle.model_loop.specs.Parts.{Parts, Plain}
-use Rattle.model_loop.specs.Tasks.{next_task}
 use Rattle.model_says.specs.Operations.{out_of_range}
 use Rattle.model_says.specs.Requests.{bad_argument}
-use Rattle.model_machine.specs.Extra as extra
 use Rattle.model_machine.specs.Extra.{Answers, Asks, ExtraAnswer, ExtraStep, MakesPlain, Raises, Settles, Waits, called, key_of, made_by, made_by_all, unknown_code}
-use Rattle.model_machine.specs.Sound.{IsNoneOf, IsOwned, names_made, sends_made}
+use Rattle.model_machine.specs.Sound.{Ids, IsNoneOf, IsOwned, ids_of, sends_made}
 use Rattle.model_machine.specs.State.{State}
 use Rattle.model_reach.specs.Part.{can_draw, only_says, passes, place_of, refuses, stays}
 use Rattle.law_cancel.proofs.Lookups.{get-push_last}
 use Rattle.law_steps.proofs.CancelSound.{plain_within}
 use Rattle.law_runs.specs.Allowed.{AreAllowed, IsAllowed, IsAmong, IsAnswerAllowed, IsCallAllowed, IsKeyAllowed, IsOwn, IsSaidAllowed, MakesAllowedSteps, MayCall}
 use Rattle.law_runs.specs.Allowed.{Owns, owns_at}
-use Rattle.law_runs.proofs.Called.{steps_keep}
 use Rattle.law_runs.proofs.Steps.{all_after}
 use Rattle.model_fields.specs.Fields.{numbered}
 use Rattle.model_exec.specs.Jobs.{is_job, job_code, job_text}
@@ -47,18 +43,18 @@ same_key key other e = ap (λ o. option_map_or (λ (k : ℕ). k) o key) e
 -- ---- what is its own stays so
 owned_on : (own : Owns) (step : ExtraStep) (l : Loop) (id : ℕ) → IsAllowed own step l → IsOwned l.parts id → IsOwned (made_by step l).parts id
 owned_on own step l id may o =
-    let a = (all_after (next_task l.parts) None own (step ∷ []) l refl (may, tt)).parts in
+    let a = (all_after None own (step ∷ []) l (may, tt)).parts in
     (let f = a.futures in let w = o.0 in omega (arith, f, w), a.owners id o.0 ∙ o.1)
 
 module _ (running : Option ℕ) (s : State Execed) (may : MayCall exec_means running s) where
   abbrev p : Parts
   p = s.loop.parts
 
-  abbrev n : ℕ
-  n = next_task s.loop.parts
+  abbrev n : Ids
+  n = ids_of s
 
   abbrev own : Owns
-  own = owns_at (exec_keeps s.extra) s.loop.parts
+  own = owns_at (ids_of s) (exec_keeps s.extra) s.loop.parts
 
   abbrev Old : ℕ → Type 0
   Old id = IsAmong (exec_keeps s.extra).own id
@@ -209,20 +205,19 @@ module _ (running : Option ℕ) (s : State Execed) (may : MayCall exec_means run
         at false = no_more (Raises strange_answer) tt tt
     answered_allowed (Throw exception) = no_more (Raises exception) tt tt
 
-    waited_allowed : (came : Option (List ℕ)) (input : Input) → sends_made n input ≡ true
-        → IsSaidAllowed exec_means (Some key) (waited place came input s.extra) s
-    waited_allowed came (Send value) made = no_more (Answers (came_as came value)) (came_made came) tt
-      where
-        came_made : (came : Option (List ℕ)) → names_made n (came_as came value) ≡ true
-        came_made None = made
-        came_made (Some result) = refl
-    waited_allowed came (Throw exception) made = no_more (Raises exception) tt tt
+    came_allowed : (came : Option (List ℕ)) → IsSaidAllowed exec_means (Some key) (says (stand_no_more place s.extra) [] (came_as came)) s
+    came_allowed None = no_more (Raises strange_answer) tt tt
+    came_allowed (Some result) = no_more (Answers (Bytes result)) refl tt
+
+    waited_allowed : (came : Option (List ℕ)) (input : Input) → IsSaidAllowed exec_means (Some key) (waited place came input s.extra) s
+    waited_allowed came (Send value) = came_allowed came
+    waited_allowed came (Throw exception) = no_more (Raises exception) tt tt
 
     wake_allowed : (input : Input) → sends_made n input ≡ true → (o : Option Standing)
         → IsSaidAllowed exec_means (Some key) (woken o key place input p s.extra) s
     wake_allowed input made None = passes_allowed key input made
     wake_allowed input made (Some Asking) = answered_allowed input
-    wake_allowed input made (Some (Waiting on came)) = waited_allowed came input made
+    wake_allowed input made (Some (Waiting on came)) = waited_allowed came input
 
   -- ---- news
   given_allowed : (number place : ℕ) (result : List ℕ) (o : Option Standing) → standing_at place s.extra ≡ o

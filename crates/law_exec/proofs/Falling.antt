@@ -1,5 +1,5 @@
 -- A request that is woken and waits does so under its key, and on what is pending.
-use Rattle.std.proofs.Common.{◌≡◌, ℕ, ◌+◌, Bool, true, false, List, [], ◌∷◌, Option, Some, None, refl, sym, ap, ◌∙◌}
+use Rattle.std.proofs.Common.{◌≡◌, ℕ, Bool, true, false, [], ◌∷◌, Option, Some, None, refl, sym, ap, ◌∙◌}
 use Rattle.std.specs.Prelude.{is_some, if◌then◌else◌}
 use Rattle.std.specs.Option.{option_map_or}
 use Rattle.std.proofs.lemmas.Bool.{false≢true}
@@ -7,12 +7,12 @@ use Rattle.model_value.specs.Input.{Input}
 use Rattle.model_value.specs.declared.input.Input.TheVariants.{Send, Throw}
 use Rattle.model_loop.specs.Futures.{next_future, outcome_at}
 use Rattle.model_loop.specs.Parts.{Plain}
-use Rattle.model_machine.specs.Extra.{Answers, ExtraAnswer, ExtraSaid, KeepsKeys, MakesPlain, Raises, Waits, WakesFall, called, is_woken_at_once, key_of}
+use Rattle.model_machine.specs.Extra.{ExtraSaid, KeepsKeys, MakesPlain, Raises, Waits, WakesFall, called, is_woken_at_once, key_of}
 use Rattle.model_machine.specs.State.{State}
-use Rattle.model_reach.specs.Part.{only_says, passes, place_of}
+use Rattle.model_reach.specs.Part.{place_of}
 use Rattle.law_cancel.proofs.Lookups.{get-push_last}
 use Rattle.model_exec.specs.Execed.{Asking, Execed, Standing, Waiting, accept, exec_part, says, stand_no_more, stand_on, standing_at}
-use Rattle.model_exec.specs.Serving.{answered, came_as, exec_means, is_next, strange_answer, waited, woken}
+use Rattle.model_exec.specs.Serving.{answered, exec_means, is_next, strange_answer, woken}
 
 -- it waits on what is pending, under this key, or it waits no more
 abbrev WaitsAgain : (key : ℕ) → State Execed → ExtraSaid Execed → Type 0
@@ -29,7 +29,7 @@ module _ (key place : ℕ) (s : State Execed) where
       at : (b : Bool)
           → WaitsAgain key s
           (if b then says (accept place (stand_on place (Waiting (next_future s.loop.parts) None) s.extra)) (MakesPlain ∷ [])
-              (Waits (next_future s.loop.parts) key)
+          (Waits (next_future s.loop.parts) key)
           else says (stand_no_more place s.extra) [] (Raises strange_answer))
       at true = (
         λ next e. ap (λ o. option_map_or (λ (k : ℕ). k) o key) (sym e),
@@ -42,7 +42,8 @@ module _ (key place : ℕ) (s : State Execed) where
   again (Send value) None = (λ next e. no_key key next e, refl)
   again (Throw exception) None = (λ next e. no_key key next e, refl)
   again input (Some Asking) = answered_again input
-  again (Send value) (Some (Waiting on came)) = (λ next e. no_key key next e, refl)
+  again (Send value) (Some (Waiting on None)) = (λ next e. no_key key next e, refl)
+  again (Send value) (Some (Waiting on (Some result))) = (λ next e. no_key key next e, refl)
   again (Throw exception) (Some (Waiting on came)) = (λ next e. no_key key next e, refl)
 
 pub exec_falls : WakesFall exec_means

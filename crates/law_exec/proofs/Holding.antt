@@ -1,7 +1,8 @@
 -- What is so of each future that is kept.
-use Rattle.std.proofs.Common.{◌≡◌, ℕ, ◌+◌, List, [], ◌∷◌, ◌++◌, Option, Some, None}
-use Rattle.std.specs.List.{AllByRecursion as Each, flat_map}
+use Rattle.std.proofs.Common.{◌≡◌, ℕ, List, [], ◌∷◌, Option, Some}
+use Rattle.std.specs.List.{AllByRecursion as Each}
 use Rattle.model_exec.specs.Execed.{Asking, Execed, Standing, Waiting, ask_last, exec_keeps, is_number, on_of, stand_no_more, stand_on, standing_at}
+pub use Rattle.law_sync.proofs.Lists.{all_each, among_each, each_all, each_from, replaced_among}
 use Rattle.law_sync.proofs.Lists.{each_append, each_flat, each_found, each_on, each_removed, each_replaced, flat_each}
 
 module _ (P : ℕ → Type 0) where

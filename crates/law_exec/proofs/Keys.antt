@@ -1,5 +1,5 @@
 -- Keys: the next one wasn't drawn, and those that were stay so.
-use Rattle.std.proofs.Common.{◌≡◌, ℕ, ◌+◌, ◌<◌, ◌≤◌, true, false, refl, ap, ◌∙◌, arith}
+use Rattle.std.proofs.Common.{◌≡◌, ℕ, ◌+◌, ◌≤◌, true, false, refl, ap, ◌∙◌, arith}
 use Rattle.std.specs.Prelude.{◌%◌, ◌&&◌, ◌==◌, nat_lt, if◌then◌else◌}
 use Rattle.std.proofs.lemmas.Bool.{and_from, and_parts, eq-eqb, eqb-true, le-ltb, lt-ltb, ltb-true}
 use Rattle.model_reach.specs.Part.{key_at, place_of, was_drawn}

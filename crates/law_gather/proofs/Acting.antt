@@ -1,5 +1,5 @@
 -- What handles that run and requests that are woken come to makes allowed steps alone.
-use Rattle.std.proofs.Common.{◌≡◌, ℕ, ◌-◌, Bool, true, false, cond, List, [], ◌∷◌, ◌++◌, Option, Some, None, slice_get, slice_set, refl, sym, ap, subst, ◌∙◌, arith}
+use Rattle.std.proofs.Common.{◌≡◌, ℕ, ◌-◌, Bool, true, false, cond, List, [], ◌∷◌, ◌++◌, Option, Some, None, slice_get, slice_set, refl, sym, subst, arith}
 use Rattle.std.proofs.Common.{append-nil, inl}
 use Rattle.std.specs.Option.{option_map_or}
 use Rattle.std.specs.Prelude.{◌&&◌, filter, if◌then◌else◌, nat_le, not, Ok, Err}
@@ -15,14 +15,15 @@ use Rattle.model_says.specs.Operations.{deepest, heaviest, out_of_range}
 use Rattle.model_loop.specs.Futures.{future_outcome, is_pending}
 use Rattle.model_loop.specs.Loop.{Loop}
 use Rattle.model_loop.specs.Parts.{Parts}
-use Rattle.model_loop.specs.Tasks.{cancelling, future_of, next_task}
+use Rattle.model_loop.specs.Tasks.{cancelling, future_of}
 use Rattle.model_loop.specs.Timeouts.{timeout_exception}
 use Rattle.model_machine.specs.Extra.{Answers, Cancels, ExtraAnswer, ExtraStep, Raises, Revokes, Uncancels, called, key_of, made_by, made_by_all}
-use Rattle.model_machine.specs.Sound.{IsOwned, IsTagOwned, all_made, names_made, sends_made}
+use Rattle.model_machine.specs.Sound.{Ids, IsOwned, IsTagOwned, all_made, ids_of, names_made, sends_made}
 use Rattle.model_machine.specs.State.{State}
 use Rattle.model_reach.specs.Part.{key_at, only_says, passes}
 use Rattle.law_runs.specs.Allowed.{AreAllowed, IsAmong, IsAnswerAllowed, IsCallAllowed, IsSaidAllowed, MayCall, owns_at}
-use Rattle.law_runs.proofs.Steps.{all_after}
+use Rattle.law_replies.proofs.Ids.{IsMore, names_up}
+use Rattle.law_runs.proofs.Called.{called_more}
 use Rattle.model_gather.specs.Gathered.{Argument, Drawn, Expired, Expiring, Finished, Gathered, Gathering, Gathers, Rings, Shields, Tells, Timed, TimedState, TimedWait}
 use Rattle.model_gather.specs.Gathered.{Waiting, Waits, WaitsFor, gather_keeps, gather_part, own_in, resolved, settled_as, tag_in, values_of}
 use Rattle.model_gather.specs.Gather.{count, gather_told, was_asked}
@@ -44,15 +45,15 @@ module _ (running : Option ℕ) (s : State Gathered) (may : MayCall gather_means
 
   -- ---- its own future gets an outcome, if there is one
   own_settled : (place : ℕ) (it : Drawn) (on : ℕ) (o : Option Outcome) → slice_get s.extra.drawn place ≡ Some it → IsAmong (own_in it) on
-      → Each (IsOwned s.loop.parts) (own_in it) → IsOwned s.loop.parts on → AreMade (next_task s.loop.parts) o
-      → AreAllowed (owns_at (gather_keeps s.extra) s.loop.parts) (settled_as o on) s.loop
+      → Each (IsOwned s.loop.parts) (own_in it) → IsOwned s.loop.parts on → AreMade (ids_of s) o
+      → AreAllowed (owns_at (ids_of s) (gather_keeps s.extra) s.loop.parts) (settled_as o on) s.loop
   own_settled place it on o e mine all owned made =
-      on_allowed (owns_at (gather_keeps s.extra) s.loop.parts) (next_task s.loop.parts) on 0
+      on_allowed (owns_at (ids_of s) (gather_keeps s.extra) s.loop.parts) on 0
       (inl (flat_among own_in s.extra.drawn place it on e mine)) (settled_as o on) s.loop
-      (record { same = refl; more = omega arith; owned = owned })
-      (settled_on (next_task s.loop.parts) on 0 o made)
+      (record { more = omega arith; owned = owned })
+      (settled_on (ids_of s) on 0 o made)
 
-  ended_made : (id : ℕ) (o : Option Outcome) → future_outcome s.loop.parts id ≡ o → AreMade (next_task s.loop.parts) o
+  ended_made : (id : ℕ) (o : Option Outcome) → future_outcome s.loop.parts id ≡ o → AreMade (ids_of s) o
   ended_made id None e = tt
   ended_made id (Some (Returned value)) e = may.outcomes id value e
   ended_made id (Some (Failed fault)) e = refl
@@ -66,7 +67,7 @@ module _ (running : Option ℕ) (s : State Gathered) (may : MayCall gather_means
       let owned = (there_now place (Gathers it) e).own in
       let steps = settled_as (count s.loop.parts asked member it).outcome it.outer in
       let ok = own_settled place (Gathers it) it.outer (count s.loop.parts asked member it).outcome e (0, refl) owned owned.0
-      (count_made (next_task s.loop.parts) s.loop.parts may.outcomes asked member it) in
+      (count_made (ids_of s) s.loop.parts may.outcomes asked member it) in
       let f = fits_still running s may steps ok place (Gathers it) e in
       call_at running s may steps ok None place (Gathers (count s.loop.parts asked member it).now) (record {
         tasks = f.tasks;
@@ -82,7 +83,7 @@ module _ (running : Option ℕ) (s : State Gathered) (may : MayCall gather_means
   abbrev resolved_if : Bool → Option Outcome
   resolved_if over = if over then Some resolved else None
 
-  resolved_made : (over : Bool) → AreMade (next_task s.loop.parts) (resolved_if over)
+  resolved_made : (over : Bool) → AreMade (ids_of s) (resolved_if over)
   resolved_made true = refl
   resolved_made false = tt
 
@@ -164,18 +165,18 @@ module _ (running : Option ℕ) (s : State Gathered) (may : MayCall gather_means
   acted_allowed (Some _) = stays_allowed running s may None
 
   -- ---- its task goes on
-  passes_made : (input : Input) (n : ℕ) → sends_made n input ≡ true → (t : State Gathered) → next_task t.loop.parts ≡ n
+  passes_made : (input : Input) (n : Ids) → sends_made n input ≡ true → (t : State Gathered) → IsMore n (ids_of t)
       → IsAnswerAllowed (passes input) t
-  passes_made (Send value) n made t e = ap (λ k. names_made k value) e ∙ made
-  passes_made (Throw fault) n made t e = tt
+  passes_made (Send value) n made t more = names_up n (ids_of t) more value made
+  passes_made (Throw fault) n made t more = tt
 
   abbrev tag_list : Option ℕ → List ℕ
   tag_list timer = option_map_or (λ (tag : ℕ). tag ∷ []) timer []
 
   -- a timer that it has is given up
   revoked_allowed : (place : ℕ) (it : Drawn) (timer : Option ℕ) (rest : List ExtraStep) → slice_get s.extra.drawn place ≡ Some it
-      → tag_in it ≡ tag_list timer → ((l : Loop) → AreAllowed (owns_at (gather_keeps s.extra) s.loop.parts) rest l)
-      → AreAllowed (owns_at (gather_keeps s.extra) s.loop.parts) (revoked timer ++ rest) s.loop
+      → tag_in it ≡ tag_list timer → ((l : Loop) → AreAllowed (owns_at (ids_of s) (gather_keeps s.extra) s.loop.parts) rest l)
+      → AreAllowed (owns_at (ids_of s) (gather_keeps s.extra) s.loop.parts) (revoked timer ++ rest) s.loop
   revoked_allowed place it None rest e is ok = ok s.loop
   revoked_allowed place it (Some tag) rest e is ok = (
     (
@@ -186,16 +187,13 @@ module _ (running : Option ℕ) (s : State Gathered) (may : MayCall gather_means
   )
 
   only_revoked : (place : ℕ) (it : Drawn) (timer : Option ℕ) → slice_get s.extra.drawn place ≡ Some it → tag_in it ≡ tag_list timer
-      → AreAllowed (owns_at (gather_keeps s.extra) s.loop.parts) (revoked timer) s.loop
-  only_revoked place it timer e is = subst (λ steps. AreAllowed (owns_at (gather_keeps s.extra) s.loop.parts) steps s.loop) (append-nil (revoked timer))
+      → AreAllowed (owns_at (ids_of s) (gather_keeps s.extra) s.loop.parts) (revoked timer) s.loop
+  only_revoked place it timer e is =
+      subst (λ steps. AreAllowed (owns_at (ids_of s) (gather_keeps s.extra) s.loop.parts) steps s.loop) (append-nil (revoked timer))
       (revoked_allowed place it timer [] e is (λ l. tt))
 
-  tasks_same : (steps : List ExtraStep) → AreAllowed (owns_at (gather_keeps s.extra) s.loop.parts) steps s.loop
-      → next_task (made_by_all steps s.loop).parts ≡ next_task s.loop.parts
-  tasks_same steps ok = (all_after (next_task s.loop.parts) None (owns_at (gather_keeps s.extra) s.loop.parts) steps s.loop refl ok).parts.same refl
-
   -- the lists of a wait
-  rows_made : (n : ℕ) (test : Argument → Bool) (arguments : List Argument) → Each (λ (it : Argument). names_made n it.value ≡ true) arguments
+  rows_made : (n : Ids) (test : Argument → Bool) (arguments : List Argument) → Each (λ (it : Argument). names_made n it.value ≡ true) arguments
       → all_made n (values (values_of (filter test arguments))) ≡ true
   rows_made n test [] all = refl
   rows_made n test (it ∷ others) all = at (rows_made n test others all.1) (test it)
@@ -205,23 +203,24 @@ module _ (running : Option ℕ) (s : State Gathered) (may : MayCall gather_means
       at rest true = and_from (names_made n it.value) _ all.0 rest
       at rest false = rest
 
-  unmapped : (n : ℕ) (arguments : List Argument) → Each (λ x. names_made n x ≡ true) (values_of arguments)
+  unmapped : (n : Ids) (arguments : List Argument) → Each (λ x. names_made n x ≡ true) (values_of arguments)
       → Each (λ (it : Argument). names_made n it.value ≡ true) arguments
   unmapped n [] all = tt
   unmapped n (it ∷ others) all = (all.0, unmapped n others all.1)
 
-  sorted_made : (p : Parts) (arguments : List Argument) (t : State Gathered)
-      → Each (λ (it : Argument). names_made (next_task t.loop.parts) it.value ≡ true) arguments → IsAnswerAllowed (sorted p arguments) t
-  sorted_made p arguments t all =
+  sorted_made : (p : Parts) (arguments : List Argument) (t : State Gathered) → IsMore (ids_of s) (ids_of t)
+      → Each (λ (it : Argument). names_made (ids_of s) it.value ≡ true) arguments → IsAnswerAllowed (sorted p arguments) t
+  sorted_made p arguments t more all =
       at (nat_le (weight_of (both_lists p arguments)) heaviest && nat_le (depth_of (both_lists p arguments)) deepest)
     where
       at : (b : Bool) → IsAnswerAllowed
           (elim (if b then Ok (both_lists p arguments) else Err out_of_range) [ Ok value ↦ Answers value | Err fault ↦ Raises fault ]) t
       at true =
-          and_from (names_made (next_task t.loop.parts) (done_list p arguments)) _
-          (rows_made (next_task t.loop.parts) (λ it. not (is_pending p it.future)) arguments all)
-          (and_from (names_made (next_task t.loop.parts) (left_list p arguments)) _
-          (rows_made (next_task t.loop.parts) (λ it. is_pending p it.future) arguments all) refl)
+          names_up (ids_of s) (ids_of t) more (both_lists p arguments)
+          (and_from (names_made (ids_of s) (done_list p arguments)) _
+          (rows_made (ids_of s) (λ it. not (is_pending p it.future)) arguments all)
+          (and_from (names_made (ids_of s) (left_list p arguments)) _
+          (rows_made (ids_of s) (λ it. is_pending p it.future) arguments all) refl))
       at false = tt
 
   wait_woken_said : (key place : ℕ) (input : Input) (it : Waiting) → slice_get s.extra.drawn place ≡ Some (Waits it)
@@ -232,12 +231,13 @@ module _ (running : Option ℕ) (s : State Gathered) (may : MayCall gather_means
     key = λ next is. absurd (subst IsNone is (none input));
   }
     where
-      ok : AreAllowed (owns_at (gather_keeps s.extra) s.loop.parts) (revoked it.timer) s.loop
+      ok : AreAllowed (owns_at (ids_of s) (gather_keeps s.extra) s.loop.parts) (revoked it.timer) s.loop
       ok = only_revoked place (Waits it) it.timer e refl
 
       says : (input : Input) → IsAnswerAllowed (wait_woken input it s.loop.parts s.extra).answer
           (called (wait_woken input it s.loop.parts s.extra).call s)
       says (Send value) = sorted_made s.loop.parts it.arguments (called (wait_woken (Send value) it s.loop.parts s.extra).call s)
+          (called_more gather_means (wait_woken (Send value) it s.loop.parts s.extra).call s ok)
           (unmapped _ it.arguments (fits_still running s may (revoked it.timer) ok place (Waits it) e).values)
       says (Throw fault) = tt
 
@@ -246,9 +246,9 @@ module _ (running : Option ℕ) (s : State Gathered) (may : MayCall gather_means
       none (Throw fault) = tt
 
   timed_said : (key place : ℕ) (it : TimedWait) (state : TimedState) (timer : Option ℕ) (steps : List ExtraStep) (answer : ExtraAnswer)
-      → slice_get s.extra.drawn place ≡ Some (WaitsFor it) → AreAllowed (owns_at (gather_keeps s.extra) s.loop.parts) steps s.loop
+      → slice_get s.extra.drawn place ≡ Some (WaitsFor it) → AreAllowed (owns_at (ids_of s) (gather_keeps s.extra) s.loop.parts) steps s.loop
       → ((P : ℕ → Type 0) → Each P (tag_list it.timer) → Each P (tag_list timer))
-      → ((t : State Gathered) → next_task t.loop.parts ≡ next_task s.loop.parts → IsAnswerAllowed answer t) → IsNone (key_of answer)
+      → ((t : State Gathered) → IsMore (ids_of s) (ids_of t) → IsAnswerAllowed answer t) → IsNone (key_of answer)
       → IsSaidAllowed gather_means (Some key) (record {
         call = record {
           state = record s.extra { drawn = slice_set s.extra.drawn place (WaitsFor (record it { state = state; timer = timer })) };
@@ -269,11 +269,11 @@ module _ (running : Option ℕ) (s : State Gathered) (may : MayCall gather_means
           my_tags = tags (IsMyTag running s may) f.my_tags;
           values = f.values;
         });
-        answer = says _ (tasks_same steps all);
+        answer = says _ (called_more gather_means (record { state = s.extra; steps = steps }) s all);
         key = λ next is. absurd (subst IsNone is none);
       }
 
-  over_said : (key place : ℕ) (input : Input) (it : TimedWait) → sends_made (next_task s.loop.parts) input ≡ true
+  over_said : (key place : ℕ) (input : Input) (it : TimedWait) → sends_made (ids_of s) input ≡ true
       → slice_get s.extra.drawn place ≡ Some (WaitsFor it) → IsSaidAllowed gather_means (Some key) (record {
         call = record {
           state = record s.extra { drawn = slice_set s.extra.drawn place (WaitsFor (record it { state = Finished; timer = None })) };
@@ -283,18 +283,18 @@ module _ (running : Option ℕ) (s : State Gathered) (may : MayCall gather_means
       }) s
   over_said key place input it made e =
       timed_said key place it Finished None (revoked it.timer) (passes input) e (only_revoked place (WaitsFor it) it.timer e refl) (λ P h. tt)
-      (λ t same. passes_made input (next_task s.loop.parts) made t same) (passes_once input)
+      (λ t more. passes_made input (ids_of s) made t more) (passes_once input)
 
-  wait_for_says_made : (input : Input) (it : TimedWait) → sends_made (next_task s.loop.parts) input ≡ true → (t : State Gathered)
-      → next_task t.loop.parts ≡ next_task s.loop.parts → IsAnswerAllowed (wait_for_says input it s.loop.parts) t
-  wait_for_says_made input it made t same = at (nat_le (cancelling s.loop.parts it.task - 1) it.stored && cancels_in input)
+  wait_for_says_made : (input : Input) (it : TimedWait) → sends_made (ids_of s) input ≡ true → (t : State Gathered)
+      → IsMore (ids_of s) (ids_of t) → IsAnswerAllowed (wait_for_says input it s.loop.parts) t
+  wait_for_says_made input it made t more = at (nat_le (cancelling s.loop.parts it.task - 1) it.stored && cancels_in input)
     where
       at : (b : Bool) → IsAnswerAllowed (if b then Raises timeout_exception else passes input) t
       at true = tt
-      at false = passes_made input (next_task s.loop.parts) made t same
+      at false = passes_made input (ids_of s) made t more
 
   wait_for_woken_said : (key place : ℕ) (input : Input) (it : TimedWait) (state : TimedState) → it.state ≡ state
-      → sends_made (next_task s.loop.parts) input ≡ true → slice_get s.extra.drawn place ≡ Some (WaitsFor it)
+      → sends_made (ids_of s) input ≡ true → slice_get s.extra.drawn place ≡ Some (WaitsFor it)
       → IsSaidAllowed gather_means (Some key) (wait_for_woken place input (record it { state = state }) s.loop.parts s.extra) s
   wait_for_woken_said key place input it Expiring is made e =
       timed_said key place it Expired it.timer (revoked it.timer ++ Uncancels (key_at gather_part place) it.task ∷ [])
@@ -305,12 +305,12 @@ module _ (running : Option ℕ) (s : State Gathered) (may : MayCall gather_means
   wait_for_woken_said key place input it Expired is made e = over_said key place input it made e
   wait_for_woken_said key place input it Finished is made e = over_said key place input it made e
 
-  passes_said : (key : ℕ) (input : Input) → sends_made (next_task s.loop.parts) input ≡ true
+  passes_said : (key : ℕ) (input : Input) → sends_made (ids_of s) input ≡ true
       → IsSaidAllowed gather_means (Some key) (only_says (passes input) s.extra) s
   passes_said key (Send value) made = says_allowed running s may (Some key) (Answers value) made tt
   passes_said key (Throw fault) made = says_allowed running s may (Some key) (Raises fault) tt tt
 
-  pub woken_said : (o : Option Drawn) (key place : ℕ) (input : Input) → sends_made (next_task s.loop.parts) input ≡ true
+  pub woken_said : (o : Option Drawn) (key place : ℕ) (input : Input) → sends_made (ids_of s) input ≡ true
       → slice_get s.extra.drawn place ≡ o → IsSaidAllowed gather_means (Some key) (woken o place input s.loop.parts s.extra) s
   woken_said None key place input made e = passes_said key input made
   woken_said (Some (Waits it)) key place input made e = wait_woken_said key place input it e

@@ -21,7 +21,7 @@ use Rattle.model_machine.specs.Arguments.{as_awaited, as_delay, as_int, as_list}
 use Rattle.model_machine.specs.Extra.{Answers, ExtraAnswer, ExtraSaid, ExtraStep, CallsLater, MakesMany, MakesPlain, Raises}
 use Rattle.model_machine.specs.Extra.{key_of, made_by, made_by_all, unknown_code}
 use Rattle.model_machine.specs.Outcomes.{input_of}
-use Rattle.model_machine.specs.Sound.{IsAwaitable, IsOwned, IsTagOwned, all_made, names_made}
+use Rattle.model_machine.specs.Sound.{Ids, IsAwaitable, IsOwned, IsTagOwned, all_made, ids_of, names_made}
 use Rattle.model_machine.specs.State.{State}
 use Rattle.model_machine.specs.Told.{told_in}
 use Rattle.model_reach.specs.Part.{can_draw, key_at, passes, refuses}
@@ -52,28 +52,27 @@ module _ (running : Option ℕ) (s : State Gathered) (may : MayCall gather_means
 
   -- ---- a future of its own is made first
   record MadeFirst (first : ExtraStep) : Type 0 where
-    may_make : AreAllowed (owns_at (gather_keeps s.extra) s.loop.parts) (first ∷ []) s.loop
-    same : next_task (made_by first s.loop).parts ≡ next_task s.loop.parts
+    may_make : AreAllowed (owns_at (ids_of s) (gather_keeps s.extra) s.loop.parts) (first ∷ []) s.loop
     more : next_future s.loop.parts ≤ next_future (made_by first s.loop).parts
     owned : IsOwned (made_by first s.loop).parts (next_future s.loop.parts)
 
   module _ (first : ExtraStep) (it : MadeFirst first) (rest : List ExtraStep)
-      (on : AreOn (next_task s.loop.parts) (next_future s.loop.parts) (next_future s.loop.parts) rest) where
+      (on : AreOn (ids_of s) (next_future s.loop.parts) (next_future s.loop.parts) rest) where
     abbrev q : Parts
     q = (made_by_all rest (made_by first s.loop)).parts
 
-    rest_allowed : AreAllowed (owns_at (gather_keeps s.extra) s.loop.parts) rest (made_by first s.loop)
+    rest_allowed : AreAllowed (owns_at (ids_of s) (gather_keeps s.extra) s.loop.parts) rest (made_by first s.loop)
     rest_allowed =
-        on_allowed (owns_at (gather_keeps s.extra) s.loop.parts) (next_task s.loop.parts) (next_future s.loop.parts) (next_future s.loop.parts)
-        (inr (le_refl _)) rest (made_by first s.loop) (record { same = it.same; more = it.more; owned = it.owned }) on
+        on_allowed (owns_at (ids_of s) (gather_keeps s.extra) s.loop.parts) (next_future s.loop.parts) (next_future s.loop.parts)
+        (inr (le_refl _)) rest (made_by first s.loop) (record { more = it.more; owned = it.owned }) on
 
-    first_allowed : AreAllowed (owns_at (gather_keeps s.extra) s.loop.parts) (first ∷ rest) s.loop
+    first_allowed : AreAllowed (owns_at (ids_of s) (gather_keeps s.extra) s.loop.parts) (first ∷ rest) s.loop
     first_allowed = (it.may_make.0, rest_allowed)
 
     -- what could be awaited can be still
     still : (ids : List ℕ) → Each There ids → Each (IsAwaitable s.futures q) ids
     still ids these =
-        (steps_keep (owns_at (gather_keeps s.extra) s.loop.parts)
+        (steps_keep {ids = ids_of s} (owns_at (ids_of s) (gather_keeps s.extra) s.loop.parts)
         (record { tasks = []; futures = ids; own = []; tags = []; values = []; has_key = λ key. false }) s.futures (first ∷ rest) s.loop first_allowed
         (record {
           tasks = tt;
@@ -86,7 +85,7 @@ module _ (running : Option ℕ) (s : State Gathered) (may : MayCall gather_means
 
     own_still : IsOwned q (next_future s.loop.parts)
     own_still =
-        (steps_keep (owns_at (gather_keeps s.extra) s.loop.parts)
+        (steps_keep {ids = ids_of s} (owns_at (ids_of s) (gather_keeps s.extra) s.loop.parts)
         (record { tasks = []; futures = []; own = next_future s.loop.parts ∷ []; tags = []; values = []; has_key = λ key. false }) s.futures rest (made_by first s.loop)
         rest_allowed (record {
           tasks = tt;
@@ -96,12 +95,6 @@ module _ (running : Option ℕ) (s : State Gathered) (may : MayCall gather_means
           tags = tt;
           values = refl;
         })).own.0
-
-    values_still : (xs : List Value) → list_all (names_made (next_task s.loop.parts)) xs ≡ true → list_all (names_made (next_task q)) xs ≡ true
-    values_still xs made =
-        (steps_keep (owns_at (gather_keeps s.extra) s.loop.parts)
-        (record { tasks = []; futures = []; own = []; tags = []; values = xs; has_key = λ key. false }) s.futures (first ∷ rest) s.loop first_allowed
-        (record { tasks = tt; awaitable = tt; own = tt; apart = tt; tags = tt; values = made })).values
 
   made_longer : (kind : FutureKind) → next_future (make_future kind s.loop.parts) ≡ next_future s.loop.parts + 1
   made_longer kind = length-append s.loop.parts.futures (record { kind = kind; outcome = None; callbacks = [] } ∷ [])
@@ -116,7 +109,6 @@ module _ (running : Option ℕ) (s : State Gathered) (may : MayCall gather_means
   plain_first : MadeFirst MakesPlain
   plain_first = record {
     may_make = (tt, tt);
-    same = refl;
     more = let n = made_longer Plain in omega (arith, n);
     owned = made_owned Plain refl;
   }
@@ -130,7 +122,6 @@ module _ (running : Option ℕ) (s : State Gathered) (may : MayCall gather_means
             (each_on There (λ member. member < next_future s.loop.parts) (λ x h. h.1) members those),
         tt,
       );
-      same = refl;
       more = let n = made_longer (Many members false) in omega (arith, n);
       owned = made_owned (Many members false) refl;
     }
@@ -153,13 +144,13 @@ module _ (running : Option ℕ) (s : State Gathered) (may : MayCall gather_means
     open_there : Each There open_
     open_there = each_filter There (is_pending s.loop.parts) members those
 
-    steps_on : AreOn (next_task s.loop.parts) (next_future s.loop.parts) (next_future s.loop.parts) steps
+    steps_on : AreOn (ids_of s) (next_future s.loop.parts) (next_future s.loop.parts) steps
     steps_on =
-        registered_on (next_task s.loop.parts) (next_future s.loop.parts) (next_future s.loop.parts) gather_part (suc (length s.extra.drawn)) open_
+        registered_on (ids_of s) (next_future s.loop.parts) (next_future s.loop.parts) gather_part (suc (length s.extra.drawn)) open_
         (settled_as counted.outcome (next_future s.loop.parts))
         (each_on There (λ id. id < next_future s.loop.parts) (λ x h. h.1) open_ open_there)
-        (settled_on (next_task s.loop.parts) (next_future s.loop.parts) (next_future s.loop.parts) counted.outcome
-        (counts_made (next_task s.loop.parts) s.loop.parts may.outcomes false done first))
+        (settled_on (ids_of s) (next_future s.loop.parts) (next_future s.loop.parts) counted.outcome
+        (counts_made (ids_of s) s.loop.parts may.outcomes false done first))
 
     abbrev after_all : Parts
     after_all = q (MakesMany members) many_first steps steps_on
@@ -192,7 +183,7 @@ module _ (running : Option ℕ) (s : State Gathered) (may : MayCall gather_means
     }
 
   -- ---- a request that is answered as it is asked
-  at_once_said : (answer : ExtraAnswer) → ((t : State Gathered) → t.loop ≡ s.loop → IsAnswerAllowed answer t) → IsNone (key_of answer)
+  at_once_said : (answer : ExtraAnswer) → ((t : State Gathered) → ids_of t ≡ ids_of s → IsAnswerAllowed answer t) → IsNone (key_of answer)
       → IsSaidAllowed gather_means None (at_once answer s.extra) s
   at_once_said answer ok none = at (can_draw gather_part (length s.extra.drawn) 1)
     where
@@ -224,16 +215,16 @@ module _ (running : Option ℕ) (s : State Gathered) (may : MayCall gather_means
   -- its future was made, and its value names what was
   pub record IsArgument (it : Argument) : Type 0 where
     pub there : IsThere gather_means running s may it.future
-    pub made : names_made (next_task s.loop.parts) it.value ≡ true
+    pub made : names_made (ids_of s) it.value ≡ true
 
   arguments_there : (arguments : List Argument) → Each IsArgument arguments → Each There (futures_of arguments)
   arguments_there [] a = tt
   arguments_there (it ∷ others) a = (a.0.there, arguments_there others a.1)
 
   arguments_made : (arguments : List Argument) → Each IsArgument arguments
-      → list_all (names_made (next_task s.loop.parts)) (values_of arguments) ≡ true
+      → list_all (names_made (ids_of s)) (values_of arguments) ≡ true
   arguments_made [] a = refl
-  arguments_made (it ∷ others) a = and_from (names_made (next_task s.loop.parts) it.value) _ a.0.made (arguments_made others a.1)
+  arguments_made (it ∷ others) a = and_from (names_made (ids_of s) it.value) _ a.0.made (arguments_made others a.1)
 
   distinct_arguments_each : (arguments : List Argument) → Each IsArgument arguments → Each IsArgument (distinct_arguments arguments)
   distinct_arguments_each [] a = tt
@@ -243,7 +234,7 @@ module _ (running : Option ℕ) (s : State Gathered) (may : MayCall gather_means
         (distinct_arguments_each others a.1),
   )
 
-  rings_on : (n outer bound : ℕ) (delay : Option ℤ) (key : ℕ) (p : Parts) → AreOn n outer bound (rings_after delay key p)
+  rings_on : (n : Ids) (outer bound : ℕ) (delay : Option ℤ) (key : ℕ) (p : Parts) → AreOn n outer bound (rings_after delay key p)
   rings_on n outer bound None key p = tt
   rings_on n outer bound (Some (pos delay)) key p = tt
   rings_on n outer bound (Some (negsuc before)) key p = tt
@@ -258,12 +249,12 @@ module _ (running : Option ℕ) (s : State Gathered) (may : MayCall gather_means
   abbrev tag_list : Option ℤ → ℕ → List ℕ
   tag_list delay tag = option_map_or (λ (tag : ℕ). tag ∷ []) (tag_if_some delay tag) []
 
-  front_sound : (front : List ExtraStep) → AreAllowed (owns_at (gather_keeps s.extra) s.loop.parts) front s.loop
+  front_sound : (front : List ExtraStep) → AreAllowed (owns_at (ids_of s) (gather_keeps s.extra) s.loop.parts) front s.loop
       → IsNumbered (made_by_all front s.loop).parts
-  front_sound front ok = (all_sound running (told_in s.events) (owns_at (gather_keeps s.extra) s.loop.parts) front s.loop ok may.loop).numbered
+  front_sound front ok = (all_sound running (told_in s.events) (owns_at (ids_of s) (gather_keeps s.extra) s.loop.parts) front s.loop ok may.loop).numbered
 
   timer_owned : (front : List ExtraStep) → (tag : ℕ) → (made_by_all front s.loop).parts.next_tag ≡ tag
-      → AreAllowed (owns_at (gather_keeps s.extra) s.loop.parts) front s.loop → (delay : Option ℤ) (key : ℕ) (p : Parts)
+      → AreAllowed (owns_at (ids_of s) (gather_keeps s.extra) s.loop.parts) front s.loop → (delay : Option ℤ) (key : ℕ) (p : Parts)
       → Each (IsTagOwned (made_by_all (front ++ rings_after delay key p) s.loop).parts) (tag_list delay tag)
   timer_owned front tag e ok None key p = tt
   timer_owned front tag e ok (Some (pos delay)) key p = (at (deadline p.time (pos delay)), tt)
@@ -305,16 +296,16 @@ module _ (running : Option ℕ) (s : State Gathered) (may : MayCall gather_means
     waited_within : Each (λ id. id < next_future s.loop.parts) waited
     waited_within = each_on There (λ id. id < next_future s.loop.parts) (λ x h. h.1) waited waited_there
 
-    wait_on : AreOn (next_task s.loop.parts) (next_future s.loop.parts) (next_future s.loop.parts) wait_steps
+    wait_on : AreOn (ids_of s) (next_future s.loop.parts) (next_future s.loop.parts) wait_steps
     wait_on =
-        registered_on (next_task s.loop.parts) (next_future s.loop.parts) (next_future s.loop.parts) gather_part (suc (length s.extra.drawn)) waited
+        registered_on (ids_of s) (next_future s.loop.parts) (next_future s.loop.parts) gather_part (suc (length s.extra.drawn)) waited
         (rings_after delay ring_key s.loop.parts) waited_within
-        (rings_on (next_task s.loop.parts) (next_future s.loop.parts) (next_future s.loop.parts) delay ring_key s.loop.parts)
+        (rings_on (ids_of s) (next_future s.loop.parts) (next_future s.loop.parts) delay ring_key s.loop.parts)
 
     abbrev wait_after : Parts
     wait_after = q MakesPlain plain_first wait_steps wait_on
 
-    wait_allowed : AreAllowed (owns_at (gather_keeps s.extra) s.loop.parts) (MakesPlain ∷ wait_steps) s.loop
+    wait_allowed : AreAllowed (owns_at (ids_of s) (gather_keeps s.extra) s.loop.parts) (MakesPlain ∷ wait_steps) s.loop
     wait_allowed = first_allowed MakesPlain plain_first wait_steps wait_on
 
     abbrev wait_tag : ℕ
@@ -339,11 +330,11 @@ module _ (running : Option ℕ) (s : State Gathered) (may : MayCall gather_means
       tags =
           timer_owned (MakesPlain ∷ handles) wait_tag
           (counted_tags Plain gather_part (suc (length s.extra.drawn)) waited s.loop (made_by MakesPlain s.loop) refl waited_within)
-          (allowed_left (owns_at (gather_keeps s.extra) s.loop.parts) (MakesPlain ∷ handles) (rings_after delay ring_key s.loop.parts) s.loop wait_allowed)
+          (allowed_left (owns_at (ids_of s) (gather_keeps s.extra) s.loop.parts) (MakesPlain ∷ handles)
+          (rings_after delay ring_key s.loop.parts) s.loop wait_allowed)
           delay ring_key s.loop.parts;
       my_tags = timer_mine delay wait_tag (omega arith);
-      values = each_true (names_made (next_task wait_after)) (values_of arguments)
-          (values_still MakesPlain plain_first wait_steps wait_on (values_of arguments) (arguments_made arguments those));
+      values = each_true (names_made (ids_of s)) (values_of arguments) (arguments_made arguments those);
     }
 
     abbrev wait_more : List Drawn
@@ -381,7 +372,7 @@ module _ (running : Option ℕ) (s : State Gathered) (may : MayCall gather_means
     abbrev shield_steps : List ExtraStep
     shield_steps = registered_from gather_part (suc (length s.extra.drawn)) (inner ∷ [])
 
-    shield_on : AreOn (next_task s.loop.parts) (next_future s.loop.parts) (next_future s.loop.parts) shield_steps
+    shield_on : AreOn (ids_of s) (next_future s.loop.parts) (next_future s.loop.parts) shield_steps
     shield_on = (there.1, tt)
 
     abbrev shield_after : Parts
@@ -410,9 +401,9 @@ module _ (running : Option ℕ) (s : State Gathered) (may : MayCall gather_means
       key = λ key e. key_new running s may shield_more (omega arith) key e;
     }
 
-    passes_made : (outcome : Outcome) → future_outcome s.loop.parts inner ≡ Some outcome → (t : State Gathered) → t.loop ≡ s.loop
+    passes_made : (outcome : Outcome) → future_outcome s.loop.parts inner ≡ Some outcome → (t : State Gathered) → ids_of t ≡ ids_of s
         → IsAnswerAllowed (passes (input_of outcome)) t
-    passes_made (Returned value) e t same = ap (λ (l : Loop). names_made (next_task l.parts) value) same ∙ may.outcomes inner value e
+    passes_made (Returned value) e t same = ap (λ ids. names_made ids value) same ∙ may.outcomes inner value e
     passes_made (Failed fault) e t same = tt
     passes_made Cancelled e t same = tt
 
@@ -434,7 +425,7 @@ module _ (running : Option ℕ) (s : State Gathered) (may : MayCall gather_means
     abbrev timed_steps : List ExtraStep
     timed_steps = rings_after delay timed_key s.loop.parts
 
-    timed_allowed : (o : Option ℤ) → AreAllowed (owns_at (gather_keeps s.extra) s.loop.parts) (rings_after o timed_key s.loop.parts) s.loop
+    timed_allowed : (o : Option ℤ) → AreAllowed (owns_at (ids_of s) (gather_keeps s.extra) s.loop.parts) (rings_after o timed_key s.loop.parts) s.loop
     timed_allowed None = tt
     timed_allowed (Some (pos delay)) = (tt, tt)
     timed_allowed (Some (negsuc before)) = (tt, tt)
@@ -446,7 +437,7 @@ module _ (running : Option ℕ) (s : State Gathered) (may : MayCall gather_means
 
     tasks_same : next_task (made_by_all timed_steps s.loop).parts ≡ next_task s.loop.parts
     tasks_same =
-        (all_after (next_task s.loop.parts) None (owns_at (gather_keeps s.extra) s.loop.parts) timed_steps s.loop refl (timed_allowed delay)).parts.same refl
+        (all_after None (owns_at (ids_of s) (gather_keeps s.extra) s.loop.parts) timed_steps s.loop (timed_allowed delay)).parts.same refl
 
     futures_same : (o : Option ℤ) → next_future (made_by_all (rings_after o timed_key s.loop.parts) s.loop).parts ≡ next_future s.loop.parts
     futures_same None = refl
@@ -505,30 +496,30 @@ module _ (running : Option ℕ) (s : State Gathered) (may : MayCall gather_means
   served_said (Some it) task lives is = serve_said it task lives is
 
   -- ---- where the list has the request's shape
-  pairs_there : (xs : List Value) (ids : List ℕ) → list_all (names_made (next_task s.loop.parts)) xs ≡ true → Each There ids
+  pairs_there : (xs : List Value) (ids : List ℕ) → list_all (names_made (ids_of s)) xs ≡ true → Each There ids
       → Each IsArgument (paired xs ids)
   pairs_there [] ids made there = tt
   pairs_there (x ∷ xs) [] made there = tt
   pairs_there (x ∷ xs) (id ∷ ids) made there =
-      let b = and_parts (names_made (next_task s.loop.parts) x) (list_all (names_made (next_task s.loop.parts)) xs) made in
+      let b = and_parts (names_made (ids_of s) x) (list_all (names_made (ids_of s)) xs) made in
       (record { there = there.0; made = b.0 }, pairs_there xs ids b.1 there.1)
 
-  rows_made : (rows : Values) → all_made (next_task s.loop.parts) rows ≡ true
-      → list_all (names_made (next_task s.loop.parts)) (list_of rows) ≡ true
+  rows_made : (rows : Values) → all_made (ids_of s) rows ≡ true
+      → list_all (names_made (ids_of s)) (list_of rows) ≡ true
   rows_made no_values made = refl
   rows_made (value_then x others) made =
-      let b = and_parts (names_made (next_task s.loop.parts) x) (all_made (next_task s.loop.parts) others) made in
-      and_from (names_made (next_task s.loop.parts) x) _ b.0 (rows_made others b.1)
+      let b = and_parts (names_made (ids_of s) x) (all_made (ids_of s) others) made in
+      and_from (names_made (ids_of s) x) _ b.0 (rows_made others b.1)
 
-  items_made : (x : Value) (items : List Value) → as_list x ≡ Some items → names_made (next_task s.loop.parts) x ≡ true
-      → list_all (names_made (next_task s.loop.parts)) items ≡ true
-  items_made (Items rows) items e made = subst (λ xs. list_all (names_made (next_task s.loop.parts)) xs ≡ true) (same e) (rows_made rows made)
+  items_made : (x : Value) (items : List Value) → as_list x ≡ Some items → names_made (ids_of s) x ≡ true
+      → list_all (names_made (ids_of s)) items ≡ true
+  items_made (Items rows) items e made = subst (λ xs. list_all (names_made (ids_of s)) xs ≡ true) (same e) (rows_made rows made)
     where
       same : {A : Type 0} {x y : A} → Some x ≡ Some y → x ≡ y
       same e = cc
   items_made _ items e made = absurd (cc)
 
-  wait_there : (mode delay x : Value) → names_made (next_task s.loop.parts) x ≡ true
+  wait_there : (mode delay x : Value) → names_made (ids_of s) x ≡ true
       → IfRequest (requested s Wait (mode ∷ delay ∷ x ∷ []))
   wait_there mode delay x made = listed (as_list x) refl
     where
@@ -538,7 +529,7 @@ module _ (running : Option ℕ) (s : State Gathered) (may : MayCall gather_means
       shaped items ids is (Some number) None = tt
       shaped items ids is (Some number) (Some time) = is
 
-      awaited : (items : List Value) → list_all (names_made (next_task s.loop.parts)) items ≡ true → (o : Option (List ℕ))
+      awaited : (items : List Value) → list_all (names_made (ids_of s)) items ≡ true → (o : Option (List ℕ))
           → AreThere gather_means running s may o
           → IfRequest (option_and_then (λ ids. both (λ number time. OfWait (mode_of number) time (paired items ids)) (as_int mode) (as_delay delay)) o)
       awaited items all None there = tt
@@ -565,7 +556,7 @@ module _ (running : Option ℕ) (s : State Gathered) (may : MayCall gather_means
   wait_for_there (Some on) there None = tt
   wait_for_there (Some on) there (Some delay) = there
 
-  pub requested_there : (wanted : Wanted) (xs : List Value) → list_all (names_made (next_task s.loop.parts)) xs ≡ true
+  pub requested_there : (wanted : Wanted) (xs : List Value) → list_all (names_made (ids_of s)) xs ≡ true
       → IfRequest (requested s wanted xs)
   requested_there (Gather as_items) xs made = gather_there as_items (as_all_awaited s xs) (all_there gather_means running s may xs made)
   requested_there Wait (mode ∷ delay ∷ x ∷ []) made =
@@ -578,7 +569,7 @@ module _ (running : Option ℕ) (s : State Gathered) (may : MayCall gather_means
   requested_there WaitFor _ made = tt
 
 pub asked_said : (o : Option Wanted) (task : ℕ) (code : ℤ) (xs : List Value) (s : State Gathered) (may : MayCall gather_means (Some task) s)
-    → list_all (names_made (next_task s.loop.parts)) xs ≡ true → IsSaidAllowed gather_means None (asked o task code xs s) s
+    → list_all (names_made (ids_of s)) xs ≡ true → IsSaidAllowed gather_means None (asked o task code xs s) s
 asked_said None task code xs s may made = says_allowed (Some task) s may None (Raises (unknown_code code)) tt tt
 asked_said (Some wanted) task code xs s may made =
     served_said (Some task) s may (requested s wanted xs) task

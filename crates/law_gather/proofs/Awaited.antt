@@ -11,7 +11,7 @@ use Rattle.model_loop.specs.Parts.{Parts, Task}
 use Rattle.model_loop.specs.Tasks.{future_of, next_task}
 use Rattle.model_machine.specs.Arguments.{as_awaited}
 use Rattle.model_machine.specs.Extra.{Extra}
-use Rattle.model_machine.specs.Sound.{IsAwaitable, names_made}
+use Rattle.model_machine.specs.Sound.{IsAwaitable, ids_of, names_made}
 use Rattle.model_machine.specs.State.{State}
 use Rattle.law_replies.proofs.Counts.{own_there}
 use Rattle.law_steps.proofs.CancelSound.{plain_within}
@@ -51,7 +51,7 @@ module _ {S : Type 0} (added : Extra S) (running : Option ℕ) (s : State S) (ma
   IfThere None = Unit {0}
   IfThere (Some id) = IsThere id
 
-  pub one_there : (x : Value) → names_made (next_task p) x ≡ true → IfThere (as_awaited s x)
+  pub one_there : (x : Value) → names_made (ids_of s) x ≡ true → IfThere (as_awaited s x)
   one_there (Fut id) h = at (slice_get s.futures id) refl
     where
       at : (o : Option ℕ) → slice_get s.futures id ≡ o → IfThere o
@@ -60,10 +60,10 @@ module _ {S : Type 0} (added : Extra S) (running : Option ℕ) (s : State S) (ma
   one_there (TaskValue id) h = task_there id (ltb-true id (next_task p) h)
   one_there _ h = tt
 
-  pub all_there : (xs : List Value) → list_all (names_made (next_task p)) xs ≡ true → AreThere (as_all_awaited s xs)
+  pub all_there : (xs : List Value) → list_all (names_made (ids_of s)) xs ≡ true → AreThere (as_all_awaited s xs)
   all_there [] h = tt
   all_there (x ∷ xs) h =
-      let b = and_parts (names_made (next_task p) x) (list_all (names_made (next_task p)) xs) h in
+      let b = and_parts (names_made (ids_of s) x) (list_all (names_made (ids_of s)) xs) h in
       at (as_awaited s x) (as_all_awaited s xs) (one_there x b.0) (all_there xs b.1)
     where
       at : (o : Option ℕ) (ids : Option (List ℕ)) → IfThere o → AreThere ids

@@ -10,7 +10,7 @@ use Rattle.model_loop.specs.Parts.{Parts}
 use Rattle.model_loop.specs.Tasks.{next_task}
 use Rattle.model_machine.specs.Extra.{ExtraAnswer, ExtraStep, MakesPlain, MakesMany, Registers, Settles, Releases, CallsSoon, CallsLater, Revokes, Cancels, Uncancels}
 use Rattle.model_machine.specs.Extra.{called, key_of, made_by, made_by_all}
-use Rattle.model_machine.specs.Sound.{AreKept, IsAwaitable, IsNoneOf, IsOwned, IsTagOwned, names_made}
+use Rattle.model_machine.specs.Sound.{AreKept, Ids, IsAwaitable, IsNoneOf, IsOwned, IsTagOwned, ids_of, names_made}
 use Rattle.model_machine.specs.State.{State}
 use Rattle.model_reach.specs.Part.{only_says, stays}
 use Rattle.law_steps.proofs.CancelSound.{plain_within}
@@ -26,7 +26,7 @@ use Rattle.law_gather.proofs.Lists.{all_true, each_from, each_on, each_true, fla
 use Rattle.law_gather.proofs.Made.{AreMade}
 
 -- ---- steps on a future of its own, and handles on futures that were made
-abbrev pub AreOn : (n outer bound : ℕ) → List ExtraStep → Type 0
+abbrev pub AreOn : (n : Ids) (outer bound : ℕ) → List ExtraStep → Type 0
 AreOn n outer bound [] = Unit {0}
 AreOn n outer bound (Registers future key ∷ steps) = (future < bound) × AreOn n outer bound steps
 AreOn n outer bound (Settles future outcome ∷ steps) = (future ≡ outer) × (ends_made n outcome ≡ true) × AreOn n outer bound steps
@@ -40,49 +40,47 @@ AreOn n outer bound (Cancels key future ∷ steps) = ⊥
 AreOn n outer bound (Uncancels key task ∷ steps) = ⊥
 
 -- what an allowed step leaves
-pub record Left (n bound outer : ℕ) (l : Loop) : Type 0 where
-  pub same : next_task l.parts ≡ n
+pub record Left (bound outer : ℕ) (l : Loop) : Type 0 where
   pub more : bound ≤ next_future l.parts
   pub owned : IsOwned l.parts outer
 
-left_on : (own : Owns) (n bound outer : ℕ) (step : ExtraStep) (l : Loop) → IsAllowed own step l → Left n bound outer l → Left n bound outer (made_by step l)
-left_on own n bound outer step l may left =
-    let a = (all_after (next_task l.parts) None own (step ∷ []) l refl (may, tt)).parts in
+left_on : (own : Owns) (bound outer : ℕ) (step : ExtraStep) (l : Loop) → IsAllowed own step l → Left bound outer l → Left bound outer (made_by step l)
+left_on own bound outer step l may left =
+    let a = (all_after None own (step ∷ []) l (may, tt)).parts in
     record {
-      same = a.same refl ∙ left.same;
       more = let f = a.futures in let m = left.more in omega (arith, f, m);
       owned = (let f = a.futures in let w = left.owned.0 in omega (arith, f, w), a.owners outer left.owned.0 ∙ left.owned.1);
     }
 
-pub on_allowed : (own : Owns) (n outer bound : ℕ) → IsOwn own.futures own.next_future outer → (steps : List ExtraStep) (l : Loop)
-    → Left n bound outer l → AreOn n outer bound steps → AreAllowed own steps l
-on_allowed own n outer bound mine [] l left on = tt
-on_allowed own n outer bound mine (Registers future key ∷ steps) l left on =
+pub on_allowed : (own : Owns) (outer bound : ℕ) → IsOwn own.futures own.next_future outer → (steps : List ExtraStep) (l : Loop)
+    → Left bound outer l → AreOn own.ids outer bound steps → AreAllowed own steps l
+on_allowed own outer bound mine [] l left on = tt
+on_allowed own outer bound mine (Registers future key ∷ steps) l left on =
     let may : IsAllowed own (Registers future key) l = let m = left.more in let w = on.0 in omega (arith, m, w) in
-    (may, on_allowed own n outer bound mine steps (made_by (Registers future key) l) (left_on own n bound outer (Registers future key) l may left) on.1)
-on_allowed own n outer bound mine (Settles future outcome ∷ steps) l left on =
+    (may, on_allowed own outer bound mine steps (made_by (Registers future key) l) (left_on own bound outer (Registers future key) l may left) on.1)
+on_allowed own outer bound mine (Settles future outcome ∷ steps) l left on =
     let may : IsAllowed own (Settles future outcome) l = (
       subst (IsOwn own.futures own.next_future) (sym on.0) mine,
       subst (IsOwned l.parts) (sym on.0) left.owned,
-      ap (λ k. ends_made k outcome) left.same ∙ on.1,
+      on.1,
     ) in
-    (may, on_allowed own n outer bound mine steps (made_by (Settles future outcome) l) (left_on own n bound outer (Settles future outcome) l may left) on.2)
-on_allowed own n outer bound mine (CallsLater when key ∷ steps) l left on =
-    (tt, on_allowed own n outer bound mine steps (made_by (CallsLater when key) l) (left_on own n bound outer (CallsLater when key) l tt left) on)
-on_allowed own n outer bound mine (MakesPlain ∷ steps) l left on = absurd on
-on_allowed own n outer bound mine (MakesMany members ∷ steps) l left on = absurd on
-on_allowed own n outer bound mine (Releases future ∷ steps) l left on = absurd on
-on_allowed own n outer bound mine (CallsSoon key ∷ steps) l left on = absurd on
-on_allowed own n outer bound mine (Revokes tag ∷ steps) l left on = absurd on
-on_allowed own n outer bound mine (Cancels key future ∷ steps) l left on = absurd on
-on_allowed own n outer bound mine (Uncancels key task ∷ steps) l left on = absurd on
+    (may, on_allowed own outer bound mine steps (made_by (Settles future outcome) l) (left_on own bound outer (Settles future outcome) l may left) on.2)
+on_allowed own outer bound mine (CallsLater when key ∷ steps) l left on =
+    (tt, on_allowed own outer bound mine steps (made_by (CallsLater when key) l) (left_on own bound outer (CallsLater when key) l tt left) on)
+on_allowed own outer bound mine (MakesPlain ∷ steps) l left on = absurd on
+on_allowed own outer bound mine (MakesMany members ∷ steps) l left on = absurd on
+on_allowed own outer bound mine (Releases future ∷ steps) l left on = absurd on
+on_allowed own outer bound mine (CallsSoon key ∷ steps) l left on = absurd on
+on_allowed own outer bound mine (Revokes tag ∷ steps) l left on = absurd on
+on_allowed own outer bound mine (Cancels key future ∷ steps) l left on = absurd on
+on_allowed own outer bound mine (Uncancels key task ∷ steps) l left on = absurd on
 
-pub registered_on : (n outer bound part place : ℕ) (ids : List ℕ) (rest : List ExtraStep) → Each (λ id. id < bound) ids → AreOn n outer bound rest
+pub registered_on : (n : Ids) (outer bound part place : ℕ) (ids : List ℕ) (rest : List ExtraStep) → Each (λ id. id < bound) ids → AreOn n outer bound rest
     → AreOn n outer bound (registered_from part place ids ++ rest)
 registered_on n outer bound part place [] rest made on = on
 registered_on n outer bound part place (id ∷ ids) rest made on = (made.0, registered_on n outer bound part (suc place) ids rest made.1 on)
 
-pub settled_on : (n outer bound : ℕ) (o : Option Outcome) → AreMade n o → AreOn n outer bound (settled_as o outer)
+pub settled_on : (n : Ids) (outer bound : ℕ) (o : Option Outcome) → AreMade n o → AreOn n outer bound (settled_as o outer)
 settled_on n outer bound None made = tt
 settled_on n outer bound (Some outcome) made = (refl, made, tt)
 
@@ -115,17 +113,17 @@ module _ (running : Option ℕ) (s : State Gathered) (may : MayCall gather_means
     pub mine : Each IsMine (own_in it)
     pub tags : Each (IsTagOwned q) (tag_in it)
     pub my_tags : Each IsMyTag (tag_in it)
-    pub values : Each (λ x. names_made (next_task q) x ≡ true) (values_in it)
+    pub values : Each (λ x. names_made (ids_of s) x ≡ true) (values_in it)
 
-  module _ (steps : List ExtraStep) (ok : AreAllowed (owns_at (gather_keeps s.extra) s.loop.parts) steps s.loop) where
+  module _ (steps : List ExtraStep) (ok : AreAllowed (owns_at (ids_of s) (gather_keeps s.extra) s.loop.parts) steps s.loop) where
     abbrev pub after : Parts
     after = (made_by_all steps s.loop).parts
 
-    old : AreKept (gather_keeps s.extra) s.futures after
-    old = steps_keep (owns_at (gather_keeps s.extra) s.loop.parts) (gather_keeps s.extra) s.futures steps s.loop ok may.kept
+    old : AreKept (ids_of s) (gather_keeps s.extra) s.futures after
+    old = steps_keep (owns_at (ids_of s) (gather_keeps s.extra) s.loop.parts) (gather_keeps s.extra) s.futures steps s.loop ok may.kept
 
-    old_values : Each (λ x. names_made (next_task after) x ≡ true) (flat_map values_in s.extra.drawn)
-    old_values = each_true (names_made (next_task after)) (flat_map values_in s.extra.drawn) old.values
+    old_values : Each (λ x. names_made (ids_of s) x ≡ true) (flat_map values_in s.extra.drawn)
+    old_values = each_true (names_made (ids_of s)) (flat_map values_in s.extra.drawn) old.values
 
     -- an entry that is there is right still
     pub fits_still : (place : ℕ) (it : Drawn) → slice_get s.extra.drawn place ≡ Some it → Fits after it
@@ -137,7 +135,7 @@ module _ (running : Option ℕ) (s : State Gathered) (may : MayCall gather_means
       mine = flat_at own_in IsMine s.extra.drawn place it e still_own;
       tags = flat_at tag_in (IsTagOwned after) s.extra.drawn place it e old.tags;
       my_tags = flat_at tag_in IsMyTag s.extra.drawn place it e still_tags;
-      values = flat_at values_in (λ x. names_made (next_task after) x ≡ true) s.extra.drawn place it e old_values;
+      values = flat_at values_in (λ x. names_made (ids_of s) x ≡ true) s.extra.drawn place it e old_values;
     }
 
     -- nothing of what is kept changes
@@ -161,9 +159,9 @@ module _ (running : Option ℕ) (s : State Gathered) (may : MayCall gather_means
         tags = flat_append tag_in (IsTagOwned after) s.extra.drawn more old.tags
             (flat_each tag_in (IsTagOwned after) more (each_on (Fits after) _ (λ it f. f.tags) more fit));
         values =
-            all_true (names_made (next_task after)) (flat_map values_in (s.extra.drawn ++ more))
-            (flat_append values_in (λ x. names_made (next_task after) x ≡ true) s.extra.drawn more old_values
-            (flat_each values_in (λ x. names_made (next_task after) x ≡ true) more (each_on (Fits after) _ (λ it f. f.values) more fit)));
+            all_true (names_made (ids_of s)) (flat_map values_in (s.extra.drawn ++ more))
+            (flat_append values_in (λ x. names_made (ids_of s) x ≡ true) s.extra.drawn more old_values
+            (flat_each values_in (λ x. names_made (ids_of s) x ≡ true) more (each_on (Fits after) _ (λ it f. f.values) more fit)));
       };
       own = flat_append own_in IsMine s.extra.drawn more still_own
           (flat_each own_in IsMine more (each_on (Fits after) _ (λ it f. f.mine) more fit));
@@ -186,8 +184,8 @@ module _ (running : Option ℕ) (s : State Gathered) (may : MayCall gather_means
         apart = flat_replaced own_in (IsNoneOf s.futures) s.extra.drawn place it old.apart fit.apart;
         tags = flat_replaced tag_in (IsTagOwned after) s.extra.drawn place it old.tags fit.tags;
         values =
-            all_true (names_made (next_task after)) (flat_map values_in (slice_set s.extra.drawn place it))
-            (flat_replaced values_in (λ x. names_made (next_task after) x ≡ true) s.extra.drawn place it old_values fit.values);
+            all_true (names_made (ids_of s)) (flat_map values_in (slice_set s.extra.drawn place it))
+            (flat_replaced values_in (λ x. names_made (ids_of s) x ≡ true) s.extra.drawn place it old_values fit.values);
       };
       own = flat_replaced own_in IsMine s.extra.drawn place it still_own fit.mine;
       tags = flat_replaced tag_in IsMyTag s.extra.drawn place it still_tags fit.my_tags;

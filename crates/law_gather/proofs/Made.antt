@@ -1,4 +1,4 @@
--- The tasks that outcomes of a gather name were made.
+-- What outcomes of a gather name was made.
 use Rattle.std.proofs.Common.{◌≡◌, ℕ, ◌-◌, Bool, true, false, ◌&&◌, not, List, [], ◌∷◌, Option, Some, None, Result, Ok, Err, refl}
 use Rattle.std.specs.Prelude.{nat_le, if◌then◌else◌, ◌==◌}
 use Rattle.std.specs.Option.{option_and_then, option_map_or}
@@ -10,17 +10,17 @@ use Rattle.model_value.specs.declared.outcome.Outcome.TheVariants.{Value as Retu
 use Rattle.model_says.specs.Operations.{deepest, heaviest, out_of_range}
 use Rattle.model_loop.specs.Futures.{future_outcome}
 use Rattle.model_loop.specs.Parts.{Parts}
-use Rattle.model_machine.specs.Sound.{all_made, names_made}
+use Rattle.model_machine.specs.Sound.{Ids, all_made, names_made}
 use Rattle.law_runs.specs.Allowed.{ends_made}
 use Rattle.model_gather.specs.Gathered.{Gathering}
 use Rattle.model_gather.specs.Gather.{count, count_all, decided, first_of, is_value, item_of, items_of, result_of}
 
 -- what a count decides
-abbrev pub AreMade : (n : ℕ) → Option Outcome → Type 0
+abbrev pub AreMade : (n : Ids) → Option Outcome → Type 0
 AreMade n None = Unit {0}
 AreMade n (Some outcome) = ends_made n outcome ≡ true
 
-module _ (n : ℕ) (p : Parts) (made : (id : ℕ) (value : Value) → future_outcome p id ≡ Some (Returned value) → names_made n value ≡ true) where
+module _ (n : Ids) (p : Parts) (made : (id : ℕ) (value : Value) → future_outcome p id ≡ Some (Returned value) → names_made n value ≡ true) where
   item_made : (o : Option Outcome) → ((value : Value) → o ≡ Some (Returned value) → names_made n value ≡ true)
       → names_made n (option_map_or item_of o Nothing) ≡ true
   item_made None h = refl

@@ -19,7 +19,9 @@ use Rattle.model_hub.specs.Others.{Got, Failed, Memory, is_given}
 use Rattle.model_hub.specs.Lanes.{serve}
 use Rattle.model_hub.specs.Gathering.{begin, gather, most_waiting}
 use Rattle.model_hub.specs.Select.{said_at, after_poll}
-use Rattle.model_hub.specs.Calls.{answer_to, is_empty, feed_child, offers_write, after_write, after_launching, launch_with, most_children}
+use Rattle.model_hub.specs.Calls.{answer_to, is_empty, feed_child, offers_write, after_write, extra, socket, after_launching, launch_with}
+use Rattle.model_hub.specs.Calls.{most_children}
+use Rattle.model_hub.specs.Told.{is_datagram}
 use Rattle.model_hub.specs.Asked.{HubSeen, Asks, PollKeeps, NetKeeps, HubKeeps}
 use Rattle.law_hub.proofs.Fitting.{and_first, and_second, select_fits}
 
@@ -101,21 +103,23 @@ net_said asks Memory before now keeps = tt
 said_fits : (asks : Call) (others : Others) (hub : Hub) (before now : ℕ) → HubKeeps asks others before now → SaidFits asks (answer_to asks others hub).1
 said_fits (call.Select wait watched) others hub before now keeps =
     poll_said wait watched others others.polled (serve others.lanes watched hub) before now keeps
-said_fits (call.Listen port) others hub before now keeps = net_said (call.Listen port) others.net before now keeps
-said_fits (call.Accept server) others hub before now keeps = net_said (call.Accept server) others.net before now keeps
-said_fits (call.Connect port) others hub before now keeps = net_said (call.Connect port) others.net before now keeps
-said_fits (call.Recv conn) others hub before now keeps = net_said (call.Recv conn) others.net before now keeps
-said_fits (call.Send conn bytes) others hub before now keeps = net_said (call.Send conn bytes) others.net before now keeps
+said_fits (call.Listen port) others hub before now keeps = net_said (call.Listen port) others.net before now (keeps refl)
+said_fits (call.Accept server) others hub before now keeps = net_said (call.Accept server) others.net before now (keeps refl)
+said_fits (call.Connect port) others hub before now keeps = net_said (call.Connect port) others.net before now (keeps refl)
+said_fits (call.Recv conn) others hub before now keeps = net_said (call.Recv conn) others.net before now (keeps refl)
+said_fits (call.Send conn bytes) others hub before now keeps = net_said (call.Send conn bytes) others.net before now (keeps refl)
 said_fits (call.Feed child bytes) others hub before now keeps =
     let served = serve others.lanes [] hub in feed_said others.lanes child bytes served (slice_get served.children child)
-said_fits (call.Shut conn) others hub before now keeps = net_said (call.Shut conn) others.net before now keeps
-said_fits (call.Close conn) others hub before now keeps = net_said (call.Close conn) others.net before now keeps
-said_fits (call.CloseServer server) others hub before now keeps = net_said (call.CloseServer server) others.net before now keeps
+said_fits (call.Shut conn) others hub before now keeps = net_said (call.Shut conn) others.net before now (keeps refl)
+said_fits (call.Close conn) others hub before now keeps = net_said (call.Close conn) others.net before now (keeps refl)
+said_fits (call.CloseServer server) others hub before now keeps = net_said (call.CloseServer server) others.net before now (keeps refl)
 said_fits (call.End child) others hub before now keeps = refl
 said_fits (call.Kill child) others hub before now keeps = refl
 said_fits (call.Launch words) others hub before now keeps =
     let served = serve others.lanes [] hub in launch_said words others.launching served.free served
-said_fits (call.Extra code bytes) others hub before now keeps = refl
+said_fits (call.Extra code bytes) others hub before now keeps =
+    of_two (EndFits (call.Extra code bytes)) (is_datagram code) (socket others.lanes others.net hub) (extra others.lanes hub)
+    (λ datagram. net_said (call.Extra code bytes) others.net before now (keeps datagram)) refl
 
 asked_fits : (asks : Call) (others : Others) (hub : Hub) (before now : ℕ) (starved : Bool) → HubKeeps asks others before now
     → SaidFits asks (cond starved (hub, Memory) (answer_to asks others hub)).1

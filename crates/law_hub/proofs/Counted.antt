@@ -27,7 +27,9 @@ use Rattle.model_hub.specs.Lanes.{serve}
 use Rattle.model_hub.specs.Gathering.{Gathering, goes_in, offer, offer_all, add, add_all, kept_of, stdin_items, start, begin, halt_at, note_in}
 use Rattle.model_hub.specs.Gathering.{after_post, gather}
 use Rattle.model_hub.specs.Select.{said_at, after_poll}
-use Rattle.model_hub.specs.Calls.{answer_to, socket, feed_child, offers_write, after_write, after_launching, launch_with, most_children}
+use Rattle.model_hub.specs.Calls.{answer_to, extra, socket, feed_child, offers_write, after_write, after_launching, launch_with}
+use Rattle.model_hub.specs.Calls.{most_children}
+use Rattle.model_hub.specs.Told.{is_datagram}
 use Rattle.model_hub.specs.Asked.{HubSeen, Asks, PollKeeps, NetKeeps, HubKeeps, is_fault, faults_in, faults_of}
 use Rattle.law_hub.proofs.Answered.{of_two}
 
@@ -196,22 +198,24 @@ module _ (before now : ℕ) (later : before ≤ now) where
   answer_counts : (asks : Call) (others : Others) (hub : Hub) → HubKeeps asks others before now → Counts hub (answer_to asks others hub)
   answer_counts (call.Select wait watched) others hub keeps =
       poll_counts watched others others.polled (serve others.lanes watched hub) keeps
-  answer_counts (call.Listen port) others hub keeps = net_counts (call.Listen port) others.lanes others.net hub keeps
-  answer_counts (call.Accept server) others hub keeps = net_counts (call.Accept server) others.lanes others.net hub keeps
-  answer_counts (call.Connect port) others hub keeps = net_counts (call.Connect port) others.lanes others.net hub keeps
-  answer_counts (call.Recv conn) others hub keeps = net_counts (call.Recv conn) others.lanes others.net hub keeps
-  answer_counts (call.Send conn bytes) others hub keeps = net_counts (call.Send conn bytes) others.lanes others.net hub keeps
+  answer_counts (call.Listen port) others hub keeps = net_counts (call.Listen port) others.lanes others.net hub (keeps refl)
+  answer_counts (call.Accept server) others hub keeps = net_counts (call.Accept server) others.lanes others.net hub (keeps refl)
+  answer_counts (call.Connect port) others hub keeps = net_counts (call.Connect port) others.lanes others.net hub (keeps refl)
+  answer_counts (call.Recv conn) others hub keeps = net_counts (call.Recv conn) others.lanes others.net hub (keeps refl)
+  answer_counts (call.Send conn bytes) others hub keeps = net_counts (call.Send conn bytes) others.lanes others.net hub (keeps refl)
   answer_counts (call.Feed child bytes) others hub keeps =
       let served = serve others.lanes [] hub in
       feed_counts others.lanes child bytes hub served (slice_get served.children child)
-  answer_counts (call.Shut conn) others hub keeps = net_counts (call.Shut conn) others.lanes others.net hub keeps
-  answer_counts (call.Close conn) others hub keeps = net_counts (call.Close conn) others.lanes others.net hub keeps
-  answer_counts (call.CloseServer server) others hub keeps = net_counts (call.CloseServer server) others.lanes others.net hub keeps
+  answer_counts (call.Shut conn) others hub keeps = net_counts (call.Shut conn) others.lanes others.net hub (keeps refl)
+  answer_counts (call.Close conn) others hub keeps = net_counts (call.Close conn) others.lanes others.net hub (keeps refl)
+  answer_counts (call.CloseServer server) others hub keeps = net_counts (call.CloseServer server) others.lanes others.net hub (keeps refl)
   answer_counts (call.End child) others hub keeps = tt
   answer_counts (call.Kill child) others hub keeps = tt
   answer_counts (call.Launch words) others hub keeps =
       let served = serve others.lanes [] hub in launch_counts others.launching served.free hub served
-  answer_counts (call.Extra code bytes) others hub keeps = tt
+  answer_counts (call.Extra code bytes) others hub keeps =
+      of_two (Counts hub) (is_datagram code) (socket others.lanes others.net hub) (extra others.lanes hub)
+      (λ datagram. net_counts (call.Extra code bytes) others.lanes others.net hub (keeps datagram)) tt
 
   asked_counts : (asks : Call) (others : Others) (hub : Hub) (starved : Bool) → HubKeeps asks others before now
       → Counts hub (cond starved (hub, Memory) (answer_to asks others hub))

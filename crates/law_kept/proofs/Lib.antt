@@ -1,5 +1,5 @@
-mod Loops
-mod Standing
+pub mod Loops
+pub mod Standing
 pub mod Requests
 mod Serving
 pub mod Turning

@@ -55,7 +55,7 @@ use Rattle.model_machine.specs.Went.{answered_so, ask_so, fitted_so}
 use Rattle.law_cases.specs.Cases.{Replies, raises, leaves_none, exits_none, tells, names_itself, hands_on, pauses_on, alarms, awaits as awaits_it, prints}
 use Rattle.law_cases.specs.Cases.{makes, sets, fails, cancels, uncancels, spawns_it, enters, leaves, moves, enters_one, exits, creates_it, serves_it}
 use Rattle.law_cases.specs.Closed.{is_to_streams}
-use Rattle.law_cases.specs.Trees.{AllWaits, AnswersStreams, ConnectsStreams, DrainWaits, ExitWaits, Keeping, KeepsStreams, ReadWaits, WaitsNever, is_of_streams}
+use Rattle.law_cases.specs.Trees.{AllWaits, AnswersStreams, ConnectsStreams, DrainWaits, ExitWaits, Keeping, KeepsStreams, Owned, ReadWaits, WaitsNever, is_of_streams}
 use Rattle.law_cases.proofs.Asking as asking
 use Rattle.law_cases.proofs.Cases.{reply_is}
 use Rattle.law_cases.proofs.Opening as opening
@@ -149,7 +149,7 @@ module _ {S R : Type 0} (halts : End → State S → R) (Comes : R → Type 0) (
       by (Refused line cause ∷ entries) = ends _ _ (beside_then so (noted_beside (event.Called it) s))
       by (Answered came ∷ entries) = fit (fits it came) came _ (heard came entries)
 
-  pub does_on : {A : Type 0} (Left : ℕ → A → Type 0) (own : ℕ → Bool) (number : ℕ) (tree : Doing A) (next : A → State S → R) (s : State S)
+  pub does_on : {A : Type 0} (Left : ℕ → A → Type 0) (own : Owned) (number : ℕ) (tree : Doing A) (next : A → State S → R) (s : State S)
       → Beside from s → Keeping Left own number tree → ((it : A) (t : State S) → Beside from t → Comes (next it t))
       → Comes (does halts tree next s)
   does_on Left own number (Ends result) next s so keeps each = each result s so

@@ -1,5 +1,5 @@
 -- What goes on holds after a step, a callback and a turn, after each callback of a turn, and of every state of a run.
-use Rattle.std.proofs.Common.{◌≡◌, ℕ, zero, suc, Bool, true, false, not, ◌&&◌, List, [], ◌∷◌, Option, Some, None, Ok, Err, nat_lt, refl, sym}
+use Rattle.std.proofs.Common.{◌≡◌, ℕ, zero, suc, Bool, true, false, not, ◌&&◌, List, [], ◌∷◌, Option, Some, None, Ok, Err, length, nat_lt, le_refl, refl, sym}
 use Rattle.std.proofs.lemmas.Bool.{false≢true}
 use Rattle.model_value.specs.Action.{Action}
 use Rattle.model_value.specs.declared.action.Action.TheVariants as action
@@ -33,7 +33,7 @@ use Rattle.law_cases.proofs.Opening.{acts}
 use Rattle.law_changes.specs.Changes.{LeavesPending, MakesTask, Registers, Settles}
 use Rattle.law_changes.specs.Reaches.{stays}
 use Rattle.law_reach.specs.Reaches.{left_by}
-use Rattle.law_reach.proofs.Opened.{any, any_kept}
+use Rattle.law_reach.proofs.Opened.{any_kept, any_of}
 use Rattle.law_kept.specs.Runs.{AfterTurn, AreAll, IsRunOf}
 use Rattle.law_kept.specs.Walks.{Beside, Walks}
 use Rattle.law_kept.proofs.Loops.{begin_row, child_done_row, end_row, finish_row, fire_row, woken_row}
@@ -88,17 +88,20 @@ module _ {S : Type 0} {added : Extra S} {Holds : State S → Type 0} {Called : (
 
   -- ---- callbacks of listeners, connections and children
   go_on_streams : (tree : Doing Streams) (s : State S)
-      → Keeping (KeepsStreams any (next_future s.loop.parts) s.streams) any (next_future s.loop.parts) tree → Holds s → Leaves (streams_go tree s)
+      → Keeping (KeepsStreams (any_of (length s.streams.connections)) (next_future s.loop.parts) s.streams)
+      (any_of (length s.streams.connections)) (next_future s.loop.parts) tree → Holds s → Leaves (streams_go tree s)
   go_on_streams tree s keeps holds =
       walks.beside s _
-      (does_on Stops (λ went. Beside s (state_of went)) s (λ how last it. it) (KeepsStreams any (next_future s.loop.parts) s.streams) any
+      (does_on Stops (λ went. Beside s (state_of went)) s (λ how last it. it)
+      (KeepsStreams (any_of (length s.streams.connections)) (next_future s.loop.parts) s.streams) (any_of (length s.streams.connections))
       (next_future s.loop.parts) tree goes_with s (beside_same s) keeps (λ streams t here. beside_then here (streams_beside streams t)))
       holds
 
   acts_on : (it : Action) (returned : Bool) (s : State S) → Holds s → Leaves (streams_go (act (next_future s.loop.parts) returned it s.streams) s)
   acts_on it returned s holds =
       go_on_streams (act (next_future s.loop.parts) returned it s.streams) s
-      (acts any (next_future s.loop.parts) returned it s.streams (any_kept s.streams)) holds
+      (acts (any_of (length s.streams.connections)) (next_future s.loop.parts) returned it s.streams (any_kept s.streams)
+      (le_refl _)) holds
 
   made_on : (handler : Option ℕ) (conn : ℕ) (s : State S) → Holds s → Leaves (made_by handler conn s)
   made_on None conn s holds = holds
@@ -117,7 +120,9 @@ module _ {S : Type 0} {added : Extra S} {Holds : State S → Type 0} {Called : (
       at true =
           walks.beside s _
           (beside_then new (parts_beside (Registers (future_of made.loop.parts task) (action.HandlerDone conn task)) made refl)) holds
-      at false = go_on_streams (close (to.Conn conn) s.streams) s (closes any (next_future s.loop.parts) (to.Conn conn) s.streams (any_kept s.streams)) holds
+      at false =
+          go_on_streams (close (to.Conn conn) s.streams) s
+          (closes (any_of (length s.streams.connections)) (next_future s.loop.parts) (to.Conn conn) s.streams (any_kept s.streams)) holds
 
   -- ---- what isn't a handle of what is added
   effect_on : (it : Action) (s : State S) → is_extra it ≡ false → Holds s → Leaves (effect limit added it s)

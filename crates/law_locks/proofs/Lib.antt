@@ -1,13 +1,13 @@
-mod Served
+pub mod Served
 mod Named
 mod Values
 mod Sizes
 mod Refusing
-mod Runs
+pub mod Runs
 mod Lines
 mod Who
 mod Held
 mod Steps
 mod Chains
-mod Heeded
+pub mod Heeded
 mod Numbers

@@ -4,9 +4,8 @@ use Rattle.std.specs.List.{list_all}
 use Rattle.model_value.specs.Input.{Input}
 use Rattle.model_value.specs.Value.{Value}
 use Rattle.model_loop.specs.Parts.{Parts}
-use Rattle.model_loop.specs.Tasks.{next_task}
 use Rattle.model_machine.specs.Extra.{Extra, KeepsKeys, WakesFall, unknown_code}
-use Rattle.model_machine.specs.Sound.{AreKept, names_made, sends_made}
+use Rattle.model_machine.specs.Sound.{AreKept, Ids, ids_of, names_made, sends_made}
 use Rattle.model_machine.specs.State.{State}
 use Rattle.model_reach.specs.Part.{refuses, stays}
 use Rattle.model_reach.specs.Reach.{Part, OfGather, OfSync, OfExec, OfDgram, Parted, part_as, part_of_code, part_of_key, reach, seen_by}
@@ -54,19 +53,19 @@ module _ {A B C D : Type 0} (gather : Extra A) (sync : Extra B) (exec : Extra C)
       ≡ ((part_as gather sync exec dgram (part_of_key key)).keeps old).has_key key
   other_has old new key this same differs = same (part_of_key key) differs
 
-  all_of : (kept : Parted A B C D) (futures : List ℕ) (p : Parts) → AreKept (whole.keeps kept) futures p
-      → AllKept (gather.keeps kept.gather) (sync.keeps kept.sync) (exec.keeps kept.exec) (dgram.keeps kept.dgram)
+  all_of : (ids : Ids) (kept : Parted A B C D) (futures : List ℕ) (p : Parts) → AreKept ids (whole.keeps kept) futures p
+      → AllKept ids (gather.keeps kept.gather) (sync.keeps kept.sync) (exec.keeps kept.exec) (dgram.keeps kept.dgram)
       (λ key. ((part_as gather sync exec dgram (part_of_key key)).keeps kept).has_key key) futures p
-  all_of kept futures p is =
-      apart (gather.keeps kept.gather) (sync.keeps kept.sync) (exec.keeps kept.exec) (dgram.keeps kept.dgram)
+  all_of ids kept futures p is =
+      apart ids (gather.keeps kept.gather) (sync.keeps kept.sync) (exec.keeps kept.exec) (dgram.keeps kept.dgram)
       (λ key. ((part_as gather sync exec dgram (part_of_key key)).keeps kept).has_key key) futures p is
 
   gather_splits : Splits OfGather (λ (kept : Parted A B C D). kept.gather) (λ it kept. record kept { gather = it }) gather.keeps whole.keeps
   gather_splits = record {
-    kept_apart = λ kept futures p is. (all_of kept futures p is).first;
-    kept_put = λ it kept futures p is mine.
-        let all = all_of kept futures p is in
-        together (gather.keeps it) (sync.keeps kept.sync) (exec.keeps kept.exec) (dgram.keeps kept.dgram) _ futures p
+    kept_apart = λ ids kept futures p is. (all_of ids kept futures p is).first;
+    kept_put = λ ids it kept futures p is mine.
+        let all = all_of ids kept futures p is in
+        together ids (gather.keeps it) (sync.keeps kept.sync) (exec.keeps kept.exec) (dgram.keeps kept.dgram) _ futures p
         (record { first = mine; second = all.second; third = all.third; fourth = all.fourth });
     own_in = λ kept id mine.
         in_first (gather.keeps kept.gather).own (sync.keeps kept.sync).own (exec.keeps kept.exec).own (dgram.keeps kept.dgram).own id mine;
@@ -100,10 +99,10 @@ module _ {A B C D : Type 0} (gather : Extra A) (sync : Extra B) (exec : Extra C)
 
   sync_splits : Splits OfSync (λ (kept : Parted A B C D). kept.sync) (λ it kept. record kept { sync = it }) sync.keeps whole.keeps
   sync_splits = record {
-    kept_apart = λ kept futures p is. (all_of kept futures p is).second;
-    kept_put = λ it kept futures p is mine.
-        let all = all_of kept futures p is in
-        together (gather.keeps kept.gather) (sync.keeps it) (exec.keeps kept.exec) (dgram.keeps kept.dgram) _ futures p
+    kept_apart = λ ids kept futures p is. (all_of ids kept futures p is).second;
+    kept_put = λ ids it kept futures p is mine.
+        let all = all_of ids kept futures p is in
+        together ids (gather.keeps kept.gather) (sync.keeps it) (exec.keeps kept.exec) (dgram.keeps kept.dgram) _ futures p
         (record { first = all.first; second = mine; third = all.third; fourth = all.fourth });
     own_in = λ kept id mine.
         in_second (gather.keeps kept.gather).own (sync.keeps kept.sync).own (exec.keeps kept.exec).own (dgram.keeps kept.dgram).own id mine;
@@ -137,10 +136,10 @@ module _ {A B C D : Type 0} (gather : Extra A) (sync : Extra B) (exec : Extra C)
 
   exec_splits : Splits OfExec (λ (kept : Parted A B C D). kept.exec) (λ it kept. record kept { exec = it }) exec.keeps whole.keeps
   exec_splits = record {
-    kept_apart = λ kept futures p is. (all_of kept futures p is).third;
-    kept_put = λ it kept futures p is mine.
-        let all = all_of kept futures p is in
-        together (gather.keeps kept.gather) (sync.keeps kept.sync) (exec.keeps it) (dgram.keeps kept.dgram) _ futures p
+    kept_apart = λ ids kept futures p is. (all_of ids kept futures p is).third;
+    kept_put = λ ids it kept futures p is mine.
+        let all = all_of ids kept futures p is in
+        together ids (gather.keeps kept.gather) (sync.keeps kept.sync) (exec.keeps it) (dgram.keeps kept.dgram) _ futures p
         (record { first = all.first; second = all.second; third = mine; fourth = all.fourth });
     own_in = λ kept id mine.
         in_third (gather.keeps kept.gather).own (sync.keeps kept.sync).own (exec.keeps kept.exec).own (dgram.keeps kept.dgram).own id mine;
@@ -174,10 +173,10 @@ module _ {A B C D : Type 0} (gather : Extra A) (sync : Extra B) (exec : Extra C)
 
   dgram_splits : Splits OfDgram (λ (kept : Parted A B C D). kept.dgram) (λ it kept. record kept { dgram = it }) dgram.keeps whole.keeps
   dgram_splits = record {
-    kept_apart = λ kept futures p is. (all_of kept futures p is).fourth;
-    kept_put = λ it kept futures p is mine.
-        let all = all_of kept futures p is in
-        together (gather.keeps kept.gather) (sync.keeps kept.sync) (exec.keeps kept.exec) (dgram.keeps it) _ futures p
+    kept_apart = λ ids kept futures p is. (all_of ids kept futures p is).fourth;
+    kept_put = λ ids it kept futures p is mine.
+        let all = all_of ids kept futures p is in
+        together ids (gather.keeps kept.gather) (sync.keeps kept.sync) (exec.keeps kept.exec) (dgram.keeps it) _ futures p
         (record { first = all.first; second = all.second; third = all.third; fourth = mine });
     own_in = λ kept id mine.
         in_fourth (gather.keeps kept.gather).own (sync.keeps kept.sync).own (exec.keeps kept.exec).own (dgram.keeps kept.dgram).own id mine;
@@ -213,7 +212,7 @@ module _ {A B C D : Type 0} (gather : Extra A) (sync : Extra B) (exec : Extra C)
       (of_dgram : HasKeysOf OfDgram dgram) (for_gather : MakesAllowedSteps gather) (for_sync : MakesAllowedSteps sync)
       (for_exec : MakesAllowedSteps exec) (for_dgram : MakesAllowedSteps dgram) where
     ask_part : (part : Part) (task : ℕ) (code : ℤ) (arguments : List Value) (s : State (Parted A B C D))
-        → MayCall (reach gather sync exec dgram) (Some task) s → list_all (names_made (next_task s.loop.parts)) arguments ≡ true
+        → MayCall (reach gather sync exec dgram) (Some task) s → list_all (names_made (ids_of s)) arguments ≡ true
         → IsSaidAllowed (reach gather sync exec dgram) None ((part_as gather sync exec dgram part).ask task code arguments s) s
     ask_part OfGather = ask_within (reach gather sync exec dgram) gather OfGather (λ (kept : Parted A B C D). kept.gather)
         (λ it kept. record kept { gather = it })
@@ -230,7 +229,7 @@ module _ {A B C D : Type 0} (gather : Extra A) (sync : Extra B) (exec : Extra C)
 
     wake_part : (part : Part) (task key : ℕ) (input : Input) (s : State (Parted A B C D)) → part_of_key key ≡ part
         → MayCall (reach gather sync exec dgram) (Some task) s → ((reach gather sync exec dgram).keeps s.extra).has_key key ≡ true
-        → sends_made (next_task s.loop.parts) input ≡ true
+        → sends_made (ids_of s) input ≡ true
         → IsSaidAllowed (reach gather sync exec dgram) (Some key) ((part_as gather sync exec dgram part).wake key input s) s
     wake_part OfGather = wake_within (reach gather sync exec dgram) gather OfGather (λ (kept : Parted A B C D). kept.gather)
         (λ it kept. record kept { gather = it })
@@ -287,7 +286,7 @@ module _ {A B C D : Type 0} (gather : Extra A) (sync : Extra B) (exec : Extra C)
     }
 
     asked : (task : ℕ) (code : ℤ) (arguments : List Value) (s : State (Parted A B C D)) (may : MayCall (reach gather sync exec dgram) (Some task) s)
-        → list_all (names_made (next_task s.loop.parts)) arguments ≡ true → (o : Option Part)
+        → list_all (names_made (ids_of s)) arguments ≡ true → (o : Option Part)
         → IsSaidAllowed (reach gather sync exec dgram) None (elim o [
           | None ↦ refuses (unknown_code code) s.extra
           | Some part ↦ (part_as gather sync exec dgram part).ask task code arguments s

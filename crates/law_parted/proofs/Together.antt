@@ -5,32 +5,31 @@ use Rattle.std.proofs.lemmas.Bool.{and_from, and_parts}
 use Rattle.std.proofs.lemmas.List.Folds.{list_all-append}
 use Rattle.model_value.specs.Value.{Value}
 use Rattle.model_loop.specs.Parts.{Parts}
-use Rattle.model_loop.specs.Tasks.{next_task}
 use Rattle.model_machine.specs.Extra.{Keeping}
-use Rattle.model_machine.specs.Sound.{AreKept, names_made}
+use Rattle.model_machine.specs.Sound.{AreKept, Ids, names_made}
 use Rattle.model_reach.specs.Reach.{kept_with}
 use Rattle.law_parted.proofs.Lists.{join, split}
 
-module _ (a b c d : Keeping) (has_key : ℕ → Bool) (futures : List ℕ) (p : Parts) where
+module _ (ids : Ids) (a b c d : Keeping) (has_key : ℕ → Bool) (futures : List ℕ) (p : Parts) where
   -- ---- values
-  values_join : (xs ys : List Value) → list_all (names_made (next_task p)) xs ≡ true → list_all (names_made (next_task p)) ys ≡ true
-      → list_all (names_made (next_task p)) (xs ++ ys) ≡ true
-  values_join xs ys x y = list_all-append (names_made (next_task p)) xs ys ∙ and_from _ _ x y
+  values_join : (xs ys : List Value) → list_all (names_made ids) xs ≡ true → list_all (names_made ids) ys ≡ true
+      → list_all (names_made ids) (xs ++ ys) ≡ true
+  values_join xs ys x y = list_all-append (names_made ids) xs ys ∙ and_from _ _ x y
 
-  values_left : (xs ys : List Value) → list_all (names_made (next_task p)) (xs ++ ys) ≡ true → list_all (names_made (next_task p)) xs ≡ true
-  values_left xs ys h = (and_parts _ _ (sym (list_all-append (names_made (next_task p)) xs ys) ∙ h)).0
+  values_left : (xs ys : List Value) → list_all (names_made ids) (xs ++ ys) ≡ true → list_all (names_made ids) xs ≡ true
+  values_left xs ys h = (and_parts _ _ (sym (list_all-append (names_made ids) xs ys) ∙ h)).0
 
-  values_right : (xs ys : List Value) → list_all (names_made (next_task p)) (xs ++ ys) ≡ true → list_all (names_made (next_task p)) ys ≡ true
-  values_right xs ys h = (and_parts _ _ (sym (list_all-append (names_made (next_task p)) xs ys) ∙ h)).1
+  values_right : (xs ys : List Value) → list_all (names_made ids) (xs ++ ys) ≡ true → list_all (names_made ids) ys ≡ true
+  values_right xs ys h = (and_parts _ _ (sym (list_all-append (names_made ids) xs ys) ∙ h)).1
 
   -- ---- all of it
   pub record AllKept : Type 0 where
-    pub first : AreKept a futures p
-    pub second : AreKept b futures p
-    pub third : AreKept c futures p
-    pub fourth : AreKept d futures p
+    pub first : AreKept ids a futures p
+    pub second : AreKept ids b futures p
+    pub third : AreKept ids c futures p
+    pub fourth : AreKept ids d futures p
 
-  pub together : AllKept → AreKept (record (kept_with a (kept_with b (kept_with c d))) { has_key = has_key }) futures p
+  pub together : AllKept → AreKept ids (record (kept_with a (kept_with b (kept_with c d))) { has_key = has_key }) futures p
   together it = record {
     tasks = join _ a.tasks b.tasks c.tasks d.tasks
         (record { first = it.first.tasks; second = it.second.tasks; third = it.third.tasks; fourth = it.fourth.tasks });
@@ -44,7 +43,7 @@ module _ (a b c d : Keeping) (has_key : ℕ → Bool) (futures : List ℕ) (p : 
     values = values_join a.values _ it.first.values (values_join b.values _ it.second.values (values_join c.values d.values it.third.values it.fourth.values));
   }
 
-  pub apart : AreKept (record (kept_with a (kept_with b (kept_with c d))) { has_key = has_key }) futures p → AllKept
+  pub apart : AreKept ids (record (kept_with a (kept_with b (kept_with c d))) { has_key = has_key }) futures p → AllKept
   apart it =
       let tasks = split _ a.tasks b.tasks c.tasks d.tasks it.tasks in
       let awaitable = split _ a.futures b.futures c.futures d.futures it.awaitable in

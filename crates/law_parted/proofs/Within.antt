@@ -1,20 +1,19 @@
 -- A part of what is kept: what it is allowed alone is allowed of the whole.
-use Rattle.std.proofs.Common.{◌≡◌, ℕ, ℤ, ◌⊎◌, inl, inr, true, List, [], ◌∷◌, Option, Some, None, sym, ◌∙◌}
+use Rattle.std.proofs.Common.{◌≡◌, ℕ, ℤ, ◌⊎◌, inl, inr, true, List, [], ◌∷◌, Option, Some, None, refl, sym, ap, ◌∙◌}
 use Rattle.std.specs.List.{AllByRecursion as Each, list_all}
 use Rattle.model_value.specs.Input.{Input}
 use Rattle.model_value.specs.Value.{Value}
 use Rattle.model_loop.specs.Futures.{next_future}
 use Rattle.model_loop.specs.Loop.{Loop}
 use Rattle.model_loop.specs.Parts.{Parts}
-use Rattle.model_loop.specs.Tasks.{next_task}
 use Rattle.model_machine.specs.Extra.{Extra, ExtraAnswer, ExtraCall, ExtraSaid, ExtraStep, Keeping, Answers, Raises, Waits, Asks, MakesPlain, MakesMany}
 use Rattle.model_machine.specs.Extra.{Settles, Releases, Registers, CallsSoon, CallsLater, Revokes, Cancels, Uncancels, called, made_by, made_by_all}
-use Rattle.model_machine.specs.Sound.{AreKept, names_made, sends_made}
+use Rattle.model_machine.specs.Sound.{AreKept, Ids, ids_of, names_made, sends_made}
 use Rattle.model_machine.specs.State.{State}
 use Rattle.model_reach.specs.Reach.{Part, called_by, part_of_key, said_by, seen_by}
 use Rattle.law_replies.proofs.Kept.{each_on}
 use Rattle.law_runs.specs.Allowed.{AreAllowed, IsAllowed, IsAmong, IsAnswerAllowed, IsCallAllowed, IsKeyAllowed, IsOwn, IsSaidAllowed}
-use Rattle.law_runs.specs.Allowed.{MakesAllowedSteps, MayCall, Owns, owns_at}
+use Rattle.law_runs.specs.Allowed.{MakesAllowedSteps, MayCall, Owns, ends_made, owns_at}
 use Rattle.law_runs.proofs.Called.{steps_keep}
 use Rattle.law_parted.specs.Keys.{HasKeysOf}
 use Rattle.law_parted.proofs.Lists.{each_from}
@@ -23,11 +22,13 @@ use Rattle.law_parted.proofs.Lists.{each_from}
 pub record OwnsMore (own more : Owns) : Type 0 where
   pub futures : (id : ℕ) → IsOwn own.futures own.next_future id → IsOwn more.futures more.next_future id
   pub tags : (id : ℕ) → IsOwn own.tags own.next_tag id → IsOwn more.tags more.next_tag id
+  pub ids : more.ids ≡ own.ids
 
 step_more : (own more : Owns) → OwnsMore own more → (step : ExtraStep) (l : Loop) → IsAllowed own step l → IsAllowed more step l
 step_more own more it MakesPlain l may = tt
 step_more own more it (MakesMany members) l may = may
-step_more own more it (Settles future outcome) l may = (it.futures future may.0, may.1, may.2)
+step_more own more it (Settles future outcome) l may =
+    (it.futures future may.0, may.1, ap (λ ids. ends_made ids outcome) it.ids ∙ may.2)
 step_more own more it (Releases future) l may = (it.futures future may.0, may.1)
 step_more own more it (Registers future key) l may = may
 step_more own more it (CallsSoon key) l may = tt
@@ -43,9 +44,10 @@ steps_more own more it (step ∷ steps) l may =
 
 -- ---- how a part stands in the whole
 pub record Splits {S P : Type 0} (this : Part) (part : S → P) (put : P → S → S) (mine : P → Keeping) (keeps : S → Keeping) : Type 0 where
-  pub kept_apart : (kept : S) (futures : List ℕ) (p : Parts) → AreKept (keeps kept) futures p → AreKept (mine (part kept)) futures p
-  pub kept_put : (it : P) (kept : S) (futures : List ℕ) (p : Parts) → AreKept (keeps kept) futures p → AreKept (mine it) futures p
-      → AreKept (keeps (put it kept)) futures p
+  pub kept_apart : (ids : Ids) (kept : S) (futures : List ℕ) (p : Parts) → AreKept ids (keeps kept) futures p
+      → AreKept ids (mine (part kept)) futures p
+  pub kept_put : (ids : Ids) (it : P) (kept : S) (futures : List ℕ) (p : Parts) → AreKept ids (keeps kept) futures p
+      → AreKept ids (mine it) futures p → AreKept ids (keeps (put it kept)) futures p
   pub own_in : (kept : S) (id : ℕ) → IsAmong (mine (part kept)).own id → IsAmong (keeps kept).own id
   pub tags_in : (kept : S) (id : ℕ) → IsAmong (mine (part kept)).tags id → IsAmong (keeps kept).tags id
   pub keys_now : (kept : S) (key : ℕ) → part_of_key key ≡ this → (keeps kept).has_key key ≡ (mine (part kept)).has_key key
@@ -63,7 +65,7 @@ module _ {S P : Type 0} (whole : Extra S) (added : Extra P) (this : Part) (part 
   seen_may : (running : Option ℕ) (s : State S) → MayCall whole running s → MayCall added running (seen_by (part s.extra) s)
   seen_may running s may = record {
     loop = may.loop;
-    kept = parts_.kept_apart s.extra s.futures s.loop.parts may.kept;
+    kept = parts_.kept_apart (ids_of s) s.extra s.futures s.loop.parts may.kept;
     scripts = may.scripts;
     outcomes = may.outcomes;
   }
@@ -76,8 +78,12 @@ module _ {S P : Type 0} (whole : Extra S) (added : Extra P) (this : Part) (part 
   tags_on kept next id (inl mine) = inl (parts_.tags_in kept id mine)
   tags_on kept next id (inr past) = inr past
 
-  more_of : (s : State S) → OwnsMore (owns_at (added.keeps (part s.extra)) s.loop.parts) (owns_at (whole.keeps s.extra) s.loop.parts)
-  more_of s = record { futures = λ id h. own_on s.extra (next_future s.loop.parts) id h; tags = λ id h. tags_on s.extra s.loop.parts.next_tag id h }
+  more_of : (s : State S) → OwnsMore (owns_at (ids_of s) (added.keeps (part s.extra)) s.loop.parts) (owns_at (ids_of s) (whole.keeps s.extra) s.loop.parts)
+  more_of s = record {
+    futures = λ id h. own_on s.extra (next_future s.loop.parts) id h;
+    tags = λ id h. tags_on s.extra s.loop.parts.next_tag id h;
+    ids = refl;
+  }
 
   -- ---- a call
   module _ (running : Option ℕ) (s : State S) (may : MayCall whole running s) where
@@ -92,11 +98,11 @@ module _ {S P : Type 0} (whole : Extra S) (added : Extra P) (this : Part) (part 
     call_allowed : (woken : Option ℕ) (call : ExtraCall P) → IsCallAllowed added woken call (seen_by (part s.extra) s)
         → IsCallAllowed whole woken (called_by (λ it. put it s.extra) call) s
     call_allowed woken call ok =
-        let own = owns_at (whole.keeps s.extra) s.loop.parts in
-        let steps = steps_more (owns_at (added.keeps (part s.extra)) s.loop.parts) own (more_of s) call.steps s.loop ok.steps in
+        let own = owns_at (ids_of s) (whole.keeps s.extra) s.loop.parts in
+        let steps = steps_more (owns_at (ids_of s) (added.keeps (part s.extra)) s.loop.parts) own (more_of s) call.steps s.loop ok.steps in
         record {
           steps = steps;
-          kept = parts_.kept_put call.state s.extra s.futures (made_by_all call.steps s.loop).parts
+          kept = parts_.kept_put (ids_of s) call.state s.extra s.futures (made_by_all call.steps s.loop).parts
               (steps_keep own (whole.keeps s.extra) s.futures call.steps s.loop steps may.kept) ok.kept;
           own = puts.own (IsOwn (whole.keeps s.extra).own (next_future s.loop.parts)) call.state s.extra
               (each_from (IsOwn (whole.keeps s.extra).own (next_future s.loop.parts)) (whole.keeps s.extra).own (λ place id e. inl (place, e)))
@@ -134,13 +140,13 @@ module _ {S P : Type 0} (whole : Extra S) (added : Extra P) (this : Part) (part 
     }
 
   pub ask_within : MakesAllowedSteps added → (task : ℕ) (code : ℤ) (arguments : List Value) (s : State S) → MayCall whole (Some task) s
-      → list_all (names_made (next_task s.loop.parts)) arguments ≡ true
+      → list_all (names_made (ids_of s)) arguments ≡ true
       → IsSaidAllowed whole None (said_by (λ it. put it s.extra) (added.ask task code arguments (seen_by (part s.extra) s))) s
   ask_within allowed task code arguments s may made =
       said_allowed (Some task) s may None _ (allowed.ask task code arguments (seen_by (part s.extra) s) (seen_may (Some task) s may) made)
 
   pub wake_within : MakesAllowedSteps added → (task key : ℕ) (input : Input) (s : State S) → part_of_key key ≡ this → MayCall whole (Some task) s
-      → (whole.keeps s.extra).has_key key ≡ true → sends_made (next_task s.loop.parts) input ≡ true
+      → (whole.keeps s.extra).has_key key ≡ true → sends_made (ids_of s) input ≡ true
       → IsSaidAllowed whole (Some key) (said_by (λ it. put it s.extra) (added.wake key input (seen_by (part s.extra) s))) s
   wake_within allowed task key input s here may known made =
       said_allowed (Some task) s may (Some key) _

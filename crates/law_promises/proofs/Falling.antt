@@ -109,7 +109,7 @@ failure_first id fault p l c =
     ∙ ap outcome_at (get-set_same p.futures (future_of p id) t.future (done_as (Failed fault) t.future) t.there)
 
 -- ---- a wait
-wait_must_cancel : (id on : ℕ) (p : Parts) (task : ℕ) → must_cancel_of (wait_on id on p) task ≡ must_cancel_of p task
+pub wait_must_cancel : (id on : ℕ) (p : Parts) (task : ℕ) → must_cancel_of (wait_on id on p) task ≡ must_cancel_of p task
 wait_must_cancel id on p task =
     waiting_must_cancel id (Some on) (register on (Wakeup id) p) task ∙ same_must_cancel_at p (register on (Wakeup id) p) (register-tasks on (Wakeup id) p) task
 

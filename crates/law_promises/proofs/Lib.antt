@@ -5,6 +5,10 @@ mod Raising
 mod MustCancelStays
 mod TakingBack
 mod Apart
+mod OwnStep
+mod OwnWalk
+mod OwnRequests
+mod GroupsEntered
 mod ToldStays
 mod Turning
 mod Later

@@ -1,5 +1,5 @@
 -- What streams do leaves what is owed covered: their trees raise and lower no count.
-use Rattle.std.proofs.Common.{◌≡◌, ℕ, ◌⊎◌, inl, inr, Some, None, refl, sym, subst}
+use Rattle.std.proofs.Common.{◌≡◌, ℕ, ◌⊎◌, inl, inr, Some, None, length, refl, sym, subst}
 use Rattle.std.proofs.lemmas.Bool.{false≢true}
 use Rattle.std.proofs.Common.{true, false}
 use Rattle.model_value.specs.declared.action.Action.TheVariants as action
@@ -40,28 +40,28 @@ no_main : (it : Action) → is_of_streams it ≡ true → is_main_done it ≡ fa
 no_main action.MainDone is = absurd (false≢true is)
 no_main _ is = refl
 
-tree_alone : (change : PartsChange) (p : Parts) → MayInTree change p → MayAlone (Some 0) change p
-tree_alone (CallsSoon it) p may = no_main it may
-tree_alone (MakesFuture kind) p may = tt
-tree_alone (Settles future outcome) p may = tt
-tree_alone (CallsLater when it) p may = absurd may
-tree_alone (Revokes tag) p may = absurd may
-tree_alone (Registers future it) p may = absurd may
-tree_alone (KeepsAsked future) p may = absurd may
-tree_alone MakesTask p may = absurd may
-tree_alone (WaitsFor task on) p may = absurd may
-tree_alone (SetsMustCancel task) p may = absurd may
-tree_alone (ClearsMustCancel task) p may = absurd may
-tree_alone (Counts task) p may = absurd may
-tree_alone (Uncounts profile task) p may = absurd may
-tree_alone (Passes now) p may = absurd may
-tree_alone FallsDue p may = absurd may
-tree_alone (LeavesPending rest) p may = absurd may
+tree_alone : (connections : ℕ) (change : PartsChange) (p : Parts) → MayInTree connections change p → MayAlone (Some 0) change p
+tree_alone connections (CallsSoon it) p may = no_main it may
+tree_alone connections (MakesFuture kind) p may = tt
+tree_alone connections (Settles future outcome) p may = tt
+tree_alone connections (CallsLater when it) p may = absurd may
+tree_alone connections (Revokes tag) p may = absurd may
+tree_alone connections (Registers future it) p may = absurd may
+tree_alone connections (KeepsAsked future) p may = absurd may
+tree_alone connections MakesTask p may = absurd may
+tree_alone connections (WaitsFor task on) p may = absurd may
+tree_alone connections (SetsMustCancel task) p may = absurd may
+tree_alone connections (ClearsMustCancel task) p may = absurd may
+tree_alone connections (Counts task) p may = absurd may
+tree_alone connections (Uncounts profile task) p may = absurd may
+tree_alone connections (Passes now) p may = absurd may
+tree_alone connections FallsDue p may = absurd may
+tree_alone connections (LeavesPending rest) p may = absurd may
 
 module _ {S : Type 0} (s : State S) (right : IsRight s.loop) (c : IsCovered s.loop) where
   -- ---- where a tree ends
   end_easy : (t : State S) → IsTreeEnd s t → IsEasy s.loop t.loop
-  end_easy t it = subst (IsEasy s.loop) (sym it.loop) (easy_alone 0 s.loop (widen tree_alone it.row))
+  end_easy t it = subst (IsEasy s.loop) (sym it.loop) (easy_alone 0 s.loop (widen (tree_alone (length s.streams.connections)) it.row))
 
   end_covers : (t : State S) → IsTreeEnd s t → IsCovered t.loop
   end_covers t it = covers s.loop t.loop (end_easy t it) right c
@@ -95,7 +95,7 @@ module _ {S : Type 0} (s : State S) (right : IsRight s.loop) (c : IsCovered s.lo
   goes_covers it stays_so = c
   goes_covers it (goes_so t streams end) = end_covers t end.ended
   goes_covers it (stops how last end) = end_covers last end
-  goes_covers it (handles coroutine conn few) =
+  goes_covers it (handles coroutine conn few there) =
       let made = in_parts spawn s.loop in
       let future = future_of (spawn s.loop.parts) (next_task s.loop.parts) in
       let told = action.HandlerDone conn (next_task s.loop.parts) in

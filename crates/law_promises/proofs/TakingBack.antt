@@ -73,7 +73,7 @@ pub record IsFollowed (me : ℕ) (l q : Loop) : Type 0 where
   pub keeps : must_cancel_of l.parts me ≡ true → (must_cancel_of q.parts me ≡ true) ⊎ AllTakenBack me l q
 
 module _ (me : ℕ) where
-  followed_refl : (l : Loop) → IsFollowed me l l
+  pub followed_refl : (l : Loop) → IsFollowed me l l
   followed_refl l = record { profile = refl; more = []; ledger = sym (append-nil l.ledger); counts = refl; keeps = λ m. inl m }
 
   pub followed_then : (l m q : Loop) → IsFollowed me l m → IsFollowed me m q → IsFollowed me l q
@@ -128,7 +128,7 @@ module _ (me : ℕ) where
       first (inr it) = inr (later it)
 
   -- what books nothing, and counts nothing
-  unbooked : (l q : Loop) → q.profile ≡ l.profile → q.ledger ≡ l.ledger → cancelling q.parts me ≡ cancelling l.parts me
+  pub unbooked : (l q : Loop) → q.profile ≡ l.profile → q.ledger ≡ l.ledger → cancelling q.parts me ≡ cancelling l.parts me
       → (must_cancel_of l.parts me ≡ true → must_cancel_of q.parts me ≡ true) → IsFollowed me l q
   unbooked l q profile same counted keeps = record {
     profile = profile;

@@ -27,7 +27,7 @@ use Rattle.model_machine.specs.Extra.{Extra}
 use Rattle.model_machine.specs.Outcomes.{finished_as, woken_with}
 use Rattle.model_machine.specs.Outside.{news_of, time_of}
 use Rattle.model_machine.specs.Replies.{RequestReply, Answers, Raises, Suspends, Halts, reply}
-use Rattle.model_machine.specs.Sound.{IsStateSound, sends_made}
+use Rattle.model_machine.specs.Sound.{IsStateSound, ids_of, sends_made}
 use Rattle.model_machine.specs.State.{ResumePoint, Asked, Sleeping, Leaving, Serving, Connecting, Yielding, Reading}
 use Rattle.model_machine.specs.State.{ReadingAll, State, generator_of, noted, stands, start, unbooked_in}
 use Rattle.model_machine.specs.Step.{given_up, most_answers, says_of, serve, serve_all, served, step, taken_as}
@@ -118,7 +118,7 @@ module _ {S : Type 0} (added : Extra S) (keeps : KeepsSound added) (task : ℕ) 
       }
 
   step_in : (s : State S) (input : Input) (handle : Handle) (rest : List Handle) → s.loop.parts.pending ≡ handle ∷ rest → handle.dead ≡ false
-      → steps task handle.action ≡ true → IsStateSound added s → sends_made (next_task s.loop.parts) input ≡ true → IsGood s.loop
+      → steps task handle.action ≡ true → IsStateSound added s → sends_made (ids_of s) input ≡ true → IsGood s.loop
       → IsCovered (state_of (step step_limit added task input
       (noted (event.Ran handle.action) (unbooked_in (λ p. record p { pending = rest }) s)))).loop
   unfolding step
@@ -158,7 +158,7 @@ module _ {S : Type 0} (added : Extra S) (keeps : KeepsSound added) (s : State S)
       record { right = right_on s.loop out.loop a.later refl a.owes right; covered = covers s.loop out.loop a right c }
 
   steps_in : (it : Action) (task : ℕ) (input : Input) → handle.action ≡ it → steps task it ≡ true → handle.dead ≡ false
-      → sends_made (next_task s.loop.parts) input ≡ true → IsCovered (state_of (step step_limit added task input (noted (event.Ran it) out))).loop
+      → sends_made (ids_of s) input ≡ true → IsCovered (state_of (step step_limit added task input (noted (event.Ran it) out))).loop
   steps_in it task input is mine live given_ =
       subst (λ a. IsCovered (state_of (step step_limit added task input (noted (event.Ran a) out))).loop) is
       (step_in added keeps task s input handle rest first live (ap (steps task) is ∙ mine) sound given_ (record { right = right; covered = c }))

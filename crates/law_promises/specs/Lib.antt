@@ -2,6 +2,8 @@ pub mod Reached
 pub mod KeepsMustCancel
 pub mod Raised
 pub mod MustCancelIn
+pub mod OwnStep
+pub mod Entered
 pub mod Stays
 pub mod Done
 pub mod Owed

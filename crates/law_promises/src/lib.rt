@@ -4,11 +4,13 @@
 
 pub mod cancels;
 pub mod counts;
+pub mod entered;
 pub mod events;
 pub mod exits;
 pub mod groups;
 pub mod ledgers;
 pub mod must_cancel;
+pub mod own_step;
 pub mod states;
 pub mod staying;
 pub mod waiting;

@@ -46,7 +46,7 @@ use Rattle.law_changes.specs.Reaches.{stays, goes}
 use Rattle.law_changes.proofs.LoopRows.{exit_woken_row}
 use Rattle.law_changes.proofs.Folds.{one}
 use Rattle.model_stream.specs.Kept.{StreamsKeep}
-use Rattle.law_cases.specs.Trees.{AllWaits, AnswersStreams, ConnectsStreams, DrainWaits, ExitWaits, IsOwn, Keeping, KeepsStreams, ReadWaits, WaitsNever}
+use Rattle.law_cases.specs.Trees.{AllWaits, AnswersStreams, ConnectsStreams, DrainWaits, ExitWaits, IsOwn, Keeping, KeepsStreams, Owned, ReadWaits, WaitsNever}
 use Rattle.law_cases.proofs.Composing.{streams_all}
 use Rattle.law_cases.proofs.Asking as asking
 use Rattle.law_cases.proofs.Opening as opening
@@ -59,9 +59,12 @@ use Rattle.law_cases.proofs.Closed.{drains_none, drops_none, gives_up_none, read
 use Rattle.law_reach.proofs.Rows.{closed_or_open}
 use Rattle.law_reach.proofs.Trees.{comes_after, tree_comes}
 
--- any future may be kept: what is kept matters to no row
-abbrev pub any : ℕ → Bool
-any future = true
+-- any future may be kept, and so many connections be there: what is kept matters to no row
+abbrev pub any_of : (connections : ℕ) → Owned
+any_of connections = record { has = λ future. true; connections = connections }
+
+abbrev pub any : Owned
+any = any_of 0
 
 pub any_kept : (s : Streams) → StreamsKeep (IsOwn any) s
 any_kept s = streams_all (IsOwn any) (λ future. refl) s

@@ -1,6 +1,6 @@
 -- What a task's step, a callback and the rest of a turn come to are rows of changes.
 use Rattle.std.proofs.Common.{◌≡◌, inl, inr, ◌⊎◌, ℕ, zero, suc, ◌+◌, refl, ap, sym, subst, Bool, true, false, [], ◌∷◌, Option, Some, None, Ok, Err}
-use Rattle.std.proofs.Common.{length, nat_lt, arith}
+use Rattle.std.proofs.Common.{length, nat_lt, le_refl, arith}
 use Rattle.model_value.specs.Action.{Action}
 use Rattle.model_value.specs.declared.action.Action.TheVariants as action
 use Rattle.model_value.specs.declared.input.Input.TheVariants.{Send, Throw}
@@ -36,7 +36,7 @@ use Rattle.law_reach.specs.Changes.{ByAct, ByItem, ChangesStreams, EndsMain, IsO
 use Rattle.law_reach.specs.Reaches.{ComesTo, GoesTo, InCallback}
 use Rattle.law_reach.proofs.Answering.{called_row, in_loop_row}
 use Rattle.law_cases.proofs.Closed.{effect_none}
-use Rattle.law_reach.proofs.Opened.{any, any_kept, decides_comes, reply_comes}
+use Rattle.law_reach.proofs.Opened.{any_kept, any_of, decides_comes, reply_comes}
 use Rattle.law_reach.proofs.Rows.{asks-ran, closed_or_open, in_answer}
 use Rattle.law_reach.proofs.Trees.{goes_after, tree_goes}
 
@@ -113,17 +113,19 @@ module _ {S : Type 0} (limit : ℕ) (added : Extra S) where
           subst (GoesTo added None s) (sym (effect_none s closed limit added it is)) (record { reaches = stays; ends = tt; asks = refl })
       at (inr opened) = each opened
 
-  streams_goes_on : (tree : Doing Streams) (s : State S) → Keeping (KeepsStreams any (next_future s.loop.parts) s.streams) any (next_future s.loop.parts) tree
-      → IsOpen s → GoesTo added None s (streams_go tree s)
+  streams_goes_on : (tree : Doing Streams) (s : State S)
+      → Keeping (KeepsStreams (any_of (length s.streams.connections)) (next_future s.loop.parts) s.streams)
+      (any_of (length s.streams.connections)) (next_future s.loop.parts) tree → IsOpen s → GoesTo added None s (streams_go tree s)
   streams_goes_on tree s keeps opened =
-      tree_goes added None (KeepsStreams any (next_future s.loop.parts) s.streams) any (next_future s.loop.parts) tree goes_with s keeps opened
+      tree_goes added None (KeepsStreams (any_of (length s.streams.connections)) (next_future s.loop.parts) s.streams)
+      (any_of (length s.streams.connections)) (next_future s.loop.parts) tree goes_with s keeps opened
       (λ streams t o. record { reaches = one (ChangesStreams streams) o; ends = tt; asks = refl })
 
   acts_goes : (it : Action) (returned : Bool) (s : State S) → IsOpen s
       → GoesTo added None s (streams_go (act (next_future s.loop.parts) returned it s.streams) s)
   acts_goes it returned s opened =
       streams_goes_on (act (next_future s.loop.parts) returned it s.streams) s
-      (acts any (next_future s.loop.parts) returned it s.streams (any_kept s.streams)) opened
+      (acts (any_of (length s.streams.connections)) (next_future s.loop.parts) returned it s.streams (any_kept s.streams) (le_refl _)) opened
 
   made_goes : (handler : Option ℕ) (conn : ℕ) (s : State S) → IsOpen s → GoesTo added None s (made_by handler conn s)
   made_goes None conn s opened = record { reaches = stays; ends = tt; asks = refl }
@@ -137,7 +139,7 @@ module _ {S : Type 0} (limit : ℕ) (added : Extra S) where
       }
       at false =
           streams_goes_on (close (to.Conn conn) s.streams) s
-          (closes any (next_future s.loop.parts) (to.Conn conn) s.streams (any_kept s.streams)) opened
+          (closes (any_of (length s.streams.connections)) (next_future s.loop.parts) (to.Conn conn) s.streams (any_kept s.streams)) opened
 
   pub effect_goes : (it : Action) (s : State S) → GoesTo added (runner_of it) s (effect limit added it s)
   unfolding effect

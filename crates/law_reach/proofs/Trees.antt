@@ -20,7 +20,7 @@ use Rattle.model_machine.specs.Went.{Went, Stops, answered_so, ask_so, fitted_so
 use Rattle.law_changes.specs.Changes.{OfParts}
 use Rattle.law_changes.specs.Reaches.{stays}
 use Rattle.law_changes.proofs.Folds.{on, one}
-use Rattle.law_cases.specs.Trees.{Keeping, is_aside, is_of_streams, is_select}
+use Rattle.law_cases.specs.Trees.{Keeping, Owned, is_aside, is_of_streams, is_select}
 use Rattle.law_reach.specs.Changes.{Hears, Calls, IsAskedAside, IsHeard, IsOpen, IsUnheard, MayAsk, OfLoop, made}
 use Rattle.law_reach.specs.Asked.{IsAnswered}
 use Rattle.law_reach.specs.Reaches.{ComesTo, GoesTo, InAnswer, InCallback, IsUnmet}
@@ -62,7 +62,7 @@ module _ {S R : Type 0} (added : Extra S) (halts : End → State S → R) (Comes
       by (Answered answer ∷ entries) e = fit (fits call answer) answer entries e
 
   -- the streams stay as they were until the tree ends
-  done_comes : {A : Type 0} (Left : ℕ → A → Type 0) (own : ℕ → Bool) (number : ℕ) (tree : Doing A) (next : A → State S → R) (s : State S)
+  done_comes : {A : Type 0} (Left : ℕ → A → Type 0) (own : Owned) (number : ℕ) (tree : Doing A) (next : A → State S → R) (s : State S)
       → Keeping Left own number tree → IsOpen s → ((it : A) (t : State S) → IsOpen t → Comes t (next it t)) → Comes s (does halts tree next s)
   done_comes Left own number (Ends result) next s keeps opened each = each result s opened
   done_comes Left own number (Changes doing.MakeFuture rest) next s keeps opened each =
@@ -126,14 +126,14 @@ module _ {S : Type 0} (added : Extra S) (r : Option ℕ) where
       asked_comes added Halts (ComesTo added r) (λ change s it is comes. comes_after (change_row added r change s is) refl comes) heard_comes
       missed_comes misfit_comes
 
-  pub tree_comes : {A : Type 0} (Left : ℕ → A → Type 0) (own : ℕ → Bool) (number : ℕ) (tree : Doing A)
+  pub tree_comes : {A : Type 0} (Left : ℕ → A → Type 0) (own : Owned) (number : ℕ) (tree : Doing A)
       (next : A → State S → RequestReply S) (s : State S)
       → Keeping Left own number tree → IsOpen s → ((it : A) (t : State S) → IsOpen t → ComesTo added r t (next it t))
       → ComesTo added r s (does Halts tree next s)
   tree_comes = done_comes added Halts (ComesTo added r)
       (λ change s it is comes. comes_after (change_row added r change s is) refl comes) heard_comes missed_comes misfit_comes
 
-  pub tree_goes : {A : Type 0} (Left : ℕ → A → Type 0) (own : ℕ → Bool) (number : ℕ) (tree : Doing A)
+  pub tree_goes : {A : Type 0} (Left : ℕ → A → Type 0) (own : Owned) (number : ℕ) (tree : Doing A)
       (next : A → State S → Went S) (s : State S)
       → Keeping Left own number tree → IsOpen s → ((it : A) (t : State S) → IsOpen t → GoesTo added r t (next it t))
       → GoesTo added r s (does Stops tree next s)

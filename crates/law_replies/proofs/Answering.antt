@@ -18,7 +18,7 @@ use Rattle.model_loop.specs.Tasks.{future_of, lives, next_task}
 use Rattle.model_loop.specs.Ways.{is_running}
 use Rattle.model_machine.specs.Arguments.{as_awaited}
 use Rattle.model_machine.specs.Extra.{Extra}
-use Rattle.model_machine.specs.Sound.{AreScriptsFutures, IsStateSound, StandsRightly, blocks_of, names_block, names_made, sends_made, stands_at}
+use Rattle.model_machine.specs.Sound.{AreScriptsFutures, IsStateSound, StandsRightly, blocks_of, ids_of, names_block, names_made, sends_made, stands_at}
 use Rattle.model_machine.specs.Sound.{IsLeft, IsOpenedAt}
 use Rattle.model_stream.specs.Streams.{Streams}
 use Rattle.model_machine.specs.State.{ResumePoint, Asked, Leaving, Generator, State, generator, generator_of, resumed, stands, with_streams}
@@ -30,7 +30,8 @@ use Rattle.law_turns.specs.After.{IsAfter, IsLoopAfter}
 use Rattle.law_replies.specs.InStep.{IsStepSound, IsAsked, MayStandAt, SameTapes}
 use Rattle.law_replies.proofs.Blocks.{open_kept}
 use Rattle.law_replies.proofs.Counts.{get_there, and_first, and_second, and_both, lives_within, own_there, lives_before, of_plain}
-use Rattle.law_replies.proofs.Given.{Made, said_made, made_task, asked_sleeps, asked_leaves}
+use Rattle.law_replies.proofs.Given.{Made, said_made, asked_sleeps, asked_leaves}
+use Rattle.law_replies.proofs.Ids.{loop_more, made_task}
 use Rattle.law_replies.proofs.Keeping.{IsApart, apart_of, open_of, with_open, joined, says_same, tapes_blocks, loop_keeps, stays_stood, leaves_none}
 use Rattle.law_replies.proofs.Keeping.{resumed_blocks, resumed_others, resumed_resume_point, resumed_begun, answer_keeps, stood_resume_point, stood_tape}
 use Rattle.law_replies.proofs.Keeping.{stood_says}
@@ -64,9 +65,6 @@ left_before s t test grown excused timeout group begun a id f k e =
     (sym (ap not (g.ended f)) ∙ and_second (group_of t.loop id).exiting (not (group_of t.loop id).ended) e)
 
 module _ {S : Type 0} (added : Extra S) (task : ℕ) (stood : ResumePoint) (asked : Request) (s : State S) (is : IsAsked added task stood asked s) where
-  abbrev n : ℕ
-  n = next_task s.loop.parts
-
   pub half : IsApart (Some task) (Some task) added s
   half = apart_of added (Some task) (Some task) s is.others
 
@@ -81,9 +79,9 @@ module _ {S : Type 0} (added : Extra S) (task : ℕ) (stood : ResumePoint) (aske
       → is_pending s.loop.parts on ≡ true
   awaited_there (Fut id) on a e none = let f = is.others.futures.plain id on e in pending_of s on f.0 f.1 none
   awaited_there (Task id) on a e none =
-      let made = subst (λ q. InSaying (Made (next_task s.loop.parts)) (Asks q)) a
-      (subst (InSaying (Made (next_task s.loop.parts))) is.says (said_made added (Some task) (Some task) s half task)) in
-      let there = own_there s.loop.parts is.others.loop.parts.owns id (made_task (next_task s.loop.parts) id made) in
+      let made = subst (λ q. InSaying (Made (ids_of s)) (Asks q)) a
+      (subst (InSaying (Made (ids_of s))) is.says (said_made added (Some task) (Some task) s half task)) in
+      let there = own_there s.loop.parts is.others.loop.parts.owns id (made_task (ids_of s) id made) in
       let same : future_of s.loop.parts id ≡ on = ap (λ o. option_map_or (λ (y : ℕ). y) o on) e in
       let f = get_there s.loop.parts.futures on (omega (arith, there, same)) in
       pending_of s on f.0 f.1 none
@@ -91,7 +89,7 @@ module _ {S : Type 0} (added : Extra S) (task : ℕ) (stood : ResumePoint) (aske
 
   module _ (t : State S) (tapes : SameTapes s t) (scripts : AreScriptsFutures t) (main : t.main_done ≡ s.main_done)
       (made : next_task t.loop.parts ≡ next_task s.loop.parts) where
-    over : (excused : Option ℕ) → IsAfter (names_made (next_task s.loop.parts)) false excused s.loop.parts t.loop.parts
+    over : (excused : Option ℕ) → IsAfter (names_made (ids_of s)) false excused s.loop.parts t.loop.parts
         → t.main_done ≡ true → lives t.loop.parts 0 ≡ false
     over excused a done = at (lives t.loop.parts 0) refl
       where
@@ -113,43 +111,65 @@ module _ {S : Type 0} (added : Extra S) (task : ℕ) (stood : ResumePoint) (aske
     t_blocks : (other : ℕ) → blocks_of t other ≡ blocks_of s other
     t_blocks = tapes_blocks added s t tapes (Some task) None (Some task) (Some task)
 
-    -- ---- the coroutine is answered
-    pub step_to : IsLoopAfter (names_made (next_task s.loop.parts)) false (Some task) None None None s.loop t.loop → RunsSound task t
-        → ((id : ℕ) → stood ≡ Leaving id → ⊥) → (fresh : Bool) (input : Input) → ((blocks : List Value) → open_with blocks asked input ≡ blocks)
-        → names_block asked input ≡ true → sends_made (next_task s.loop.parts) input ≡ true → IsStepSound added task (resumed fresh task input t)
-    step_to a sound still fresh input plain named good = record {
-      others = with_open added (Some task) (Some task) (resumed fresh task input t)
-          (answer_keeps added task asked fresh input t t_within t_says named (ap (λ k. sends_made k input) made ∙ good)
-          (loop_keeps added s t tapes (Some task) (Some task) (Some task) (Some task) a.parts made sound (λ other f. f) (over (Some task) a.parts)
-          (stays_stood added s t tapes (Some task) (Some task) (Some task) (Some task) _ _ None None None a (λ other id f e r. refl))
-          (leaves_none added s t tapes (Some task) (Some task) (Some task) (Some task) _ _ None None None a (λ id f. (refl, refl))) scripts half))
-          (open_kept _ _ (Some task) None s.loop t.loop (blocks_of s) (blocks_of (resumed fresh task input t)) a same
-          (open_of added (Some task) (Some task) s is.others.blocks));
-      resume_point = resumed_resume_point added task asked fresh input t t_within t_says t_resume_point;
-      begun = resumed_begun added task asked fresh input t t_within t_says;
-      exits = λ id e mine.
-          still id (is.exits id (left_before s t _ _ (Some task) None None None a id refl refl e) (mine ∙ (a.groups id).parent));
-    }
+    -- ---- the loop went on, and the task is still inside its step
+    inside : IsLoopAfter (names_made (ids_of s)) false (Some task) None None None s.loop t.loop → RunsSound task t → IsApart (Some task) (Some task) added t
+    inside a sound =
+        loop_keeps added s t tapes (Some task) (Some task) (Some task) (Some task) a.parts made (loop_more s t tapes a) sound (λ other f. f)
+        (over (Some task) a.parts)
+        (stays_stood added s t tapes (Some task) (Some task) (Some task) (Some task) _ _ None None None a (λ other id f e r. refl))
+        (leaves_none added s t tapes (Some task) (Some task) (Some task) (Some task) _ _ None None None a (λ id f. (refl, refl))) scripts half
+
+    -- ---- the coroutine is answered, with these streams
+    answered_from : (streams : Streams) → IsLoopAfter (names_made (ids_of s)) false (Some task) None None None s.loop t.loop
+        → IsApart (Some task) (Some task) added (with_streams streams t) → ((id : ℕ) → stood ≡ Leaving id → ⊥) → (fresh : Bool) (input : Input)
+        → ((blocks : List Value) → open_with blocks asked input ≡ blocks) → names_block asked input ≡ true
+        → sends_made (ids_of (with_streams streams t)) input ≡ true → IsStepSound added task (resumed fresh task input (with_streams streams t))
+    answered_from streams a apart still fresh input plain named good =
+        let v = with_streams streams t in
+        record {
+          others = with_open added (Some task) (Some task) (resumed fresh task input v)
+              (answer_keeps added task asked fresh input v t_within t_says named good apart)
+              (open_kept _ _ (Some task) None s.loop t.loop (blocks_of s) (blocks_of (resumed fresh task input v)) a same
+              (open_of added (Some task) (Some task) s is.others.blocks));
+          resume_point = resumed_resume_point added task asked fresh input v t_within t_says t_resume_point;
+          begun = resumed_begun added task asked fresh input v t_within t_says;
+          exits = λ id e mine.
+              still id (is.exits id (left_before s t _ _ (Some task) None None None a id refl refl e) (mine ∙ (a.groups id).parent));
+        }
       where
-        same : (other : ℕ) → blocks_of (resumed fresh task input t) other ≡ blocks_of s other
+        same : (other : ℕ) → blocks_of (resumed fresh task input (with_streams streams t)) other ≡ blocks_of s other
         same other = at (cases_eq task other)
           where
-            at : (task ≡ other) ⊎ (task ≡ other → ⊥) → blocks_of (resumed fresh task input t) other ≡ blocks_of s other
+            at : (task ≡ other) ⊎ (task ≡ other → ⊥) → blocks_of (resumed fresh task input (with_streams streams t)) other ≡ blocks_of s other
             at (inl e) =
-                subst (λ k. blocks_of (resumed fresh task input t) k ≡ blocks_of s k) e
-                (resumed_blocks added task asked fresh input t t_within t_says ∙ plain (blocks_of t task) ∙ t_blocks task)
-            at (inr d) = resumed_others added task asked fresh input t t_within t_says other d ∙ t_blocks other
+                subst (λ k. blocks_of (resumed fresh task input (with_streams streams t)) k ≡ blocks_of s k) e
+                (resumed_blocks added task asked fresh input (with_streams streams t) t_within t_says ∙ plain (blocks_of t task) ∙ t_blocks task)
+            at (inr d) = resumed_others added task asked fresh input (with_streams streams t) t_within t_says other d ∙ t_blocks other
+
+    pub step_to : IsLoopAfter (names_made (ids_of s)) false (Some task) None None None s.loop t.loop → RunsSound task t
+        → ((id : ℕ) → stood ≡ Leaving id → ⊥) → (fresh : Bool) (input : Input) → ((blocks : List Value) → open_with blocks asked input ≡ blocks)
+        → names_block asked input ≡ true → sends_made (ids_of t) input ≡ true → IsStepSound added task (resumed fresh task input t)
+    step_to a sound still fresh input plain named good = answered_from t.streams a (inside a sound) still fresh input plain named good
+
+    pub step_replaced : (streams : Streams) → Replaces t streams → IsLoopAfter (names_made (ids_of s)) false (Some task) None None None s.loop t.loop
+        → RunsSound task t → ((id : ℕ) → stood ≡ Leaving id → ⊥) → (fresh : Bool) (input : Input)
+        → ((blocks : List Value) → open_with blocks asked input ≡ blocks) → names_block asked input ≡ true
+        → sends_made (ids_of (with_streams streams t)) input ≡ true → IsStepSound added task (resumed fresh task input (with_streams streams t))
+    step_replaced streams new a sound still fresh input plain named good =
+        let apart = inside a sound in
+        answered_from streams a (over_replaced added (Some task) (Some task) t streams new apart apart.blocks) still fresh input plain named good
 
     -- ---- the step ends, and the task asks as before
-    suspended : (begun : Option ℕ) → IsLoopAfter (names_made (next_task s.loop.parts)) false (Some task) None None begun s.loop t.loop → HasSoundLoop t
+    suspended : (begun : Option ℕ) → IsLoopAfter (names_made (ids_of s)) false (Some task) None None begun s.loop t.loop → HasSoundLoop t
         → ((id : ℕ) → is_running (Some task) (group_of s.loop id).parent ≡ false → is_running begun id ≡ false)
         → IsApart None (Some task) added t
     suspended begun a sound mine =
-        loop_keeps added s t tapes (Some task) None (Some task) (Some task) a.parts made sound (λ other f. f) (over (Some task) a.parts)
+        loop_keeps added s t tapes (Some task) None (Some task) (Some task) a.parts made (loop_more s t tapes a) sound (λ other f. f)
+        (over (Some task) a.parts)
         (stays_stood added s t tapes (Some task) None (Some task) (Some task) _ _ None None begun a (λ other id f e r. refl))
         (leaves_none added s t tapes (Some task) None (Some task) (Some task) _ _ None None begun a (λ id f. (refl, mine id f))) scripts half
 
-    pub suspended_to : IsLoopAfter (names_made (next_task s.loop.parts)) false (Some task) None None None s.loop t.loop → HasSoundLoop t
+    pub suspended_to : IsLoopAfter (names_made (ids_of s)) false (Some task) None None None s.loop t.loop → HasSoundLoop t
         → ((id : ℕ) → stood ≡ Leaving id → ⊥) → ((generator_of task s).tape ≡ [] → ⊥) → stands_at Asked asked ≡ true → IsStateSound added t
     suspended_to a sound still begun may =
         joined added t task
@@ -163,7 +183,7 @@ module _ {S : Type 0} (added : Extra S) (task : ℕ) (stood : ResumePoint) (aske
     -- ---- the step ends, and the task stands at its request, with these streams
     stood_from : (streams : Streams) (resume_point : ResumePoint) → MayStandAt (added.keeps t.extra).has_key t.generators resume_point
         → (begun : Option ℕ)
-        → IsLoopAfter (names_made (next_task s.loop.parts)) false (Some task) None None begun s.loop t.loop
+        → IsLoopAfter (names_made (ids_of s)) false (Some task) None None begun s.loop t.loop
         → IsApart None (Some task) added (with_streams streams t) → ((generator_of task s).tape ≡ [] → ⊥) → stands_at resume_point asked ≡ true
         → StandsRightly (stands resume_point task (with_streams streams t)) task
         → ((id : ℕ) → IsLeft t id → task ≡ (group_of t.loop id).parent → resume_point ≡ Leaving id)
@@ -185,7 +205,7 @@ module _ {S : Type 0} (added : Extra S) (task : ℕ) (stood : ResumePoint) (aske
         (λ id e m. stood_resume_point added task resume_point v t_within ∙ left id e m)
 
     pub suspended_stood : (resume_point : ResumePoint) → MayStandAt (added.keeps t.extra).has_key t.generators resume_point → (begun : Option ℕ)
-        → IsLoopAfter (names_made (next_task s.loop.parts)) false (Some task) None None begun s.loop t.loop → HasSoundLoop t
+        → IsLoopAfter (names_made (ids_of s)) false (Some task) None None begun s.loop t.loop → HasSoundLoop t
         → ((id : ℕ) → is_running (Some task) (group_of s.loop id).parent ≡ false → is_running begun id ≡ false)
         → ((generator_of task s).tape ≡ [] → ⊥) → stands_at resume_point asked ≡ true → StandsRightly (stands resume_point task t) task
         → ((id : ℕ) → IsLeft t id → task ≡ (group_of t.loop id).parent → resume_point ≡ Leaving id) → IsStateSound added (stands resume_point task t)
@@ -194,7 +214,7 @@ module _ {S : Type 0} (added : Extra S) (task : ℕ) (stood : ResumePoint) (aske
 
     pub suspended_replaced : (streams : Streams) → Replaces t streams → (resume_point : ResumePoint)
         → MayStandAt (added.keeps t.extra).has_key t.generators resume_point
-        → IsLoopAfter (names_made (next_task s.loop.parts)) false (Some task) None None None s.loop t.loop → HasSoundLoop t
+        → IsLoopAfter (names_made (ids_of s)) false (Some task) None None None s.loop t.loop → HasSoundLoop t
         → ((generator_of task s).tape ≡ [] → ⊥) → stands_at resume_point asked ≡ true
         → StandsRightly (stands resume_point task (with_streams streams t)) task
         → ((id : ℕ) → IsLeft t id → task ≡ (group_of t.loop id).parent → resume_point ≡ Leaving id)

@@ -1,8 +1,8 @@
 -- Requests that make tasks, and those that enter blocks.
 use Rattle.std.proofs.Common.{◌≡◌, ℕ, ◌+◌, ◌<◌, ◌≤◌, ◌⊎◌, inl, inr, ℤ, Bool, true, false, not, ◌&&◌, List, ◌∷◌, Option, Some, None, length}
-use Rattle.std.proofs.Common.{length-append, option_map, refl, sym, ap, subst, ◌∙◌, arith}
+use Rattle.std.proofs.Common.{length-append, option_map, le_refl, refl, sym, ap, subst, ◌∙◌, arith}
 use Rattle.std.specs.List.{list_all}
-use Rattle.std.proofs.lemmas.Bool.{cases_eq, cases_lt, false≢true}
+use Rattle.std.proofs.lemmas.Bool.{cases_eq, cases_lt, lt-ltb, false≢true}
 use Rattle.model_value.specs.Input.{Input}
 use Rattle.model_value.specs.declared.action.Action.TheVariants.{GroupDone}
 use Rattle.model_value.specs.declared.input.Input.TheVariants.{Send}
@@ -22,7 +22,7 @@ use Rattle.model_loop.specs.Timeouts.{enter_timeout, make_timeout, next_timeout}
 use Rattle.model_loop.specs.Totals.{pending_where}
 use Rattle.model_machine.specs.Extra.{Extra}
 use Rattle.model_machine.specs.Replies.{creates_unless, spawns}
-use Rattle.model_machine.specs.Sound.{IsLeft, IsUnbegun, blocks_of, names_block, names_made}
+use Rattle.model_machine.specs.Sound.{IsLeft, IsUnbegun, blocks_of, ids_of, names_block, names_made}
 use Rattle.model_machine.specs.State.{Asked, Generator, State, generator_of, in_loop, resumed, with_coroutine}
 use Rattle.model_machine.specs.Step.{says_of}
 use Rattle.model_machine.specs.Told.{told_in}
@@ -39,7 +39,8 @@ use Rattle.law_replies.proofs.Handling.{spawned_step}
 use Rattle.law_replies.proofs.Answering.{half, alive, within, left_before}
 use Rattle.law_replies.proofs.Blocks.{open_kept, timeout_made_open, group_entered_open, entered_new, entered_is, entered_old, groups_longer}
 use Rattle.law_replies.proofs.Counts.{and_first, count_unbegun, lives_before, lives_within}
-use Rattle.law_replies.proofs.Given.{asked_leaves, task_made, spawn_keeps, spawned_blocks, old_same}
+use Rattle.law_replies.proofs.Given.{asked_leaves, spawn_keeps, spawned_blocks, old_same}
+use Rattle.law_replies.proofs.Ids.{IsMore, ids_more, task_made}
 use Rattle.law_replies.proofs.Keeping.{IsApart, open_of, with_open, says_same, tapes_blocks, futures_kept, loop_keeps, resume_point_kept, resumed_blocks}
 use Rattle.law_replies.proofs.Keeping.{resumed_others, resumed_resume_point, resumed_begun, answer_keeps}
 use Rattle.law_replies.proofs.Table.{same_tapes}
@@ -47,7 +48,7 @@ use Rattle.law_replies.proofs.Tapes.{past_default}
 
 module _ {S : Type 0} (added : Extra S) (task : ℕ) (s : State S) (asked : Request) (is : IsAsked added task Asked asked s) where
   -- ---- main is over as before
-  over_in : (grown : Bool) (l : Loop) → IsAfter (names_made (next_task s.loop.parts)) grown (Some task) s.loop.parts l.parts
+  over_in : (grown : Bool) (l : Loop) → IsAfter (names_made (ids_of s)) grown (Some task) s.loop.parts l.parts
       → s.main_done ≡ true → lives l.parts 0 ≡ false
   over_in grown l a done = at (lives l.parts 0) refl
     where
@@ -60,8 +61,8 @@ module _ {S : Type 0} (added : Extra S) (task : ℕ) (s : State S) (asked : Requ
   -- ---- a task is made, and its coroutine added
   module _ (plain : (blocks : List Value) (input : Input) → open_with blocks asked input ≡ blocks)
       (named : (input : Input) → names_block asked input ≡ true) (coroutine : ℕ) (arguments : List Value)
-      (given_ : list_all (names_made (next_task s.loop.parts)) arguments ≡ true) (l : Loop)
-      (a : IsLoopAfter (names_made (next_task s.loop.parts)) true (Some task) None None None s.loop l)
+      (given_ : list_all (names_made (ids_of s)) arguments ≡ true) (l : Loop)
+      (a : IsLoopAfter (names_made (ids_of s)) true (Some task) None None None s.loop l)
       (more : next_task l.parts ≡ next_task s.loop.parts + 1) (first : IsUnbegun l.parts (next_task s.loop.parts))
       (sound : RunsSound task (record s { loop = l })) where
     abbrev with_it : State S
@@ -102,7 +103,7 @@ module _ {S : Type 0} (added : Extra S) (task : ℕ) (s : State S) (asked : Requ
     made_in = record {
       others = with_open added (Some task) (Some task) told
           (answer_keeps added task asked false (Send (Task (next_task s.loop.parts))) with_it its_within its_says
-          (named (Send (Task (next_task s.loop.parts)))) (task_made (next_task l.parts) (next_task s.loop.parts) (omega (arith, more))) made_half)
+          (named (Send (Task (next_task s.loop.parts)))) (task_made (ids_of (record s { loop = l })) (next_task s.loop.parts) (omega (arith, more))) made_half)
           (open_kept _ _ (Some task) None s.loop l (blocks_of s) (blocks_of told) a (λ other. its_blocks other (cases_eq task other))
           (open_of added (Some task) (Some task) s is.others.blocks));
       resume_point = resumed_resume_point added task asked false (Send (Task (next_task s.loop.parts))) with_it its_within its_says
@@ -115,17 +116,17 @@ module _ {S : Type 0} (added : Extra S) (task : ℕ) (s : State S) (asked : Requ
   -- ---- `spawn` and `create`
   module _ (plain : (blocks : List Value) (input : Input) → open_with blocks asked input ≡ blocks)
       (named : (input : Input) → names_block asked input ≡ true) (coroutine : ℕ) (arguments : List Value)
-      (given_ : list_all (names_made (next_task s.loop.parts)) arguments ≡ true) where
+      (given_ : list_all (names_made (ids_of s)) arguments ≡ true) where
     pub spawns_in : RepliesSound task (spawns coroutine arguments s) → RepliesInStep added false task (spawns coroutine arguments s)
     spawns_in h =
         made_in plain named coroutine arguments given_ (in_parts spawn s.loop)
-        (parts_loop (names_made (next_task s.loop.parts)) refl true (Some task) None None None s.loop (spawn s.loop.parts)
-        (spawn_after (names_made (next_task s.loop.parts)) (Some task) s.loop.parts))
+        (parts_loop (names_made (ids_of s)) refl true (Some task) None None None s.loop (spawn s.loop.parts)
+        (spawn_after (names_made (ids_of s)) (Some task) s.loop.parts))
         (length-append s.loop.parts.tasks _) (count_unbegun (spawn s.loop.parts) (next_task s.loop.parts) (spawned_step s.loop.parts)) h
 
-    child_after : (id : ℕ) → IsAfter (names_made (next_task s.loop.parts)) false None (spawn s.loop.parts) (with_child id s.loop.parts)
+    child_after : (id : ℕ) → IsAfter (names_made (ids_of s)) false None (spawn s.loop.parts) (with_child id s.loop.parts)
     child_after id =
-        register_after (names_made (next_task s.loop.parts)) false None (next_future s.loop.parts) (GroupDone id (next_task s.loop.parts))
+        register_after (names_made (ids_of s)) false None (next_future s.loop.parts) (GroupDone id (next_task s.loop.parts))
         (spawn s.loop.parts) refl
 
     child_step : (id : ℕ) → 0 < pending_where (is_step (next_task s.loop.parts)) (with_child id s.loop.parts).pending
@@ -141,7 +142,7 @@ module _ {S : Type 0} (added : Extra S) (task : ℕ) (s : State S) (asked : Requ
         → RepliesInStep added false task (creates_unless None id coroutine arguments s)
     creates_in id e h =
         made_in plain named coroutine arguments given_ (create id s.loop)
-        (create_loop (names_made (next_task s.loop.parts)) refl (Some task) None None None id s.loop) (created (refusal (group_of s.loop id)) refl e) begun h
+        (create_loop (names_made (ids_of s)) refl (Some task) None None None id s.loop) (created (refusal (group_of s.loop id)) refl e) begun h
       where
         created : (o : Option Refusal) → refusal (group_of s.loop id) ≡ o → o ≡ None → next_task (create id s.loop).parts ≡ next_task s.loop.parts + 1
         created o e none = ap (λ r. next_task (create_unless r id s.loop).parts) (e ∙ none) ∙ child_count id
@@ -159,9 +160,9 @@ module _ {S : Type 0} (added : Extra S) (task : ℕ) (s : State S) (asked : Requ
     abbrev sent : State S
     sent = resumed false task (Send (Timeout (length s.loop.timeouts))) (in_loop (enter_timeout task when) s)
 
-    scheduled : IsLoopAfter (names_made (next_task s.loop.parts)) false (Some task) None None None (make_timeout task s.loop) into.loop
+    scheduled : IsLoopAfter (names_made (ids_of s)) false (Some task) None None None (make_timeout task s.loop) into.loop
     scheduled =
-        schedule_loop (names_made (next_task s.loop.parts)) refl false (Some task) None None None (next_timeout s.loop)
+        schedule_loop (names_made (ids_of s)) refl false (Some task) None None None (next_timeout s.loop)
         (option_map (deadline s.loop.parts.time) when) (make_timeout task s.loop)
         (make_timeout_tags task s.loop (tags_of_sound (Some task) (told_in s.events) s.loop is.others.loop))
 
@@ -182,9 +183,18 @@ module _ {S : Type 0} (added : Extra S) (task : ℕ) (s : State S) (asked : Requ
         resumed_others added task asked false (Send (Timeout (length s.loop.timeouts))) into (within added task Asked asked s is) into_says other n
         ∙ into_blocks other
 
+    into_count : length into.loop.timeouts ≡ length s.loop.timeouts + 1
+    into_count = scheduled.timeouts_made ∙ length-append s.loop.timeouts _
+
+    into_more : IsMore (ids_of s) (ids_of into)
+    into_more =
+        let groups = scheduled.groups_made in
+        let count = into_count in
+        ids_more s into (same_tapes s into.loop) scheduled.parts.tasks (omega (arith, count)) (omega (arith, groups))
+
     into_half : IsApart (Some task) (Some task) added into
     into_half =
-        loop_keeps added s into (same_tapes s into.loop) (Some task) (Some task) (Some task) (Some task) scheduled.parts (scheduled.parts.same refl) h
+        loop_keeps added s into (same_tapes s into.loop) (Some task) (Some task) (Some task) (Some task) scheduled.parts (scheduled.parts.same refl) into_more h
         (λ other f. f) (over_in false into.loop scheduled.parts)
         (λ other f l right. resume_point_kept added (record s { loop = make_timeout task s.loop }) into refl other refl _ _ (Some task) None None None scheduled
         refl (λ id e. refl)
@@ -197,7 +207,8 @@ module _ {S : Type 0} (added : Extra S) (task : ℕ) (s : State S) (asked : Requ
     enters_timeout_in = record {
       others = with_open added (Some task) (Some task) sent
           (answer_keeps added task asked false (Send (Timeout (length s.loop.timeouts))) into (within added task Asked asked s is) into_says
-          (ap (λ q. names_block q (Send (Timeout (length s.loop.timeouts)))) is_asked) refl into_half)
+          (ap (λ q. names_block q (Send (Timeout (length s.loop.timeouts)))) is_asked)
+          (let count = into_count in lt-ltb (length s.loop.timeouts) (length into.loop.timeouts) (omega (arith, count))) into_half)
           (open_kept _ _ (Some task) None (make_timeout task s.loop) into.loop (blocks_of sent) (blocks_of sent) scheduled (λ other. refl)
           (timeout_made_open s.loop task (blocks_of s) (blocks_of sent) sent_others (open_of added (Some task) (Some task) s is.others.blocks) sent_blocks));
       resume_point = resumed_resume_point added task asked false (Send (Timeout (length s.loop.timeouts))) into
@@ -267,11 +278,16 @@ module _ {S : Type 0} (added : Extra S) (task : ℕ) (s : State S) (asked : Requ
             absurd (false≢true (sym (ap (λ (x : GroupFields). x.exiting) (past_default s.loop.groups id (new_group 0) past))
             ∙ and_first (group_of s.loop id).exiting (not (group_of s.loop id).ended) e))
 
+    inside_more : IsMore (ids_of s) (ids_of inside)
+    inside_more =
+        let count = groups_longer task s.loop in
+        ids_more s inside (same_tapes s inside.loop) (le_refl _) (le_refl _) (omega (arith, count))
+
     inside_half : IsApart (Some task) (Some task) added inside
     inside_half =
         loop_keeps added s inside (same_tapes s inside.loop) (Some task) (Some task) (Some task) (Some task)
-        (refl_after (names_made (next_task s.loop.parts)) false (Some task) s.loop.parts) refl h
-        (λ other f. f) (over_in false inside.loop (refl_after (names_made (next_task s.loop.parts)) false (Some task) s.loop.parts))
+        (refl_after (names_made (ids_of s)) false (Some task) s.loop.parts) refl inside_more h
+        (λ other f. f) (over_in false inside.loop (refl_after (names_made (ids_of s)) false (Some task) s.loop.parts))
         (λ other f l right. record {
           sleeping = right.sleeping;
           leaving = λ id e. ap (λ (g : GroupFields). g.parent) (entered_old task s.loop id (stood_old id (right.leaving_now id e))) ∙ right.leaving id e;
@@ -287,7 +303,8 @@ module _ {S : Type 0} (added : Extra S) (task : ℕ) (s : State S) (asked : Requ
     enters_group_in = record {
       others = with_open added (Some task) (Some task) handed
           (answer_keeps added task asked false (Send (Group (length s.loop.groups))) inside (within added task Asked asked s is) inside_says
-          (ap (λ q. names_block q (Send (Group (length s.loop.groups)))) is_asked) refl inside_half)
+          (ap (λ q. names_block q (Send (Group (length s.loop.groups)))) is_asked)
+          (let count = groups_longer task s.loop in lt-ltb (length s.loop.groups) (length inside.loop.groups) (omega (arith, count))) inside_half)
           (group_entered_open s.loop task (blocks_of s) (blocks_of handed) handed_others
           (open_of added (Some task) (Some task) s is.others.blocks) handed_blocks);
       resume_point = resumed_resume_point added task asked false (Send (Group (length s.loop.groups))) inside

@@ -15,12 +15,13 @@ use Rattle.model_says.specs.Says.{step_limit}
 use Rattle.model_loop.specs.Groups.{GroupExit, Waits, Passes, Raises as RaisedBy, group_of}
 use Rattle.model_loop.specs.Loop.{Loop, book}
 use Rattle.model_loop.specs.Suspend.{suspend}
-use Rattle.model_loop.specs.Tasks.{lives, next_task}
+use Rattle.model_loop.specs.Tasks.{lives}
 use Rattle.model_loop.specs.Timeouts.{exit_timeout, timeout_exception, timeout_of}
 use Rattle.model_loop.specs.Ways.{is_running}
 use Rattle.model_machine.specs.Extra.{Extra}
 use Rattle.model_machine.specs.Replies.{exits_as, exits_timeout, timed_out_if, waits}
-use Rattle.model_machine.specs.Sound.{AreBlocksOf, IsLeft, IsOpenedAt, IsStateSound, StandsRightly, blocks_of, is_open, names_block, names_made, sends_made}
+use Rattle.model_machine.specs.Sound.{AreBlocksOf, IsLeft, IsOpenedAt, IsStateSound, StandsRightly}
+use Rattle.model_machine.specs.Sound.{blocks_of, is_open, ids_of, names_block, names_made, sends_made}
 use Rattle.model_machine.specs.State.{ResumePoint, Asked, Sleeping, Leaving, State, generator_of, resumed, stands, with_loop}
 use Rattle.model_machine.specs.Step.{says_of}
 use Rattle.model_machine.specs.Told.{told_in}
@@ -38,6 +39,7 @@ use Rattle.law_replies.proofs.Counts.{and_first, and_second, and_both, not_true,
 use Rattle.law_replies.proofs.Given.{asked_leaves}
 use Rattle.law_replies.proofs.Keeping.{open_of, with_open, says_same, tapes_blocks, futures_kept, loop_keeps, stays_stood, leaves_none, resumed_blocks}
 use Rattle.law_replies.proofs.Keeping.{resumed_others, resumed_resume_point, resumed_begun, answer_keeps, stood_resume_point}
+use Rattle.law_replies.proofs.Ids.{input_up, loop_more}
 use Rattle.law_replies.proofs.Table.{same_tapes}
 
 -- ---- one block less
@@ -68,18 +70,19 @@ module _ {S : Type 0} (added : Extra S) (task : ℕ) (stood : ResumePoint) (aske
   u_others other n = resumed_others added task asked fresh input t (within added task stood asked s is) t_says other n ∙ t_blocks other
 
   -- an answer that leaves this block
-  pub left_to : (timeout group begun : Option ℕ) (a : IsLoopAfter (names_made (next_task s.loop.parts)) false (Some task) timeout group begun s.loop l)
+  pub left_to : (timeout group begun : Option ℕ) (a : IsLoopAfter (names_made (ids_of s)) false (Some task) timeout group begun s.loop l)
       → RunsSound task t
       → ((other id : ℕ) → is_running (Some task) other ≡ false → (generator_of other s).resume_point ≡ Leaving id → StandsRightly s other
       → is_running group id ≡ false)
       → ((id : ℕ) → is_running (Some task) (group_of s.loop id).parent ≡ false → (is_running group id ≡ false) × (is_running begun id ≡ false))
       → ((id : ℕ) → IsLeft t id → task ≡ (group_of l id).parent → ⊥) → AreOpenAt l (blocks_of u) → names_block asked input ≡ true
-      → sends_made (next_task s.loop.parts) input ≡ true → IsStepSound added task u
+      → sends_made (ids_of s) input ≡ true → IsStepSound added task u
   left_to timeout group begun a sound free free' exits opened named good = record {
     others = with_open added (Some task) (Some task) u
         (answer_keeps added task asked fresh input t (within added task stood asked s is) t_says named
-        (ap (λ k. sends_made k input) (a.parts.same refl) ∙ good)
-        (loop_keeps added s t (same_tapes s l) (Some task) (Some task) (Some task) (Some task) a.parts (a.parts.same refl) sound (λ other f. f)
+        (input_up (ids_of s) (ids_of t) (loop_more s t (same_tapes s l) a) input good)
+        (loop_keeps added s t (same_tapes s l) (Some task) (Some task) (Some task) (Some task) a.parts (a.parts.same refl)
+        (loop_more s t (same_tapes s l) a) sound (λ other f. f)
         over (stays_stood added s t (same_tapes s l) (Some task) (Some task) (Some task) (Some task) _ _ timeout group begun a free)
         (leaves_none added s t (same_tapes s l) (Some task) (Some task) (Some task) (Some task) _ _ timeout group begun a free')
         (futures_kept s t refl refl (λ id h. a.parts.plain id h) is.others.futures) (half added task stood asked s is))) opened;
@@ -113,12 +116,12 @@ module _ {S : Type 0} (added : Extra S) (task : ℕ) (s : State S) (raised : Opt
       is.others.blocks.timeouts id timeout_there ∙ ap (λ k. list_any (equal (Timeout id)) (blocks_of s k)) block_is.0.1
       ∙ ap (list_any (equal (Timeout id))) mine ∙ ap (λ b. b || list_any (equal (Timeout id)) outer) (eq-eqb id id refl)
 
-  left_by : (input : Input) → sends_made (next_task s.loop.parts) input ≡ true → RunsSound task (with_loop (exit_timeout raised id s.loop).loop s)
+  left_by : (input : Input) → sends_made (ids_of s) input ≡ true → RunsSound task (with_loop (exit_timeout raised id s.loop).loop s)
       → IsStepSound added task (resumed false task input (with_loop (exit_timeout raised id s.loop).loop s))
   left_by input good h =
       let tags = tags_of_sound (Some task) (told_in s.events) s.loop is.others.loop in
       let m = (exit_timeout raised id s.loop).loop in
-      let a = leave_loop (names_made (next_task s.loop.parts)) refl false (Some task) None None raised id s.loop tags in
+      let a = leave_loop (names_made (ids_of s)) refl false (Some task) None None raised id s.loop tags in
       left_to added task Asked (request.TimeoutExit (Timeout id) raised) s is false input m (Timeout id) outer mine (λ b. refl) (Some id) None None a h
       (λ other gid f e r. refl) (λ gid f. (refl, refl))
       (λ gid e m'. asked_leaves gid
@@ -126,7 +129,7 @@ module _ {S : Type 0} (added : Extra S) (task : ℕ) (s : State S) (raised : Opt
       (timeout_left_open s.loop task (blocks_of s) (blocks_of (resumed false task input (with_loop m s)))
       (u_others added task Asked (request.TimeoutExit (Timeout id) raised) s is false input m (Timeout id) outer mine (λ b. refl))
       (open_of added (Some task) (Some task) s is.others.blocks) _ _ (Some task) None m id a
-      (leave_closes (names_made (next_task s.loop.parts)) refl false (Some task) None None raised id s.loop tags timeout_there)
+      (leave_closes (names_made (ids_of s)) refl false (Some task) None None raised id s.loop tags timeout_there)
       (u_less added task Asked (request.TimeoutExit (Timeout id) raised) s is false input m (Timeout id) outer mine (λ b. refl)))
       refl good
 
@@ -184,7 +187,7 @@ module _ {S : Type 0} (added : Extra S) (task : ℕ) (stood : ResumePoint) (s : 
       ne_eqb id gid (λ same. false≢true (sym f ∙ eq-eqb task other (sym group_its ∙ ap (λ k. (group_of s.loop k).parent) same ∙ right.leaving gid e)))
 
   module _ (begun : Option ℕ) (may : (gid : ℕ) → is_running begun gid ≡ true → gid ≡ id) (m : Loop)
-      (a : IsLoopAfter (names_made (next_task s.loop.parts)) false (Some task) None (Some id) begun s.loop m)
+      (a : IsLoopAfter (names_made (ids_of s)) false (Some task) None (Some id) begun s.loop m)
       (marks : (group_of m id).exiting ≡ true) (was : (gid : ℕ) → stood ≡ Leaving gid → gid ≡ id) where
     other_begun : (gid : ℕ) → (id ≡ gid → ⊥) → is_running begun gid ≡ false
     other_begun gid n = at (is_running begun gid) refl
@@ -196,7 +199,7 @@ module _ {S : Type 0} (added : Extra S) (task : ℕ) (stood : ResumePoint) (s : 
     not_begun : (gid : ℕ) → is_running (Some task) (group_of s.loop gid).parent ≡ false → is_running begun gid ≡ false
     not_begun gid f = other_begun gid (λ e. false≢true (sym (its_own gid f) ∙ eq-eqb id gid e))
 
-    ended_by : (fresh : Bool) (input : Input) → sends_made (next_task s.loop.parts) input ≡ true → (group_of m id).ended ≡ true
+    ended_by : (fresh : Bool) (input : Input) → sends_made (ids_of s) input ≡ true → (group_of m id).ended ≡ true
         → RunsSound task (with_loop m s) → IsStepSound added task (resumed fresh task input (with_loop m s))
     ended_by fresh input good ended h =
         left_to added task stood (request.GroupExit (Group id) raised) s is fresh input m (Group id) outer mine (λ b. refl) None (Some id) begun a h
@@ -216,18 +219,18 @@ module _ {S : Type 0} (added : Extra S) (task : ℕ) (stood : ResumePoint) (s : 
             (mine' ∙ (a.groups gid).parent))))
 
     waited : (fresh : Bool) (on : ℕ) → ((generator_of task s).tape ≡ [] → ⊥)
-        → IsLoopAfter (names_made (next_task s.loop.parts)) false (Some task) None None begun s.loop m
+        → IsLoopAfter (names_made (ids_of s)) false (Some task) None None begun s.loop m
         → RepliesSound task (exits_as (Waits on) task id (with_loop m s)) → IsStateSound added (stands (Leaving id) task (waits task on (with_loop m s)))
     waited fresh on tape b h =
         suspended_stood added task stood (request.GroupExit (Group id) raised) s is (waits task on (with_loop m s)) (same_tapes s (book (suspend task on) m))
         (futures_kept s (waits task on (with_loop m s)) refl refl (λ k x. c.parts.plain k x) is.others.futures) refl (c.parts.same refl)
         (Leaving id) tt begun c h not_begun tape (eq-eqb id id refl) right (λ gid e mine'. left gid e mine' (cases_eq id gid))
       where
-        c : IsLoopAfter (names_made (next_task s.loop.parts)) false (Some task) None None begun s.loop (book (suspend task on) m)
+        c : IsLoopAfter (names_made (ids_of s)) false (Some task) None None begun s.loop (book (suspend task on) m)
         c =
-            loop_on (names_made (next_task s.loop.parts)) refl false (Some task) None None begun s.loop m (book (suspend task on) m)
-            (book_loop (names_made (next_task s.loop.parts)) refl false (Some task) None None begun (suspend task on) m
-            (suspend_after (names_made (next_task s.loop.parts)) false (Some task) task on m.parts)) b
+            loop_on (names_made (ids_of s)) refl false (Some task) None None begun s.loop m (book (suspend task on) m)
+            (book_loop (names_made (ids_of s)) refl false (Some task) None None begun (suspend task on) m
+            (suspend_after (names_made (ids_of s)) false (Some task) task on m.parts)) b
 
         stood_now : (generator_of task (stands (Leaving id) task (waits task on (with_loop m s)))).resume_point ≡ Leaving id
         stood_now = stood_resume_point added task (Leaving id) (waits task on (with_loop m s))
@@ -252,7 +255,7 @@ module _ {S : Type 0} (added : Extra S) (task : ℕ) (stood : ResumePoint) (s : 
             (left_before s (with_loop m s) _ _ (Some task) None None begun b gid refl (other_begun gid n) e) (mine' ∙ (b.groups gid).parent)))))
 
     pub exits_in : (fresh : Bool) (answer : GroupExit) → ((generator_of task s).tape ≡ [] → ⊥)
-        → ExitLeaves (names_made (next_task s.loop.parts)) refl false (Some task) None begun id s.loop answer m
+        → ExitLeaves (names_made (ids_of s)) refl false (Some task) None begun id s.loop answer m
         → RepliesSound task (exits_as answer task id (with_loop m s)) → RepliesInStep added fresh task (exits_as answer task id (with_loop m s))
     exits_in fresh (Waits on) tape leaves h = waited fresh on tape leaves h
     exits_in fresh Passes tape leaves h = ended_by fresh (Send Nothing) refl leaves h

@@ -1,13 +1,13 @@
--- Values name tasks that were made: what scripts hand on, and what they are given as a task is made.
+-- Values name what was made: those that scripts hand on, and those that they are given as a task is made.
 use Rattle.std.proofs.Common.{◌≡◌, ℕ, ◌<◌, ◌≤◌, ◌+◌, ◌⊎◌, inl, inr, true, false, not, List, [], ◌∷◌, Option, Some, None, length}
 use Rattle.std.proofs.Common.{length-append, slice_index_or, refl, sym, ap, subst, ◌∙◌, arith}
 use Rattle.std.specs.List.{list_all}
-use Rattle.std.proofs.lemmas.Bool.{cases_eq, cases_lt, le-ltb, lt-ltb, false≢true}
+use Rattle.std.proofs.lemmas.Bool.{cases_eq, cases_lt}
 use Rattle.model_value.specs.Input.{Input}
 use Rattle.model_value.specs.declared.input.Input.TheVariants.{Send, Throw}
 use Rattle.model_value.specs.declared.outcome.Outcome.TheVariants.{Value as Returned, Failed, Cancelled}
 use Rattle.model_value.specs.declared.request.Request.TheVariants as request
-use Rattle.model_value.specs.Value.{Value, Values, no_values, value_then, Items, Task, Outcome, list_of, values}
+use Rattle.model_value.specs.Value.{Value, Values, no_values, value_then, Outcome, list_of, values}
 use Rattle.model_says.specs.Endings.{Asks, saying_of}
 use Rattle.model_says.specs.Says.{course, exchanges_along, step_limit}
 use Rattle.model_says.specs.Blocks.{open_blocks}
@@ -20,8 +20,8 @@ use Rattle.model_machine.specs.Extra.{Extra}
 use Rattle.model_machine.specs.Outcomes.{input_of}
 use Rattle.model_stream.specs.Kept.{times_kept}
 use Rattle.model_stream.specs.Streams.{Streams}
-use Rattle.model_machine.specs.Sound.{AreKept, AreKeysKept, AreScriptsFutures, IsAsking, IsLeft, IsOpenedAt, IsUnbegun, StandsRightly, StandsUnder}
-use Rattle.model_machine.specs.Sound.{all_made, blocks_of, names_block, names_made}
+use Rattle.model_machine.specs.Sound.{AreKept, AreKeysKept, AreScriptsFutures, Ids, IsAsking, IsLeft, IsOpenedAt, IsUnbegun, StandsRightly, StandsUnder}
+use Rattle.model_machine.specs.Sound.{all_made, blocks_of, ids_of, names_block, names_made}
 use Rattle.model_machine.specs.Sound.{sends_made, stands_at}
 use Rattle.model_machine.specs.State.{Asked, Sleeping, Leaving, Serving, Generator, State, generator, generator_of, with_coroutine}
 use Rattle.model_machine.specs.Step.{says_of}
@@ -33,46 +33,12 @@ use Rattle.law_turns.specs.After.{IsLoopAfter}
 use Rattle.law_replies.specs.InStep.{SameTapes}
 use Rattle.law_replies.proofs.Counts.{and_first, and_second, and_both, lives_within, lives_before, unbegun_kept}
 use Rattle.law_replies.proofs.Keeping.{IsApart, asking_kept, resume_point_kept, streams_kept}
+use Rattle.law_replies.proofs.Ids.{IsMore, list_up, loop_more, names_up, tape_up}
 use Rattle.law_replies.proofs.Kept.{kept_on}
 use Rattle.law_replies.proofs.Tapes.{added_same, added_last, added_past, past_none, blocks_before, exchanges_before}
 
--- ---- numbers of tasks
-pub task_made : (n id : ℕ) → id < n → names_made n (Task id) ≡ true
-task_made n id h = lt-ltb id n h
-
-pub made_task : (n id : ℕ) → names_made n (Task id) ≡ true → id < n
-made_task n id h = at (cases_lt id n)
-  where
-    at : (id < n) ⊎ (n ≤ id) → id < n
-    at (inl l) = l
-    at (inr past) = absurd (false≢true (sym (le-ltb id n past) ∙ h))
-
-mutual
-  pub names_up : (n m : ℕ) → n ≤ m → (value : Value) → names_made n value ≡ true → names_made m value ≡ true
-  names_up n m le (Items items) h = all_up n m le items h
-  names_up n m le (Task id) h = let w = made_task n id h in task_made m id (omega (arith, le, w))
-  names_up n m le _ h = refl
-
-  all_up : (n m : ℕ) → n ≤ m → (items : Values) → all_made n items ≡ true → all_made m items ≡ true
-  all_up n m le no_values h = refl
-  all_up n m le (value_then value others) h =
-      and_both _ _ (names_up n m le value (and_first _ _ h)) (all_up n m le others (and_second _ _ h))
-
-list_up : (n m : ℕ) → n ≤ m → (items : List Value) → list_all (names_made n) items ≡ true → list_all (names_made m) items ≡ true
-list_up n m le [] h = refl
-list_up n m le (value ∷ items) h = and_both _ _ (names_up n m le value (and_first _ _ h)) (list_up n m le items (and_second _ _ h))
-
-input_up : (n m : ℕ) → n ≤ m → (input : Input) → sends_made n input ≡ true → sends_made m input ≡ true
-input_up n m le (Send value) h = names_up n m le value h
-input_up n m le (Throw fault) h = refl
-
-tape_up : (n m : ℕ) → n ≤ m → (tape : Tape) → list_all (λ (x : Resumed). sends_made n x.input) tape ≡ true
-    → list_all (λ (x : Resumed). sends_made m x.input) tape ≡ true
-tape_up n m le [] h = refl
-tape_up n m le (x ∷ tape) h = and_both _ _ (input_up n m le x.input (and_first _ _ h)) (tape_up n m le tape (and_second _ _ h))
-
 -- ---- a closed kind
-module _ (n : ℕ) where
+module _ (n : Ids) where
   abbrev pub Made : Value → Type 0
   Made = IsIn (names_made n)
 
@@ -112,17 +78,17 @@ module _ (n : ℕ) where
   in_tape [] h = tt
   in_tape (x ∷ tape) h = (in_input x.input (and_first _ _ h), in_tape tape (and_second _ _ h))
 
--- what a coroutine hands on names tasks that were made
+-- what a coroutine hands on names what was made
 pub said_made : {S : Type 0} (added : Extra S) (running excused : Option ℕ) (s : State S) → IsApart running excused added s → (task : ℕ)
-    → InSaying (Made (next_task s.loop.parts)) (says_of step_limit added task s)
+    → InSaying (Made (ids_of s)) (says_of step_limit added task s)
 said_made added running excused s is task =
     let it = generator_of task s in
-    said_of_given step_limit s.program it.coroutine it.arguments it.tape (Made (next_task s.loop.parts)) (made_closed (next_task s.loop.parts))
-    (all_of (next_task s.loop.parts) it.arguments (is.made.arguments task)) (in_tape (next_task s.loop.parts) it.tape (is.made.tape task))
+    said_of_given step_limit s.program it.coroutine it.arguments it.tape (Made (ids_of s)) (made_closed (ids_of s))
+    (all_of (ids_of s) it.arguments (is.made.arguments task)) (in_tape (ids_of s) it.tape (is.made.tape task))
 
 -- how a future ended, as an input
 pub ended_made : {S : Type 0} (added : Extra S) (running excused : Option ℕ) (s : State S) → IsApart running excused added s → (id : ℕ)
-    (outcome : Outcome) → future_outcome s.loop.parts id ≡ Some outcome → sends_made (next_task s.loop.parts) (input_of outcome) ≡ true
+    (outcome : Outcome) → future_outcome s.loop.parts id ≡ Some outcome → sends_made (ids_of s) (input_of outcome) ≡ true
 ended_made added running excused s is id (Returned value) e = is.made.outcomes id value e
 ended_made added running excused s is id (Failed fault) e = refl
 ended_made added running excused s is id Cancelled e = refl
@@ -142,10 +108,13 @@ unbegun_asks added task coroutine arguments s e =
     ap (λ (g : Generator). saying_of (course step_limit s.program g.coroutine g.arguments g.tape)) e
 
 module _ {S : Type 0} (added : Extra S) (running : Option ℕ) (coroutine : ℕ) (arguments : List Value) (s t : State S) (tapes : SameTapes s t)
-    (a : IsLoopAfter (names_made (next_task s.loop.parts)) true running None None None s.loop t.loop)
+    (a : IsLoopAfter (names_made (ids_of s)) true running None None None s.loop t.loop)
     (more : next_task t.loop.parts ≡ next_task s.loop.parts + 1) (is : IsApart running running added s) where
   abbrev u : State S
   u = with_coroutine coroutine arguments t
+
+  up : IsMore (ids_of s) (ids_of t)
+  up = loop_more s t tapes a
 
   count_is : length t.generators ≡ next_task s.loop.parts
   count_is = ap length tapes.generators ∙ is.generators
@@ -198,7 +167,7 @@ module _ {S : Type 0} (added : Extra S) (running : Option ℕ) (coroutine : ℕ)
       at (inr h) = let w = lives_within t.loop.parts other l in inr (omega (arith, w, more, h))
 
   pub spawn_keeps : IsSound running (told_in t.events) t.loop → IsUnbegun t.loop.parts (next_task s.loop.parts)
-      → (t.main_done ≡ true → lives t.loop.parts 0 ≡ false) → list_all (names_made (next_task s.loop.parts)) arguments ≡ true
+      → (t.main_done ≡ true → lives t.loop.parts 0 ≡ false) → list_all (names_made (ids_of s)) arguments ≡ true
       → AreScriptsFutures t → IsApart running running added u
   spawn_keeps sound first over given_ scripts = record {
     loop = sound;
@@ -219,19 +188,16 @@ module _ {S : Type 0} (added : Extra S) (running : Option ℕ) (coroutine : ℕ)
         (λ other h. ap (list_all (λ exchange. names_block exchange.request exchange.answer)) (exchanges_before t.program 0 []));
     futures = record { plain = scripts.plain; once = scripts.once; apart = scripts.apart };
     made = record {
-      arguments = each (λ other g. list_all (names_made (next_task t.loop.parts)) g.arguments ≡ true)
-          (λ other h. list_up (next_task s.loop.parts) (next_task t.loop.parts) (omega (arith, more)) (generator_of other s).arguments
-          (is.made.arguments other))
-          (list_up (next_task s.loop.parts) (next_task t.loop.parts) (omega (arith, more)) arguments given_) (λ other h. refl);
-      tape = each (λ other g. list_all (λ (x : Resumed). sends_made (next_task t.loop.parts) x.input) g.tape ≡ true)
-          (λ other h. tape_up (next_task s.loop.parts) (next_task t.loop.parts) (omega (arith, more)) (generator_of other s).tape (is.made.tape other)) refl
-          (λ other h. refl);
-      outcomes = λ id value e.
-          names_up (next_task s.loop.parts) (next_task t.loop.parts) (omega (arith, more)) value (a.parts.outcomes is.made.outcomes id value e);
+      arguments = each (λ other g. list_all (names_made (ids_of t)) g.arguments ≡ true)
+          (λ other h. list_up (ids_of s) (ids_of t) up (generator_of other s).arguments (is.made.arguments other))
+          (list_up (ids_of s) (ids_of t) up arguments given_) (λ other h. refl);
+      tape = each (λ other g. list_all (λ (x : Resumed). sends_made (ids_of t) x.input) g.tape ≡ true)
+          (λ other h. tape_up (ids_of s) (ids_of t) up (generator_of other s).tape (is.made.tape other)) refl (λ other h. refl);
+      outcomes = λ id value e. names_up (ids_of s) (ids_of t) up value (a.parts.outcomes is.made.outcomes id value e);
     };
-    kept = subst (λ extra. AreKept (added.keeps extra) t.futures t.loop.parts) (sym tapes.extra)
-        (kept_on _ _ running s.futures t.futures s.loop.parts t.loop.parts a.parts tapes.scripts (added.keeps s.extra)
-        (list_up (next_task s.loop.parts) (next_task t.loop.parts) (omega (arith, more)) (added.keeps s.extra).values is.kept.values) is.kept);
+    kept = subst (λ extra. AreKept (ids_of t) (added.keeps extra) t.futures t.loop.parts) (sym tapes.extra)
+        (kept_on _ _ running s.futures t.futures s.loop.parts t.loop.parts a.parts tapes.scripts (ids_of s) (ids_of t) up (added.keeps s.extra)
+        is.kept);
     keys = subst (λ extra. AreKeysKept (added.keeps extra).has_key u.generators) (sym tapes.extra)
         (record {
           known = λ task key e. is.keys.known task key (stood task key e);

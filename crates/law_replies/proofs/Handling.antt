@@ -1,6 +1,6 @@
 -- What callbacks of listeners, connections and children come to is sound; among them the start of a connection's handler.
-use Rattle.std.proofs.Common.{◌≡◌, ℕ, ◌+◌, ◌<◌, ◌==◌, cond, Bool, true, false, [], ◌∷◌, None, refl, ap, sym, ◌∙◌, length-append, arith}
-use Rattle.std.proofs.lemmas.Bool.{eq-eqb, false≢true}
+use Rattle.std.proofs.Common.{◌≡◌, ℕ, ◌+◌, ◌<◌, ◌==◌, cond, Bool, true, false, [], ◌∷◌, None, length, refl, ap, sym, ◌∙◌, length-append, arith}
+use Rattle.std.proofs.lemmas.Bool.{eq-eqb, lt-ltb, false≢true}
 use Rattle.model_value.specs.declared.action.Action.TheVariants as action
 use Rattle.model_value.specs.declared.action.Action.TheVariants.{Step}
 use Rattle.model_value.specs.Value.{Conn}
@@ -9,7 +9,7 @@ use Rattle.model_loop.specs.Parts.{Parts}
 use Rattle.model_loop.specs.Tasks.{future_of, lives, next_task, spawn}
 use Rattle.model_loop.specs.Totals.{pending_where}
 use Rattle.model_machine.specs.Extra.{Extra}
-use Rattle.model_machine.specs.Sound.{IsStateSound, blocks_of, names_made}
+use Rattle.model_machine.specs.Sound.{IsStateSound, blocks_of, ids_of, names_made}
 use Rattle.model_machine.specs.State.{State, unbooked_in, with_coroutine}
 use Rattle.model_machine.specs.Went.{Went}
 use Rattle.law_cases.specs.StreamReplies.{StreamGoes, stays_so, goes_so, stops, handles}
@@ -22,7 +22,7 @@ use Rattle.law_turns.specs.SoundState.{HasSoundLoop}
 use Rattle.law_turns.proofs.Streaming.{end_sound, goes_sound}
 use Rattle.law_replies.specs.InStep.{LeavesStateSound, SameTapes}
 use Rattle.law_replies.proofs.Blocks.{open_kept}
-use Rattle.law_replies.proofs.Counts.{count_unbegun, lives_before}
+use Rattle.law_replies.proofs.Counts.{and_both, count_unbegun, lives_before}
 use Rattle.law_replies.proofs.Given.{spawn_keeps, spawned_blocks}
 use Rattle.law_replies.proofs.Keeping.{apart_of, futures_kept, open_of, with_open}
 use Rattle.law_replies.proofs.Kept.{futures_stay}
@@ -39,22 +39,22 @@ spawned_step p =
 
 module _ {S : Type 0} (added : Extra S) (s : State S) (sound : IsStateSound added s) where
   -- ---- a handler is made, and its end is told
-  module _ (coroutine conn : ℕ) where
+  module _ (coroutine conn : ℕ) (there : conn < length s.streams.connections) where
     abbrev made : Parts
     made = register (future_of (spawn s.loop.parts) (next_task s.loop.parts)) (action.HandlerDone conn (next_task s.loop.parts)) (spawn s.loop.parts)
 
     abbrev t : State S
     t = unbooked_in (λ p. made) s
 
-    a : IsLoopAfter (names_made (next_task s.loop.parts)) true None None None None s.loop t.loop
+    a : IsLoopAfter (names_made (ids_of s)) true None None None None s.loop t.loop
     a =
-        parts_loop (names_made (next_task s.loop.parts)) refl true None None None None s.loop made
-        (after_on (names_made (next_task s.loop.parts)) true None s.loop.parts (spawn s.loop.parts) made
-        (register_after (names_made (next_task s.loop.parts)) true None _ (action.HandlerDone conn (next_task s.loop.parts)) (spawn s.loop.parts) refl)
-        (spawn_after (names_made (next_task s.loop.parts)) None s.loop.parts))
+        parts_loop (names_made (ids_of s)) refl true None None None None s.loop made
+        (after_on (names_made (ids_of s)) true None s.loop.parts (spawn s.loop.parts) made
+        (register_after (names_made (ids_of s)) true None _ (action.HandlerDone conn (next_task s.loop.parts)) (spawn s.loop.parts) refl)
+        (spawn_after (names_made (ids_of s)) None s.loop.parts))
 
-    told_after : IsAfter (names_made (next_task s.loop.parts)) false None (spawn s.loop.parts) made
-    told_after = register_after (names_made (next_task s.loop.parts)) false None _ (action.HandlerDone conn (next_task s.loop.parts)) (spawn s.loop.parts) refl
+    told_after : IsAfter (names_made (ids_of s)) false None (spawn s.loop.parts) made
+    told_after = register_after (names_made (ids_of s)) false None _ (action.HandlerDone conn (next_task s.loop.parts)) (spawn s.loop.parts) refl
 
     more : next_task made ≡ next_task s.loop.parts + 1
     more = told_after.same refl ∙ length-append s.loop.parts.tasks _
@@ -78,7 +78,8 @@ module _ {S : Type 0} (added : Extra S) (s : State S) (sound : IsStateSound adde
     handler_sound loop =
         with_open added None None (with_coroutine coroutine (Conn conn ∷ []) t)
         (spawn_keeps added None coroutine (Conn conn ∷ []) s t tapes a more (apart_of added None None s sound) loop
-        (count_unbegun made (next_task s.loop.parts) begun) over refl (futures_kept s t refl refl (λ id h. a.parts.plain id h) sound.futures))
+        (count_unbegun made (next_task s.loop.parts) begun) over
+        (and_both _ _ (lt-ltb conn (length s.streams.connections) there) refl) (futures_kept s t refl refl (λ id h. a.parts.plain id h) sound.futures))
         (open_kept _ _ None None s.loop t.loop (blocks_of s) (blocks_of (with_coroutine coroutine (Conn conn ∷ []) t)) a
         (spawned_blocks added None coroutine (Conn conn ∷ []) s t tapes a more (apart_of added None None s sound)) (open_of added None None s sound.blocks))
 
@@ -91,4 +92,4 @@ module _ {S : Type 0} (added : Extra S) (s : State S) (sound : IsStateSound adde
       (λ done. over_as added s sound t.loop (end_loop None s t end.ended) (sym end.ended.main_done ∙ done)) (end_loop None s t end.ended)
       (end_sound None s t end.ended sound.loop))
   goes_in it (stops how last end) = tt
-  goes_in it (handles coroutine conn few) = handler_sound coroutine conn (goes_sound s it (handles coroutine conn few) sound.loop)
+  goes_in it (handles coroutine conn few there) = handler_sound coroutine conn there (goes_sound s it (handles coroutine conn few there) sound.loop)

@@ -21,7 +21,7 @@ use Rattle.model_loop.specs.Ways.{is_running}
 use Rattle.model_machine.specs.Extra.{Extra}
 use Rattle.model_machine.specs.Sound.{AreBlocksOpen, AreKept, AreKeysKept, AreScriptsFutures, AreStreamsFutures, IsAsking, IsLeft, IsOpenedAt, IsSoundBut}
 use Rattle.model_machine.specs.Sound.{IsSoundOver, IsStateSound, IsUnbegun}
-use Rattle.model_machine.specs.Sound.{StandsRightly, blocks_of, exchanges_of, names_block, names_made, sends_made, stands_at}
+use Rattle.model_machine.specs.Sound.{StandsRightly, blocks_of, exchanges_of, ids_of, names_block, names_made, sends_made, stands_at}
 use Rattle.model_machine.specs.State.{ResumePoint, Asked, Leaving, Generator, State, generator, generator_of, resumed, stands}
 use Rattle.model_stream.specs.Kept.{StreamsKeep, times_kept}
 use Rattle.model_stream.specs.Streams.{Streams}
@@ -33,6 +33,7 @@ use Rattle.law_replies.specs.InStep.{MayStandAt, SameTapes}
 use Rattle.law_replies.proofs.Blocks.{AreOpenAt}
 use Rattle.law_replies.proofs.Counts.{and_first, and_second, and_both, not_true, not_false, lives_within, lives_before, unbegun_kept, sleep_kept, plain_of}
 use Rattle.law_replies.proofs.Counts.{of_plain}
+use Rattle.law_replies.proofs.Ids.{IsMore, list_up, names_up, tape_up}
 use Rattle.law_replies.proofs.Kept.{kept_on, keys_same, keys_stood}
 use Rattle.law_replies.proofs.Tapes.{set_same, set_other, set_length, exchanges_grow, blocks_grow}
 
@@ -191,12 +192,12 @@ module _ {S : Type 0} (added : Extra S) (s t : State S) (tapes : SameTapes s t) 
       (id : ℕ) → IsLeft t id → is_running excused (group_of t.loop id).parent ≡ false
       → IsLeft s id × ((group_of t.loop id).parent ≡ (group_of s.loop id).parent)
 
-  pub loop_keeps : IsAfter (names_made (next_task s.loop.parts)) false excused s.loop.parts t.loop.parts
-      → next_task t.loop.parts ≡ next_task s.loop.parts
+  pub loop_keeps : IsAfter (names_made (ids_of s)) false excused s.loop.parts t.loop.parts
+      → next_task t.loop.parts ≡ next_task s.loop.parts → IsMore (ids_of s) (ids_of t)
       → IsSound after (told_in t.events) t.loop → ((task : ℕ) → is_running excused task ≡ false → is_running before task ≡ false)
       → (t.main_done ≡ true → lives t.loop.parts 0 ≡ false) → StaysStood → LeavesNone → AreScriptsFutures t
       → IsApart running before added s → IsApart after excused added t
-  loop_keeps a made sound fewer over stays leaves scripts is = record {
+  loop_keeps a made more sound fewer over stays leaves scripts is = record {
     loop = sound;
     streams = streams_kept s t tapes.streams (λ id h. a.plain id h) is.streams;
     kept_once = λ future. subst (λ (x : Streams). times_kept future x ≤ 1) (sym tapes.streams) (is.kept_once future);
@@ -216,15 +217,15 @@ module _ {S : Type 0} (added : Extra S) (s t : State S) (tapes : SameTapes s t) 
         (exchanges_same added s t tapes.program task (same_at task)) ∙ is.blocks task;
     futures = scripts;
     made = record {
-      arguments = λ task. ap (λ n. list_all (names_made n) (generator_of task t).arguments) made
-          ∙ ap (λ (g : Generator). list_all (names_made (next_task s.loop.parts)) g.arguments) (same_at task) ∙ is.made.arguments task;
-      tape = λ task. ap (λ n. list_all (λ entry. sends_made n entry.input) (generator_of task t).tape) made
-          ∙ ap (λ (g : Generator). list_all (λ entry. sends_made (next_task s.loop.parts) entry.input) g.tape) (same_at task) ∙ is.made.tape task;
-      outcomes = λ id value e. ap (λ n. names_made n value) made ∙ a.outcomes is.made.outcomes id value e;
+      arguments = λ task. list_up (ids_of s) (ids_of t) more (generator_of task t).arguments
+          (ap (λ (g : Generator). list_all (names_made (ids_of s)) g.arguments) (same_at task) ∙ is.made.arguments task);
+      tape = λ task. tape_up (ids_of s) (ids_of t) more (generator_of task t).tape
+          (ap (λ (g : Generator). list_all (λ (x : Resumed). sends_made (ids_of s) x.input) g.tape) (same_at task) ∙ is.made.tape task);
+      outcomes = λ id value e. names_up (ids_of s) (ids_of t) more value (a.outcomes is.made.outcomes id value e);
     };
-    kept = subst (λ extra. AreKept (added.keeps extra) t.futures t.loop.parts) (sym tapes.extra)
-        (kept_on _ _ excused s.futures t.futures s.loop.parts t.loop.parts a tapes.scripts (added.keeps s.extra)
-        (ap (λ n. list_all (names_made n) (added.keeps s.extra).values) made ∙ is.kept.values) is.kept);
+    kept = subst (λ extra. AreKept (ids_of t) (added.keeps extra) t.futures t.loop.parts) (sym tapes.extra)
+        (kept_on _ _ excused s.futures t.futures s.loop.parts t.loop.parts a tapes.scripts (ids_of s) (ids_of t) more (added.keeps s.extra)
+        is.kept);
     keys = subst (λ extra. AreKeysKept (added.keeps extra).has_key t.generators) (sym tapes.extra)
         (subst (AreKeysKept (added.keeps s.extra).has_key) (sym tapes.generators) is.keys);
   }
@@ -294,7 +295,7 @@ module _ {S : Type 0} (added : Extra S) (task : ℕ) (asked : Request) (fresh : 
       not_nil [] e = nil≢cons (sym e)
       not_nil (x ∷ xs) e = nil≢cons (sym e)
 
-  pub answer_keeps : names_block asked input ≡ true → sends_made (next_task t.loop.parts) input ≡ true
+  pub answer_keeps : names_block asked input ≡ true → sends_made (ids_of t) input ≡ true
       → IsApart (Some task) (Some task) added t → IsApart (Some task) (Some task) added u
   answer_keeps named good is = record {
     loop = is.loop;
@@ -343,22 +344,22 @@ module _ {S : Type 0} (added : Extra S) (task : ℕ) (asked : Request) (fresh : 
           ∙ is.blocks other
 
       arguments : (other : ℕ) → (task ≡ other) ⊎ (task ≡ other → ⊥)
-          → list_all (names_made (next_task t.loop.parts)) (generator_of other u).arguments ≡ true
+          → list_all (names_made (ids_of t)) (generator_of other u).arguments ≡ true
       arguments other (inl same) =
-          subst (λ k. list_all (names_made (next_task t.loop.parts)) (generator_of k u).arguments ≡ true) same
-          (ap (λ (g : Generator). list_all (names_made (next_task t.loop.parts)) g.arguments) longer ∙ is.made.arguments task)
+          subst (λ k. list_all (names_made (ids_of t)) (generator_of k u).arguments ≡ true) same
+          (ap (λ (g : Generator). list_all (names_made (ids_of t)) g.arguments) longer ∙ is.made.arguments task)
       arguments other (inr n) =
-          ap (λ (g : Generator). list_all (names_made (next_task t.loop.parts)) g.arguments) (others_same other n) ∙ is.made.arguments other
+          ap (λ (g : Generator). list_all (names_made (ids_of t)) g.arguments) (others_same other n) ∙ is.made.arguments other
 
       tape : (other : ℕ) → (task ≡ other) ⊎ (task ≡ other → ⊥)
-          → list_all (λ entry. sends_made (next_task t.loop.parts) entry.input) (generator_of other u).tape ≡ true
+          → list_all (λ entry. sends_made (ids_of t) entry.input) (generator_of other u).tape ≡ true
       tape other (inl same) =
-          subst (λ k. list_all (λ entry. sends_made (next_task t.loop.parts) entry.input) (generator_of k u).tape ≡ true) same
-          (ap (λ (g : Generator). list_all (λ (x : Resumed). sends_made (next_task t.loop.parts) x.input) g.tape) longer
-          ∙ list_all-append (λ (x : Resumed). sends_made (next_task t.loop.parts) x.input) it.tape (entry ∷ [])
+          subst (λ k. list_all (λ entry. sends_made (ids_of t) entry.input) (generator_of k u).tape ≡ true) same
+          (ap (λ (g : Generator). list_all (λ (x : Resumed). sends_made (ids_of t) x.input) g.tape) longer
+          ∙ list_all-append (λ (x : Resumed). sends_made (ids_of t) x.input) it.tape (entry ∷ [])
           ∙ and_both _ _ (is.made.tape task) (ap (λ b. b && true) good))
       tape other (inr n) =
-          ap (λ (g : Generator). list_all (λ (x : Resumed). sends_made (next_task t.loop.parts) x.input) g.tape) (others_same other n) ∙ is.made.tape other
+          ap (λ (g : Generator). list_all (λ (x : Resumed). sends_made (ids_of t) x.input) g.tape) (others_same other n) ∙ is.made.tape other
 
 -- ---- what a task stands at
 module _ {S : Type 0} (added : Extra S) (task : ℕ) (resume_point : ResumePoint) (t : State S) (within : task < length t.generators) where
@@ -415,8 +416,8 @@ module _ {S : Type 0} (added : Extra S) (task : ℕ) (resume_point : ResumePoint
         ∙ is.blocks other;
     futures = record { plain = is.futures.plain; once = is.futures.once; apart = is.futures.apart };
     made = record {
-      arguments = λ other. seen_same (λ c a tape. list_all (names_made (next_task t.loop.parts)) a) other ∙ is.made.arguments other;
-      tape = λ other. seen_same (λ c a tape. list_all (λ (x : Resumed). sends_made (next_task t.loop.parts) x.input) tape) other ∙ is.made.tape other;
+      arguments = λ other. seen_same (λ c a tape. list_all (names_made (ids_of t)) a) other ∙ is.made.arguments other;
+      tape = λ other. seen_same (λ c a tape. list_all (λ (x : Resumed). sends_made (ids_of t) x.input) tape) other ∙ is.made.tape other;
       outcomes = is.made.outcomes;
     };
     kept = is.kept;

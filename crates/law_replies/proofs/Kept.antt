@@ -1,7 +1,7 @@
 -- What is added keeps what it kept, as the loop goes on: tasks, futures, tags and values, and the keys under which tasks stand.
 use Rattle.std.proofs.Common.{◌≡◌, ℕ, ◌<◌, ◌≤◌, ◌⊎◌, inl, inr, Bool, true, not, List, [], ◌∷◌, ◌++◌, Option, Some, None, option_map, length, slice_get}
 use Rattle.std.proofs.Common.{slice_index_or, refl, sym, ap, subst, ◌∙◌, arith}
-use Rattle.std.specs.List.{AllByRecursion as Each, list_all}
+use Rattle.std.specs.List.{AllByRecursion as Each}
 use Rattle.std.specs.Option.{option_map_or}
 use Rattle.std.proofs.lemmas.Bool.{cases_eq}
 use Rattle.std.proofs.lemmas.Option.{none-some}
@@ -11,12 +11,13 @@ use Rattle.model_loop.specs.Owning.{own_future}
 use Rattle.model_loop.specs.Parts.{Parts, Task}
 use Rattle.model_loop.specs.Tasks.{future_of, next_task}
 use Rattle.model_machine.specs.Extra.{Keeping}
-use Rattle.model_machine.specs.Sound.{AreKept, AreKeysKept, IsAwaitable, IsFree, IsNoneOf, IsOwned, IsTagOwned, StandsUnder, is_extra, names_made}
+use Rattle.model_machine.specs.Sound.{AreKept, AreKeysKept, Ids, IsAwaitable, IsFree, IsNoneOf, IsOwned, IsTagOwned, StandsUnder, is_extra}
 use Rattle.model_machine.specs.State.{ResumePoint, Asked, Serving, Generator, generator}
 use Rattle.law_cancel.proofs.Lookups.{get-push_last, get-push_other, get_within}
 use Rattle.law_turns.specs.After.{IsAfter}
 use Rattle.law_replies.specs.InStep.{FuturesStay, MayStandAt}
 use Rattle.law_replies.proofs.Counts.{get_there}
+use Rattle.law_replies.proofs.Ids.{IsMore, list_up}
 
 -- ---- futures of `future()`
 pub futures_stay : {next : ℕ} {futures : List ℕ} → FuturesStay next futures futures
@@ -92,15 +93,27 @@ module _ (test : Value → Bool) (grown : Bool) (excused : Option ℕ) (old new 
     let e = a.tags (λ other it. not (is_extra it)) tag h.0 in let z = h.1 in omega (arith, e, z),
   )
 
-  pub kept_on : (keeping : Keeping) → list_all (names_made (next_task q)) keeping.values ≡ true → AreKept keeping old p → AreKept keeping new q
-  kept_on keeping values is = record {
+  pub kept_on : (m n : Ids) → IsMore m n → (keeping : Keeping) → AreKept m keeping old p → AreKept n keeping new q
+  kept_on m n more keeping is = record {
     tasks = each_on (λ task. task < next_task p) (λ task. task < next_task q) (λ task h. let n = a.tasks in omega (arith, h, n)) keeping.tasks is.tasks;
     awaitable = each_on (IsAwaitable old p) (IsAwaitable new q) awaitable keeping.futures is.awaitable;
     own = each_on (IsOwned p) (IsOwned q) owned keeping.own is.own;
     apart = each_both (IsOwned p) (IsNoneOf old) (IsNoneOf new) none_of keeping.own is.own is.apart;
     tags = each_on (IsTagOwned p) (IsTagOwned q) tag_owned keeping.tags is.tags;
-    values = values;
+    values = list_up m n more keeping.values is.values;
   }
+
+-- where more was made
+pub kept_more : (m n : Ids) → IsMore m n → (keeping : Keeping) (futures : List ℕ) (p : Parts) → AreKept m keeping futures p
+    → AreKept n keeping futures p
+kept_more m n more keeping futures p is = record {
+  tasks = is.tasks;
+  awaitable = is.awaitable;
+  own = is.own;
+  apart = is.apart;
+  tags = is.tags;
+  values = list_up m n more keeping.values is.values;
+}
 
 -- ---- keys
 asked_serves : (key : ℕ) → Asked ≡ Serving key → ⊥

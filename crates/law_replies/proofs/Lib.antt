@@ -1,6 +1,7 @@
 pub mod Tapes
 pub mod Blocks
 pub mod Counts
+pub mod Ids
 pub mod Kept
 pub mod Keeping
 pub mod Replacing

@@ -1,6 +1,6 @@
 -- Other streams in a state that is sound: they keep what was kept and what was made since, and what was opened is there still.
 use Rattle.std.proofs.Common.{◌≡◌, ℕ, ◌+◌, ◌<◌, ◌≤◌, ◌⊎◌, inl, inr, true, Option, Some, length}
-use Rattle.std.proofs.Common.{slice_get, sym, ap, subst, ◌∙◌, arith}
+use Rattle.std.proofs.Common.{slice_get, sym, ap, subst, ◌∙◌, le_refl, arith}
 use Rattle.std.proofs.lemmas.Bool.{cases_lt, false≢true}
 use Rattle.std.proofs.lemmas.Option.{slice_get_past}
 use Rattle.model_value.specs.Request.{Request}
@@ -10,22 +10,26 @@ use Rattle.model_loop.specs.Parts.{Parts}
 use Rattle.model_loop.proofs.FutureCases.{is_plain_at}
 use Rattle.model_machine.specs.Extra.{Extra}
 use Rattle.model_machine.specs.Sound.{AreKeptOnce, AreScriptsFutures, AreStreamsFutures, IsOpenedAt, IsSoundBut}
-use Rattle.model_machine.specs.Sound.{IsSoundOver}
-use Rattle.model_machine.specs.State.{ResumePoint, Asked, Sleeping, Leaving, Serving, Connecting, Yielding, Reading, ReadingAll, State, with_streams}
+use Rattle.model_machine.specs.Sound.{IsSoundOver, ids_of}
+use Rattle.model_machine.specs.State.{ResumePoint, Asked, Sleeping, Leaving, Serving, Connecting}
+use Rattle.model_machine.specs.State.{Yielding, Reading, ReadingAll, State, generator_of, with_streams}
 use Rattle.model_wire.specs.declared.event.Handed.TheVariants as to
 use Rattle.model_stream.specs.Kept.{times_kept}
 use Rattle.model_stream.specs.Requests.{OfConn, OfChild}
 use Rattle.model_stream.specs.Streams.{Streams}
 use Rattle.law_cases.specs.Trees.{made_in}
 use Rattle.law_cases.proofs.Fits.{kept_nowhere, made_before, made_most}
-use Rattle.law_replies.specs.InStep.{IsAsked, IsStepSound}
+use Rattle.law_replies.specs.InStep.{IsAsked}
 use Rattle.law_replies.proofs.Counts.{of_plain}
+use Rattle.law_replies.proofs.Ids.{IsMore, list_up, names_up, tape_up}
+use Rattle.law_replies.proofs.Kept.{kept_more}
 
 pub record Replaces {S : Type 0} (s : State S) (streams : Streams) : Type 0 where
   pub kept : AreStreamsFutures (with_streams streams s)
   pub once : AreKeptOnce (with_streams streams s)
   pub apart : (place id : ℕ) → slice_get s.futures place ≡ Some id → times_kept id streams ≡ 0
   pub opened : (resume_point : ResumePoint) → IsOpenedAt s.streams resume_point → IsOpenedAt streams resume_point
+  pub more : IsMore (ids_of s) (ids_of (with_streams streams s))
 
 -- what was opened is there still
 pub opened_on : (x y : Streams) → length x.connections ≤ length y.connections → length x.children ≤ length y.children → (resume_point : ResumePoint)
@@ -49,13 +53,23 @@ unmade p future past plain = false≢true (sym (ap is_plain_at (slice_get_past p
 -- ones that keep each future as often as those of `s` do, or once, if it was made since
 pub replaces : {S : Type 0} (s u : State S) (streams : Streams) (next : ℕ) → AreStreamsFutures s → AreKeptOnce s → AreScriptsFutures s
     → ((future : ℕ) → times_kept future streams ≤ times_kept future s.streams + made_in (next_future s.loop.parts) next future)
-    → length s.streams.connections ≤ length streams.connections → length s.streams.children ≤ length streams.children
-    → u.futures ≡ s.futures → u.streams ≡ s.streams → AreStreamsFutures (with_streams streams u) → Replaces u streams
-replaces s u streams next kept once scripts times connections children futures same after = record {
+    → length s.streams.servers ≤ length streams.servers → length s.streams.connections ≤ length streams.connections
+    → length s.streams.children ≤ length streams.children → u.futures ≡ s.futures → u.streams ≡ s.streams
+    → AreStreamsFutures (with_streams streams u) → Replaces u streams
+replaces s u streams next kept once scripts times servers connections children futures same after = record {
   kept = after;
   once = λ future. counted future (cases_lt future (next_future s.loop.parts));
   apart = λ place id e. none place id (sym (ap (λ l. slice_get l place) futures) ∙ e) (cases_lt id (next_future s.loop.parts));
   opened = λ resume_point h. opened_on s.streams streams connections children resume_point (subst (λ (x : Streams). IsOpenedAt x resume_point) same h);
+  more = record {
+    tasks = le_refl _;
+    futures = le_refl _;
+    timeouts = le_refl _;
+    groups = le_refl _;
+    servers = let e = ap (λ (x : Streams). length x.servers) same in omega (arith, e, servers);
+    connections = let e = ap (λ (x : Streams). length x.connections) same in omega (arith, e, connections);
+    children = let e = ap (λ (x : Streams). length x.children) same in omega (arith, e, children);
+  };
 }
   where
     counted : (future : ℕ) → (future < next_future s.loop.parts) ⊎ (next_future s.loop.parts ≤ future) → times_kept future streams ≤ 1
@@ -97,8 +111,12 @@ over_replaced added running excused s streams new is others = record {
   streams = new.kept;
   kept_once = new.once;
   futures = record { plain = is.futures.plain; once = is.futures.once; apart = new.apart };
-  made = record { arguments = is.made.arguments; tape = is.made.tape; outcomes = is.made.outcomes };
-  kept = is.kept;
+  made = record {
+    arguments = λ task. list_up (ids_of s) (ids_of (with_streams streams s)) new.more (generator_of task s).arguments (is.made.arguments task);
+    tape = λ task. tape_up (ids_of s) (ids_of (with_streams streams s)) new.more (generator_of task s).tape (is.made.tape task);
+    outcomes = λ id value e. names_up (ids_of s) (ids_of (with_streams streams s)) new.more value (is.made.outcomes id value e);
+  };
+  kept = kept_more (ids_of s) (ids_of (with_streams streams s)) new.more (added.keeps s.extra) s.futures s.loop.parts is.kept;
   keys = is.keys;
 }
 
@@ -107,15 +125,6 @@ pub streams_replaced : {S : Type 0} (added : Extra S) (running excused : Option 
 streams_replaced added running excused s streams new is =
     over_replaced added running excused s streams new is
     (record { timeouts = is.blocks.timeouts; groups = is.blocks.groups; entered = is.blocks.entered; own = is.blocks.own })
-
-pub step_replaced : {S : Type 0} (added : Extra S) (task : ℕ) (s : State S) (streams : Streams) → Replaces s streams
-    → IsStepSound added task s → IsStepSound added task (with_streams streams s)
-step_replaced added task s streams new is = record {
-  others = streams_replaced added (Some task) (Some task) s streams new is.others;
-  resume_point = is.resume_point;
-  begun = is.begun;
-  exits = is.exits;
-}
 
 pub asked_replaced : {S : Type 0} (added : Extra S) (task : ℕ) (stood : ResumePoint) (asked : Request) (s : State S) (streams : Streams)
     → Replaces s streams → IsAsked added task stood asked s → IsAsked added task stood asked (with_streams streams s)

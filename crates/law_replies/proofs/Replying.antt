@@ -16,12 +16,11 @@ use Rattle.model_says.specs.Says.{step_limit}
 use Rattle.model_wire.specs.declared.event.Event.TheVariants as event
 use Rattle.model_loop.specs.Groups.{exit_begin, group_of}
 use Rattle.model_loop.specs.Loop.{TimeoutState, Created, Active, Expiring, Expired, Finished}
-use Rattle.model_loop.specs.Tasks.{next_task}
 use Rattle.model_loop.specs.Timeouts.{reschedule, timeout_of}
 use Rattle.model_machine.specs.Arguments.{as_group, as_timeout}
 use Rattle.model_machine.specs.Extra.{Extra}
 use Rattle.model_machine.specs.Replies.{RequestReply, exits_group, exits_timeout, reply, shown_all}
-use Rattle.model_machine.specs.Sound.{blocks_of, is_open, names_block, names_made}
+use Rattle.model_machine.specs.Sound.{blocks_of, is_open, ids_of, names_block, names_made}
 use Rattle.model_machine.specs.State.{Asked, State, noted, resumed}
 use Rattle.model_machine.specs.Step.{says_of}
 use Rattle.model_machine.specs.Told.{told_in}
@@ -44,7 +43,8 @@ use Rattle.law_replies.proofs.Answering.{half, alive, awaited_there, plain_futur
 use Rattle.law_replies.proofs.Counts.{and_both, not_false, lives_within}
 use Rattle.law_replies.proofs.Entering.{spawns_in, creates_in, enters_timeout_in, enters_group_in}
 use Rattle.law_replies.proofs.Exiting.{timeout_there, timeout_open, exits_timeout_in, group_there, group_entered, group_its, group_unended, exits_in}
-use Rattle.law_replies.proofs.Given.{Made, asked_leaves, of_all, said_made, task_made}
+use Rattle.law_replies.proofs.Given.{Made, asked_leaves, of_all, said_made}
+use Rattle.law_replies.proofs.Ids.{task_made}
 use Rattle.law_replies.proofs.Innermost.{innermost_timeout, innermost_group}
 use Rattle.law_replies.proofs.Table.{same_tapes, self, thrown, answered, valued, hands_in, pauses_in, waits_in, sleeps_in, settles_in, requests_in}
 use Rattle.law_replies.proofs.Table.{uncancels_in, makes_future_in}
@@ -91,9 +91,9 @@ module _ {S : Type 0} (added : Extra S) (task : ℕ) (s : State S) (step : IsSte
     alone = tt;
   }
 
-  pub handed_on : (asked : Request) → says_of step_limit added task s ≡ Asks asked → InSaying (Made (next_task s.loop.parts)) (Asks asked)
+  pub handed_on : (asked : Request) → says_of step_limit added task s ≡ Asks asked → InSaying (Made (ids_of s)) (Asks asked)
   handed_on asked says =
-      subst (InSaying (Made (next_task s.loop.parts))) says
+      subst (InSaying (Made (ids_of s))) says
       (said_made added (Some task) (Some task) s (half added task Asked asked s (asked_is asked says)) task)
 
   -- ---- each request is fit
@@ -214,10 +214,10 @@ module _ {S : Type 0} (added : Extra S) (keeps : KeepsSound added) (task : ℕ) 
       at id is outer mine h =
           let there = group_there added task Asked s raised id is outer mine in
           exits_in added task Asked s raised id is outer mine (Some id) (λ gid e. sym (eqb-true id gid e)) (exit_begin raised id s.loop).loop
-          (exit_begin_loop (names_made (next_task s.loop.parts)) refl false (Some task) None (Some id) id (eq-eqb id id refl) raised s.loop)
-          (exit_begin_marks (names_made (next_task s.loop.parts)) refl false (Some task) None (Some id) id raised s.loop there)
+          (exit_begin_loop (names_made (ids_of s)) refl false (Some task) None (Some id) id (eq-eqb id id refl) raised s.loop)
+          (exit_begin_marks (names_made (ids_of s)) refl false (Some task) None (Some id) id raised s.loop there)
           (λ gid e. absurd (asked_leaves gid e)) false (exit_begin raised id s.loop).answer step.begun
-          (exit_begin_leaves (names_made (next_task s.loop.parts)) refl false (Some task) None (Some id) id (eq-eqb id id refl) raised s.loop there) h
+          (exit_begin_leaves (names_made (ids_of s)) refl false (Some task) None (Some id) id (eq-eqb id id refl) raised s.loop there) h
 
   -- ---- each case
   case_in : (asked : Request) (it : RequestReply S) → says_of step_limit added task s ≡ Asks asked → is_added asked ≡ false → RepliesSound task it
@@ -231,11 +231,11 @@ module _ {S : Type 0} (added : Extra S) (keeps : KeepsSound added) (task : ℕ) 
       let r = innermost_group added task s (step.others.blocks.entered task) group raised said in
       absurd (none-some r.0 (sym e ∙ ap as_group r.1))
   case_in asked it said own h (tells value none b) =
-      valued added task s asked (asked_is added task s step asked said) (blocks_plain asked b) (blocks_named asked b) value (none (next_task s.loop.parts))
+      valued added task s asked (asked_is added task s step asked said) (blocks_plain asked b) (blocks_named asked b) value (none (ids_of s))
   case_in asked it said own h names_itself =
       let is = asked_is added task s step request.Current said in
       valued added task s request.Current is (λ b i. refl) (λ i. refl) (Task task)
-      (task_made (next_task s.loop.parts) task (lives_within s.loop.parts task (alive added task Asked request.Current s is)))
+      (task_made (ids_of s) task (lives_within s.loop.parts task (alive added task Asked request.Current s is)))
   case_in asked it said own h (hands_on on outcome e b) =
       hands_in added task s asked (asked_is added task s step asked said) (blocks_plain asked b) (blocks_named asked b) on outcome e
   case_in asked it said own h (pauses_on may b) =
@@ -258,19 +258,19 @@ module _ {S : Type 0} (added : Extra S) (keeps : KeepsSound added) (task : ℕ) 
       uncancels_in added task s asked (asked_is added task s step asked said) (λ b i. refl) (λ i. refl) other h
   case_in asked it said own h (spawns_it coroutine arguments few) =
       spawns_in added task s asked (asked_is added task s step asked said) (λ b i. refl) (λ i. refl) coroutine arguments
-      (of_all (next_task s.loop.parts) arguments (handed_on added task s step (request.Spawn coroutine arguments) said)) h
+      (of_all (ids_of s) arguments (handed_on added task s step (request.Spawn coroutine arguments) said)) h
   case_in asked it said own h (enters x delay few) =
       enters_timeout_in added task s asked (asked_is added task s step asked said) x refl delay h
   case_in asked it said own h (leaves timeout raised id e) = timeout_in timeout raised said id e h
   case_in asked it said own h (moves timeout x id when e) =
       answered added task s asked (asked_is added task s step asked said) (λ b i. refl) (λ i. refl) (reschedule id when s.loop)
-      (reschedule_loop (names_made (next_task s.loop.parts)) refl false (Some task) None None None id when s.loop
+      (reschedule_loop (names_made (ids_of s)) refl false (Some task) None None None id when s.loop
       (tags_of_sound (Some task) (told_in s.events) s.loop step.others.loop)) h Nothing refl
   case_in asked it said own h (enters_one few) = enters_group_in added task s asked (asked_is added task s step asked said) refl h
   case_in asked it said own h (exits group raised id e) = group_in group raised said id e h
   case_in asked it said own h (creates_it group id coroutine arguments few e) =
       creates_in added task s asked (asked_is added task s step asked said) (λ b i. refl) (λ i. refl) coroutine arguments
-      (of_all (next_task s.loop.parts) arguments (handed_on added task s step (request.Create group coroutine arguments) said)) id e h
+      (of_all (ids_of s) arguments (handed_on added task s step (request.Create group coroutine arguments) said)) id e h
   case_in asked it said own h (serves_it code arguments number items) = absurd (false≢true (sym own))
 
   pub reply_in : (asked : Request) → says_of step_limit added task s ≡ Asks asked → RepliesInStep added false task (reply added task asked s)

@@ -5,12 +5,12 @@ use Rattle.model_value.specs.declared.request.Request.TheVariants as request
 use Rattle.model_value.specs.Request.{Request}
 use Rattle.model_says.specs.Endings.{Asks}
 use Rattle.model_loop.specs.Futures.{next_future}
-use Rattle.model_loop.specs.Owning.{is_plain}
 use Rattle.model_stream.specs.Requests.{StreamReader, give_up_read}
 use Rattle.model_machine.specs.Extra.{Extra}
 use Rattle.model_machine.specs.Sound.{AreKeptOnce, AreScriptsFutures, AreStreamsFutures, IsOpenedAt, stands_at}
 use Rattle.model_machine.specs.State.{ResumePoint, Asked, Sleeping, Leaving, Serving, Connecting, Yielding, Reading, ReadingAll, State, generator_of}
 use Rattle.law_cases.specs.Closed.{is_to_streams, stands_at_streams}
+use Rattle.law_cases.specs.TreeEnd.{owned_in}
 use Rattle.law_cases.proofs.Asking.{gives_up, gives_up_own}
 use Rattle.law_cases.proofs.Replying.{woken_at}
 use Rattle.law_replies.specs.InStep.{IsAsked}
@@ -49,9 +49,9 @@ given_up : {S : Type 0} (s : State S) (on : ℕ) (from : StreamReader) → AreSt
     → Replaces s (give_up_read on from s.streams)
 given_up s on from kept once scripts =
     let first = next_future s.loop.parts in
-    let it = gives_up (is_plain s.loop.parts) first on from s.streams kept in
-    replaces s s (give_up_read on from s.streams) first kept once scripts it.times it.connections it.children refl refl
-    (gives_up_own (is_plain s.loop.parts) on from s.streams kept)
+    let it = gives_up (owned_in s) first on from s.streams kept in
+    replaces s s (give_up_read on from s.streams) first kept once scripts it.times it.servers it.connections it.children refl refl
+    (gives_up_own (owned_in s) on from s.streams kept)
 
 pub woken_opened : {S : Type 0} (s : State S) (resume_point : ResumePoint) → AreStreamsFutures s → IsOpenedAt s.streams resume_point
     → IsOpenedAt (woken_at resume_point s).streams resume_point
@@ -62,10 +62,10 @@ woken_opened s (Serving key) kept h = h
 woken_opened s (Connecting conn) kept h = h
 woken_opened s (Yielding whom) kept h = h
 woken_opened s (Reading from op on) kept h =
-    let it = gives_up (is_plain s.loop.parts) 0 on from s.streams kept in
+    let it = gives_up (owned_in s) 0 on from s.streams kept in
     opened_on s.streams (give_up_read on from s.streams) it.connections it.children (Reading from op on) h
 woken_opened s (ReadingAll from taken on) kept h =
-    let it = gives_up (is_plain s.loop.parts) 0 on from s.streams kept in
+    let it = gives_up (owned_in s) 0 on from s.streams kept in
     opened_on s.streams (give_up_read on from s.streams) it.connections it.children (ReadingAll from taken on) h
 
 pub woken_asked : {S : Type 0} {added : Extra S} {task : ℕ} {stood : ResumePoint} {asked : Request} {s : State S} (resume_point : ResumePoint)

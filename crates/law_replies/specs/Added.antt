@@ -5,8 +5,7 @@ use Rattle.model_value.specs.Value.{Value}
 use Rattle.model_value.specs.declared.request.Request.TheVariants as request
 use Rattle.model_machine.specs.Extra.{Extra, called}
 use Rattle.model_machine.specs.Replies.{reply, woken}
-use Rattle.model_loop.specs.Tasks.{next_task}
-use Rattle.model_machine.specs.Sound.{IsStateSound, sends_made}
+use Rattle.model_machine.specs.Sound.{IsStateSound, ids_of, sends_made}
 use Rattle.model_machine.specs.State.{Asked, Serving, State}
 use Rattle.law_replies.specs.InStep.{IsAsked, IsStepSound, RepliesInStep}
 
@@ -17,7 +16,7 @@ pub record KeepsSound {S : Type 0} (added : Extra S) : Type 0 where
       → RepliesInStep added false task (reply added task (request.Extra code arguments) s)
   -- what the wait of such a request came to, as a step begins
   pub wake : (task key : ℕ) (code arguments : Value) (input : Input) (s : State S)
-      → sends_made (next_task s.loop.parts) input ≡ true
+      → sends_made (ids_of s) input ≡ true
       → IsAsked added task (Serving key) (request.Extra code arguments) s
       → RepliesInStep added true task (woken added task key input s)
   -- its own handle, and news of the outside, which the events say

@@ -1,9 +1,9 @@
 //! Laws of sound states. Each function has no body: its clauses are the laws.
 ghost use Rattle.std.specs.Prelude.{◌≡◌, ℕ, true, false, None};
 ghost use Rattle.model_says.specs.Says.{step_limit};
-ghost use Rattle.model_loop.specs.Tasks.{lives, next_task};
+ghost use Rattle.model_loop.specs.Tasks.{lives};
 ghost use Rattle.model_machine.specs.Extra.{Extra};
-ghost use Rattle.model_machine.specs.Sound.{IsStateSound, names_made};
+ghost use Rattle.model_machine.specs.Sound.{IsStateSound, ids_of, names_made};
 ghost use Rattle.model_machine.specs.State.{State};
 ghost use Rattle.model_machine.specs.Step.{says_of};
 ghost use Rattle.law_says.specs.Given.{InSaying, IsIn};
@@ -17,13 +17,13 @@ pub fn what_resumes_nobody_keeps_it_sound<S>()
     ensures { (added : Extra S) (s : State S) → IsStateSound added s
         → (t : State S) → SameTapes s t → t.futures ≡ s.futures
         → (t.main_done ≡ true → lives t.loop.parts 0 ≡ false)
-        → IsLoopAfter (names_made (next_task s.loop.parts)) false None None None None s.loop t.loop
+        → IsLoopAfter (names_made (ids_of s)) false None None None None s.loop t.loop
         → HasSoundLoop t → IsStateSound added t }
 {}
 
-/// Whatever a coroutine awaits, keeps, gives to another or returns names tasks that were made.
-pub fn coroutines_hand_on_tasks_that_were_made<S>()
+/// Whatever a coroutine awaits, keeps, gives to another or returns names what was made.
+pub fn coroutines_hand_on_what_was_made<S>()
     ensures { (added : Extra S) (s : State S) → IsStateSound added s
         → (task : ℕ)
-        → InSaying (IsIn (names_made (next_task s.loop.parts))) (says_of step_limit added task s) }
+        → InSaying (IsIn (names_made (ids_of s))) (says_of step_limit added task s) }
 {}

@@ -17,11 +17,12 @@ use Rattle.model_loop.specs.Entries.{entries, is_sleep_end}
 use Rattle.model_loop.specs.Groups.{exit_woken, group_of, new_group}
 use Rattle.model_loop.specs.Loop.{Group as GroupFields}
 use Rattle.model_loop.specs.Parts.{Handle, Parts}
-use Rattle.model_loop.specs.Tasks.{begin_step, cancelled_error, cancelling_input, is_cancelled, must_cancel_of, lives, next_task}
+use Rattle.model_loop.specs.Tasks.{begin_step, cancelled_error, cancelling_input, is_cancelled, must_cancel_of, lives}
 use Rattle.model_loop.specs.Ways.{is_running, one_if, steps, wanted}
 use Rattle.model_machine.specs.Extra.{Extra}
 use Rattle.model_machine.specs.Replies.{Answers, decides, exits_as, replied}
-use Rattle.model_machine.specs.Sound.{IsOpenedAt, IsStateSound, StandsUnder, ends_sleep_of, blocks_of, names_block, names_made, sends_made, stands_at}
+use Rattle.model_machine.specs.Sound.{Ids, IsOpenedAt, IsStateSound, StandsUnder, ends_sleep_of}
+use Rattle.model_machine.specs.Sound.{blocks_of, ids_of, names_block, names_made, sends_made, stands_at}
 use Rattle.model_machine.specs.State.{ResumePoint, Asked, Sleeping, Leaving, Serving, Connecting, Yielding, Reading, Generator}
 use Rattle.model_machine.specs.State.{ReadingAll, State, generator_of, noted, resumed, stands, unbooked_in}
 use Rattle.model_machine.specs.State.{with_loop}
@@ -51,6 +52,7 @@ use Rattle.law_replies.proofs.Counts.{and_first, and_second, not_true, lives_bef
 use Rattle.law_replies.proofs.Exiting.{group_there, exits_in, leaving_is}
 use Rattle.law_replies.proofs.Given.{asked_leaves}
 use Rattle.law_replies.proofs.Innermost.{innermost_group}
+use Rattle.law_replies.proofs.Ids.{IsMore, input_up, loop_more}
 use Rattle.law_replies.proofs.Keeping.{IsApart, apart_of, open_of, with_open, futures_kept, loop_keeps, stays_stood}
 use Rattle.law_replies.proofs.Keeping.{leaves_none, stood_resume_point, stood_says, stood_blocks, stands_keeps}
 use Rattle.law_replies.proofs.Kept.{futures_stay}
@@ -172,7 +174,7 @@ pause_first added task s e =
     ap (λ tape. saying_of (course step_limit s.program (generator_of task s).coroutine (generator_of task s).arguments tape)) e
 
 -- ---- inputs
-cancels_made : (n : ℕ) (must_cancel : Bool) (input : Input) → sends_made n input ≡ true
+cancels_made : (n : Ids) (must_cancel : Bool) (input : Input) → sends_made n input ≡ true
     → sends_made n (if must_cancel then cancelling_input input else input) ≡ true
 cancels_made n false input h = h
 cancels_made n true (Send value) h = refl
@@ -227,9 +229,9 @@ module _ {S : Type 0} (added : Extra S) (s : State S) (task : ℕ) (input : Inpu
       omega (arith, a, b)
 
   -- ---- the loop, once the step began
-  taken_first : IsAfter (names_made (next_task s.loop.parts)) false (Some task) s.loop.parts (taken rest s.loop.parts)
+  taken_first : IsAfter (names_made (ids_of s)) false (Some task) s.loop.parts (taken rest s.loop.parts)
   taken_first =
-      taken_after (names_made (next_task s.loop.parts)) false (Some task) handle rest s.loop.parts first
+      taken_after (names_made (ids_of s)) false (Some task) handle rest s.loop.parts first
       (λ other f. at other f (is_step other handle.action) refl)
     where
       off : (b : Bool) → (b && false) ≡ false
@@ -242,26 +244,26 @@ module _ {S : Type 0} (added : Extra S) (s : State S) (task : ℕ) (input : Inpu
       at other f true e = absurd (false≢true (sym f ∙ eq-eqb task other (step_steps task other handle.action mine e)))
 
   gave_up : (st : ResumePoint) → (generator_of task s).resume_point ≡ st
-      → IsAfter (names_made (next_task s.loop.parts)) false (Some task) (taken rest s.loop.parts) (given_up st (taken rest s.loop.parts))
-  gave_up Asked e = refl_after (names_made (next_task s.loop.parts)) false (Some task) (taken rest s.loop.parts)
+      → IsAfter (names_made (ids_of s)) false (Some task) (taken rest s.loop.parts) (given_up st (taken rest s.loop.parts))
+  gave_up Asked e = refl_after (names_made (ids_of s)) false (Some task) (taken rest s.loop.parts)
   gave_up (Sleeping tag) e =
-      revoke_after (names_made (next_task s.loop.parts)) false (Some task) tag (taken rest s.loop.parts) (λ other.
+      revoke_after (names_made (ids_of s)) false (Some task) tag (taken rest s.loop.parts) (λ other.
       let a = sleep_named tag e (λ k. is_step other) (λ k action h. step_no_sleep task other action h) in
       let b = handles-first (of_tag tag (λ k. is_step other)) handle rest s.loop.parts first in omega (arith, a, b))
-  gave_up (Leaving id) e = refl_after (names_made (next_task s.loop.parts)) false (Some task) (taken rest s.loop.parts)
-  gave_up (Serving key) e = refl_after (names_made (next_task s.loop.parts)) false (Some task) (taken rest s.loop.parts)
-  gave_up (Connecting conn) e = refl_after (names_made (next_task s.loop.parts)) false (Some task) (taken rest s.loop.parts)
-  gave_up (Yielding whom) e = refl_after (names_made (next_task s.loop.parts)) false (Some task) (taken rest s.loop.parts)
-  gave_up (Reading from op on) e = refl_after (names_made (next_task s.loop.parts)) false (Some task) (taken rest s.loop.parts)
-  gave_up (ReadingAll from had on) e = refl_after (names_made (next_task s.loop.parts)) false (Some task) (taken rest s.loop.parts)
+  gave_up (Leaving id) e = refl_after (names_made (ids_of s)) false (Some task) (taken rest s.loop.parts)
+  gave_up (Serving key) e = refl_after (names_made (ids_of s)) false (Some task) (taken rest s.loop.parts)
+  gave_up (Connecting conn) e = refl_after (names_made (ids_of s)) false (Some task) (taken rest s.loop.parts)
+  gave_up (Yielding whom) e = refl_after (names_made (ids_of s)) false (Some task) (taken rest s.loop.parts)
+  gave_up (Reading from op on) e = refl_after (names_made (ids_of s)) false (Some task) (taken rest s.loop.parts)
+  gave_up (ReadingAll from had on) e = refl_after (names_made (ids_of s)) false (Some task) (taken rest s.loop.parts)
 
-  pub moved_after : IsLoopAfter (names_made (next_task s.loop.parts)) false (Some task) None None None s.loop t.loop
+  pub moved_after : IsLoopAfter (names_made (ids_of s)) false (Some task) None None None s.loop t.loop
   moved_after =
-      parts_loop (names_made (next_task s.loop.parts)) refl false (Some task) None None None s.loop moved
-      (after_on (names_made (next_task s.loop.parts)) false (Some task) s.loop.parts (given_up (generator_of task s).resume_point (taken rest s.loop.parts))
+      parts_loop (names_made (ids_of s)) refl false (Some task) None None None s.loop moved
+      (after_on (names_made (ids_of s)) false (Some task) s.loop.parts (given_up (generator_of task s).resume_point (taken rest s.loop.parts))
       moved
-      (begin_after (names_made (next_task s.loop.parts)) false (Some task) task input (given_up (generator_of task s).resume_point (taken rest s.loop.parts)))
-      (after_on (names_made (next_task s.loop.parts)) false (Some task) s.loop.parts (taken rest s.loop.parts) _
+      (begin_after (names_made (ids_of s)) false (Some task) task input (given_up (generator_of task s).resume_point (taken rest s.loop.parts)))
+      (after_on (names_made (ids_of s)) false (Some task) s.loop.parts (taken rest s.loop.parts) _
       (gave_up (generator_of task s).resume_point refl) taken_first))
 
   -- ---- what it stands at is as the loop's laws want it
@@ -305,10 +307,13 @@ module _ {S : Type 0} (added : Extra S) (s : State S) (task : ℕ) (input : Inpu
       false_from_ne_true (lives t.loop.parts 0) (λ e. false≢true (sym (sound.main_over done)
       ∙ lives_before _ _ (Some task) s.loop.parts t.loop.parts moved_after.parts sound.loop.parts.owns 0 sound.main_told.made e))
 
+  pub begun_more : IsMore (ids_of s) (ids_of begun)
+  begun_more = loop_more s t (record { program = refl; generators = refl; streams = refl; extra = refl; scripts = futures_stay }) moved_after
+
   t_half : IsApart (Some task) (Some task) added t
   t_half =
       loop_keeps added s t (record { program = refl; generators = refl; streams = refl; extra = refl; scripts = futures_stay }) None
-      (Some task) None (Some task) moved_after.parts (moved_after.parts.same refl)
+      (Some task) None (Some task) moved_after.parts (moved_after.parts.same refl) begun_more
       (runs_as (generator_of task s).resume_point refl) (λ other f. refl) over
       (stays_stood added s t (record { program = refl; generators = refl; streams = refl; extra = refl; scripts = futures_stay }) None (Some task) None (Some task) _ _ None None None moved_after
       (λ other id f e r. refl))
@@ -353,29 +358,26 @@ module _ {S : Type 0} (added : Extra S) (s : State S) (task : ℕ) (input : Inpu
   }
 
   -- ---- and is answered
-  module _ (keeps : KeepsSound added) (given_ : sends_made (next_task s.loop.parts) input ≡ true) where
+  module _ (keeps : KeepsSound added) (given_ : sends_made (ids_of s) input ≡ true) where
     abbrev heard : ResumePoint → Input
     heard st = (begin_step task input (given_up st gone.loop.parts)).input
 
-    pub heard_made : (st : ResumePoint) → sends_made (next_task s.loop.parts) (heard st) ≡ true
-    heard_made st = cancels_made (next_task s.loop.parts) (must_cancel_of (given_up st gone.loop.parts) task) input given_
-
-    pub same_count : next_task begun.loop.parts ≡ next_task s.loop.parts
-    same_count = moved_after.parts.same refl
+    pub heard_made : (st : ResumePoint) → sends_made (ids_of s) (heard st) ≡ true
+    heard_made st = cancels_made (ids_of s) (must_cancel_of (given_up st gone.loop.parts) task) input given_
 
     to : (st : ResumePoint) → (generator_of task s).resume_point ≡ st → ((id : ℕ) → st ≡ Leaving id → ⊥) → (asked : Request)
         → says_of step_limit added task s ≡ Asks asked → stands_at st asked ≡ true → (heard_ : Input)
-        → sends_made (next_task s.loop.parts) heard_ ≡ true → IsStepSound added task (resumed true task heard_ begun)
+        → sends_made (ids_of s) heard_ ≡ true → IsStepSound added task (resumed true task heard_ begun)
     to st e n asked says may heard_ good =
         let is = begun_asked asked says in
         step_to added task (generator_of task s).resume_point asked begun is begun (same_tapes begun begun.loop) is.others.futures refl refl
-        (refl_loop (names_made (next_task begun.loop.parts)) refl false (Some task) None None None begun.loop) is.others.loop
+        (refl_loop (names_made (ids_of begun)) refl false (Some task) None None None begun.loop) is.others.loop
         (λ id x. n id (sym e ∙ x)) true heard_ (λ b. plain_at st asked n may b heard_) (named_at st asked n may heard_)
-        (ap (λ k. sends_made k heard_) same_count ∙ good)
+        (input_up (ids_of s) (ids_of begun) begun_more heard_ good)
 
     answers : (st : ResumePoint) → (generator_of task s).resume_point ≡ st → ((id : ℕ) → st ≡ Leaving id → ⊥) → (asked : Request)
         → says_of step_limit added task s ≡ Asks asked → stands_at st asked ≡ true → (heard_ : Input)
-        → sends_made (next_task s.loop.parts) heard_ ≡ true → RepliesInStep added true task (replied heard_ begun)
+        → sends_made (ids_of s) heard_ ≡ true → RepliesInStep added true task (replied heard_ begun)
     answers st e n asked says may (Send value) good = to st e n asked says may (Send value) good
     answers st e n asked says may (Throw fault) good = to st e n asked says may (Throw fault) good
 
@@ -392,14 +394,14 @@ module _ {S : Type 0} (added : Extra S) (s : State S) (task : ℕ) (input : Inpu
         let same : r.0 ≡ id = group_is r.0 id (sym r.1) in
         let its : blocks_of begun task ≡ Group id ∷ r.2.0 = r.2.1 ∙ ap (λ k. Group k ∷ r.2.0) same in
         let there = group_there added task (generator_of task s).resume_point begun g.0 id is r.2.0 its in
-        let a = exit_woken_loop (names_made (next_task begun.loop.parts)) refl false (Some task) None None id heard_ begun.loop in
+        let a = exit_woken_loop (names_made (ids_of begun)) refl false (Some task) None None id heard_ begun.loop in
         exits_in added task (generator_of task s).resume_point begun g.0 id is r.2.0 its None (λ gid x. absurd (false≢true x))
         (exit_woken heard_ id begun.loop).loop a
         ((a.groups id).exiting
         (and_first (group_of s.loop id).exiting (not (group_of s.loop id).ended) ((sound.resume_point task stepped_lives refl).leaving_now id e)))
         (λ gid x. leaving_is gid id (sym x ∙ e)) true (exit_woken heard_ id begun.loop).answer
         (λ x. not_pause (sym (pause_first added task begun x) ∙ is.says))
-        (exit_woken_leaves (names_made (next_task begun.loop.parts)) refl false (Some task) None None id heard_ begun.loop there) h
+        (exit_woken_leaves (names_made (ids_of begun)) refl false (Some task) None None id heard_ begun.loop there) h
 
     -- at a request on listeners, connections and children: the input is handed on, or a tree goes on
     streams_on : (st : ResumePoint) → (generator_of task s).resume_point ≡ st → (asked : Request) → says_of step_limit added task s ≡ Asks asked
@@ -409,7 +411,7 @@ module _ {S : Type 0} (added : Extra S) (s : State S) (task : ℕ) (input : Inpu
       where
         here : (heard_ : Input) → heard st ≡ heard_ → IsStepSound added task (resumed true task heard_ begun)
         here heard_ same =
-            to st e (streams_leave st at_streams) asked says may heard_ (subst (λ i. sends_made (next_task s.loop.parts) i ≡ true) same (heard_made st))
+            to st e (streams_leave st at_streams) asked says may heard_ (subst (λ i. sends_made (ids_of s) i ≡ true) same (heard_made st))
 
         at : ((value : Value) × (heard st ≡ Send value) × (decides added st task (heard st) begun ≡ Answers value begun))
             ⊎ StreamReplies task st (woken_at st begun) asked (decides added st task (heard st) begun)
@@ -444,7 +446,7 @@ module _ {S : Type 0} (added : Extra S) (s : State S) (task : ℕ) (input : Inpu
     decided (Serving key) e asked says may =
         let g = served_extra key asked may in
         keeps.wake task key g.0 g.1.0 (heard (Serving key)) begun
-        (ap (λ k. sends_made k (heard (Serving key))) same_count ∙ heard_made (Serving key))
+        (input_up (ids_of s) (ids_of begun) begun_more (heard (Serving key)) (heard_made (Serving key)))
         (subst (λ q. IsAsked added task (Serving key) q begun) g.1.1
         (subst (λ st. IsAsked added task st asked begun) e (begun_asked asked says)))
     decided (Connecting conn) e asked says may =

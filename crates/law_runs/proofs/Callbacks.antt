@@ -19,13 +19,13 @@ use Rattle.model_loop.specs.Groups.{child_done}
 use Rattle.model_loop.specs.Loop.{TimeoutState, Created, Active, Expiring, Expired, Finished, in_parts}
 use Rattle.model_loop.specs.Owning.{is_main_done}
 use Rattle.model_loop.specs.Parts.{Handle}
-use Rattle.model_loop.specs.Tasks.{next_task, waiter_of}
+use Rattle.model_loop.specs.Tasks.{waiter_of}
 use Rattle.model_loop.specs.Timeouts.{fire, is_active, timeout_of}
 use Rattle.model_loop.specs.Ways.{steps}
 use Rattle.model_machine.specs.Extra.{Extra}
 use Rattle.model_machine.specs.Outcomes.{input_of, woken_with}
 use Rattle.model_machine.specs.Replies.{RequestReply, Answers, Raises, Suspends, Halts, reply}
-use Rattle.model_machine.specs.Sound.{IsStateSound, is_open, names_made, sends_made}
+use Rattle.model_machine.specs.Sound.{IsStateSound, is_open, ids_of, names_made, sends_made}
 use Rattle.model_machine.specs.State.{State, generator_of, noted, unbooked_in}
 use Rattle.model_machine.specs.Step.{most_answers, says_of, serve, serve_all, served, step, taken_as}
 use Rattle.model_machine.specs.Told.{told_by, told_in}
@@ -81,7 +81,7 @@ module _ {S : Type 0} (added : Extra S) (keeps : KeepsSound added) (task : ℕ) 
       served_in (serve step_limit added answers task) (λ u h. serve_in answers u h) (says_of step_limit added task t) t its refl
 
   pub step_in : (s : State S) (input : Input) (handle : Handle) (rest : List Handle) → s.loop.parts.pending ≡ handle ∷ rest → handle.dead ≡ false
-      → steps task handle.action ≡ true → IsStateSound added s → sends_made (next_task s.loop.parts) input ≡ true
+      → steps task handle.action ≡ true → IsStateSound added s → sends_made (ids_of s) input ≡ true
       → LeavesStateSound added (step step_limit added task input (noted (event.Ran handle.action) (unbooked_in (λ p. record p { pending = rest }) s)))
   unfolding step
   step_in s input handle rest first live mine sound given_ =
@@ -90,16 +90,16 @@ module _ {S : Type 0} (added : Extra S) (keeps : KeepsSound added) (task : ℕ) 
 
 -- ---- what a task is woken with
 pub woken_made : {S : Type 0} (added : Extra S) (s : State S) → IsStateSound added s → (task : ℕ)
-    → sends_made (next_task s.loop.parts) (woken_with s.loop.parts task) ≡ true
+    → sends_made (ids_of s) (woken_with s.loop.parts task) ≡ true
 woken_made added s sound task = at (waiter_of s.loop.parts task)
   where
     until : (on : ℕ) (o : Option Outcome) → future_outcome s.loop.parts on ≡ o
-        → sends_made (next_task s.loop.parts) (option_map_or input_of o (Send Nothing)) ≡ true
+        → sends_made (ids_of s) (option_map_or input_of o (Send Nothing)) ≡ true
     until on None e = refl
     until on (Some outcome) e = ended_made added None None s (apart_of added None None s sound) on outcome e
 
     at : (o : Option ℕ)
-        → sends_made (next_task s.loop.parts) (option_map_or input_of (option_and_then (future_outcome s.loop.parts) o) (Send Nothing)) ≡ true
+        → sends_made (ids_of s) (option_map_or input_of (option_and_then (future_outcome s.loop.parts) o) (Send Nothing)) ≡ true
     at None = refl
     at (Some on) = until on (future_outcome s.loop.parts on) refl
 
@@ -117,10 +117,10 @@ module _ {S : Type 0} (added : Extra S) (keeps : KeepsSound added) (s : State S)
   out = unbooked_in (λ p. record p { pending = rest }) s
 
   taken_by : ((other : ℕ) → (not handle.dead && is_step other handle.action) ≡ false)
-      → IsLoopAfter (names_made (next_task s.loop.parts)) false None None None None s.loop (in_parts (taken rest) s.loop)
+      → IsLoopAfter (names_made (ids_of s)) false None None None None s.loop (in_parts (taken rest) s.loop)
   taken_by none =
-      parts_loop (names_made (next_task s.loop.parts)) refl false None None None None s.loop (taken rest s.loop.parts)
-      (taken_after (names_made (next_task s.loop.parts)) false None handle rest s.loop.parts first (λ other f. none other))
+      parts_loop (names_made (ids_of s)) refl false None None None None s.loop (taken rest s.loop.parts)
+      (taken_after (names_made (ids_of s)) false None handle rest s.loop.parts first (λ other f. none other))
 
   no_step : (it : Action) → handle.action ≡ it → ((other : ℕ) → is_step other it ≡ false) → (other : ℕ)
       → (not handle.dead && is_step other handle.action) ≡ false
@@ -169,7 +169,7 @@ module _ {S : Type 0} (added : Extra S) (keeps : KeepsSound added) (s : State S)
       (subst (λ a. FitsAction step_limit added a s (noted (event.Ran a) out)) (sym is) fit))))
 
   steps_in : (it : Action) (task : ℕ) (input : Input) → handle.action ≡ it → steps task it ≡ true → handle.dead ≡ false
-      → sends_made (next_task s.loop.parts) input ≡ true → LeavesStateSound added (step step_limit added task input (noted (event.Ran it) out))
+      → sends_made (ids_of s) input ≡ true → LeavesStateSound added (step step_limit added task input (noted (event.Ran it) out))
   steps_in it task input is mine live given_ =
       subst (λ a. LeavesStateSound added (step step_limit added task input (noted (event.Ran a) out))) is
       (step_in added keeps task s input handle rest first live (ap (steps task) is ∙ mine) sound given_)
@@ -192,24 +192,24 @@ module _ {S : Type 0} (added : Extra S) (keeps : KeepsSound added) (s : State S)
       steps_in (action.Wakeup task) task (woken_with out.loop.parts task) is (eq-eqb task task refl) live (woken_made added s sound task)
   lively (action.SleepDone task future) is live =
       let a = taken_by (no_step (action.SleepDone task future) is (λ other. refl)) in
-      let b = loop_on (names_made (next_task s.loop.parts)) refl false None None None None s.loop (in_parts (taken rest) s.loop) _
-      (parts_loop (names_made (next_task s.loop.parts)) refl false None None None None (in_parts (taken rest) s.loop)
+      let b = loop_on (names_made (ids_of s)) refl false None None None None s.loop (in_parts (taken rest) s.loop) _
+      (parts_loop (names_made (ids_of s)) refl false None None None None (in_parts (taken rest) s.loop)
       (settle future (Returned Nothing) (taken rest s.loop.parts))
-      (settle_after (names_made (next_task s.loop.parts)) false None future (Returned Nothing) (taken rest s.loop.parts) refl)) a in
+      (settle_after (names_made (ids_of s)) false None future (Returned Nothing) (taken rest s.loop.parts) refl)) a in
       nobody added s sound _ (record { program = refl; generators = refl; streams = refl; extra = refl; scripts = futures_stay }) refl
       (over_as added s sound (in_parts (settle future (Returned Nothing)) (in_parts (taken rest) s.loop)) b) b
       (loop_of (action.SleepDone task future) is live (λ of. absurd (false≢true of)))
   lively (action.GroupDone group task) is live =
       let a = taken_by (no_step (action.GroupDone group task) is (λ other. refl)) in
-      let b = loop_on (names_made (next_task s.loop.parts)) refl false None None None None s.loop (in_parts (taken rest) s.loop) _
-      (child_done_loop (names_made (next_task s.loop.parts)) refl false None None None None group task (in_parts (taken rest) s.loop)) a in
+      let b = loop_on (names_made (ids_of s)) refl false None None None None s.loop (in_parts (taken rest) s.loop) _
+      (child_done_loop (names_made (ids_of s)) refl false None None None None group task (in_parts (taken rest) s.loop)) a in
       nobody added s sound _ (record { program = refl; generators = refl; streams = refl; extra = refl; scripts = futures_stay }) refl
       (over_as added s sound (child_done group task (in_parts (taken rest) s.loop)) b) b
       (loop_of (action.GroupDone group task) is live (λ of. absurd (false≢true of)))
   lively (action.Fires timeout) is live =
       let a = taken_by (no_step (action.Fires timeout) is (λ other. refl)) in
-      let b = loop_on (names_made (next_task s.loop.parts)) refl false None None None None s.loop (in_parts (taken rest) s.loop) _
-      (fire_loop (names_made (next_task s.loop.parts)) refl false None None None None timeout (in_parts (taken rest) s.loop)
+      let b = loop_on (names_made (ids_of s)) refl false None None None None s.loop (in_parts (taken rest) s.loop) _
+      (fire_loop (names_made (ids_of s)) refl false None None None None timeout (in_parts (taken rest) s.loop)
       (active_open (timeout_of s.loop timeout).state
       (was_active timeout handle rest s.loop first live is (tags_of_sound None (told_in s.events) s.loop sound.loop)))) a in
       nobody added s sound _ (record { program = refl; generators = refl; streams = refl; extra = refl; scripts = futures_stay }) refl

@@ -1,6 +1,5 @@
 -- What a call of what is added leaves of a sound state: whatever it keeps then was made.
 use Rattle.std.proofs.Common.{◌≡◌, ℕ, true, List, [], ◌∷◌, ◌++◌, Option, Some, None, refl, sym, ap, ◌∙◌}
-use Rattle.std.specs.List.{list_all}
 use Rattle.std.proofs.lemmas.Bool.{false≢true}
 use Rattle.model_value.specs.Value.{Outcome}
 use Rattle.model_value.specs.declared.outcome.Outcome.TheVariants.{Value as Returned, Failed, Cancelled}
@@ -10,18 +9,19 @@ use Rattle.model_wire.specs.Call.{Answer, Call}
 use Rattle.model_wire.specs.Journal.{Entry}
 use Rattle.model_loop.specs.Futures.{future_outcome}
 use Rattle.model_loop.specs.Loop.{Loop}
-use Rattle.model_loop.specs.Tasks.{next_task}
 use Rattle.model_machine.specs.Extra.{Extra, ExtraCall, ExtraSaid, ExtraStep, Keeping, called, key_of, made_by_all}
 use Rattle.model_machine.specs.Outcomes.{input_of}
 use Rattle.model_machine.specs.Replies.{input_by}
-use Rattle.model_machine.specs.Sound.{AreKept, AreKeysKept, IsFree, IsSoundBut, IsSoundOver, names_made, sends_made}
-use Rattle.model_machine.specs.State.{Generator, Serving, State, noted}
+use Rattle.model_machine.specs.Sound.{AreKept, AreKeysKept, Ids, IsFree, IsSoundBut, IsSoundOver, ids_of, sends_made}
+use Rattle.model_machine.specs.State.{Generator, Serving, State, in_loop, noted}
 use Rattle.model_machine.specs.Told.{told_in}
 use Rattle.law_turns.proofs.TreeSteps.{told_in-none}
 use Rattle.law_turns.proofs.Turning.{as_told}
 use Rattle.law_replies.specs.InStep.{MayStandAt}
 use Rattle.law_replies.proofs.Answering.{plain_futures}
-use Rattle.law_replies.proofs.Kept.{futures_stay, kept_on}
+use Rattle.law_replies.proofs.Ids.{IsMore, as_many, loop_more, names_up}
+use Rattle.law_replies.proofs.Kept.{futures_stay, kept_more, kept_on}
+use Rattle.law_replies.proofs.Table.{same_tapes}
 use Rattle.law_runs.specs.Allowed.{AreAllowed, IsCallAllowed, IsKeyAllowed, IsSaidAllowed, MayCall, Owns, owns_at}
 use Rattle.law_runs.proofs.Steps.{all_after, all_sound}
 
@@ -37,7 +37,7 @@ may_call added running excused s is = record {
 
 -- ---- its own state is another
 pub extra_replaced : {S : Type 0} (added : Extra S) (running excused : Option ℕ) (s : State S) (extra : S)
-    → AreKept (added.keeps extra) s.futures s.loop.parts → AreKeysKept (added.keeps extra).has_key s.generators → IsSoundBut running excused added s
+    → AreKept (ids_of s) (added.keeps extra) s.futures s.loop.parts → AreKeysKept (added.keeps extra).has_key s.generators → IsSoundBut running excused added s
     → IsSoundBut running excused added (record s { extra = extra })
 extra_replaced added running excused s extra kept keys is = record {
   loop = is.loop;
@@ -92,17 +92,31 @@ pub said_free : {S : Type 0} (added : Extra S) (woken : Option ℕ) (said : Extr
 said_free added woken said s free may is key e =
     answer_free added woken (added.keeps s.extra) (added.keeps said.call.state) s.generators free is key (may.key key e)
 
+-- ---- whatever was made stays so
+pub called_more : {S : Type 0} (added : Extra S) (call : ExtraCall S) (s : State S)
+    → AreAllowed (owns_at (ids_of s) (added.keeps s.extra) s.loop.parts) call.steps s.loop → IsMore (ids_of s) (ids_of (called call s))
+called_more added call s may =
+    loop_more s (in_loop (made_by_all call.steps) s) (same_tapes s (made_by_all call.steps s.loop))
+    (all_after None (owns_at (ids_of s) (added.keeps s.extra) s.loop.parts) call.steps s.loop may)
+
+pub called_kept : {S : Type 0} (added : Extra S) (woken : Option ℕ) (call : ExtraCall S) (s : State S) → IsCallAllowed added woken call s
+    → AreKept (ids_of (called call s)) (added.keeps call.state) s.futures (made_by_all call.steps s.loop).parts
+called_kept added woken call s may =
+    kept_more (ids_of s) (ids_of (called call s)) (called_more added call s may.steps) (added.keeps call.state) s.futures
+    (made_by_all call.steps s.loop).parts may.kept
+
 -- ---- from the state after a call, and after what the outside answered, a call may be made again
 pub may_on : {S : Type 0} (added : Extra S) (running woken : Option ℕ) (call : ExtraCall S) (s : State S) → IsCallAllowed added woken call s
     → MayCall added running s → MayCall added running (called call s)
 may_on added running woken call s may is =
-    let own = owns_at (added.keeps s.extra) s.loop.parts in
-    let a = all_after (next_task s.loop.parts) None own call.steps s.loop refl may.steps in
+    let own = owns_at (ids_of s) (added.keeps s.extra) s.loop.parts in
+    let a = all_after None own call.steps s.loop may.steps in
     record {
       loop = all_sound running (told_in s.events) own call.steps s.loop may.steps is.loop;
-      kept = may.kept;
+      kept = called_kept added woken call s may;
       scripts = λ place id e. a.parts.plain id (is.scripts place id e);
-      outcomes = λ id value e. ap (λ n. names_made n value) (a.parts.same refl) ∙ a.parts.outcomes is.outcomes id value e;
+      outcomes = λ id value e.
+          names_up (ids_of s) (ids_of (called call s)) (called_more added call s may.steps) value (a.parts.outcomes is.outcomes id value e);
     }
 
 pub may_heard : {S : Type 0} (added : Extra S) (running : Option ℕ) (call : Call) (answer : Answer) (left : List Entry) (s : State S)
@@ -121,20 +135,19 @@ may_heard added running call answer left s is =
 
 -- how a future ended names what was made
 pub ended_sends : {S : Type 0} (added : Extra S) (running : Option ℕ) (s : State S) → MayCall added running s → (id : ℕ) (outcome : Outcome)
-    → future_outcome s.loop.parts id ≡ Some outcome → sends_made (next_task s.loop.parts) (input_of outcome) ≡ true
+    → future_outcome s.loop.parts id ≡ Some outcome → sends_made (ids_of s) (input_of outcome) ≡ true
 ended_sends added running s is id (Returned value) e = is.outcomes id value e
 ended_sends added running s is id (Failed fault) e = refl
 ended_sends added running s is id Cancelled e = refl
 
 -- what the outside answered names nothing
-pub answer_sends : (n : ℕ) (said : Answer) → sends_made n (input_by said) ≡ true
+pub answer_sends : (n : Ids) (said : Answer) → sends_made n (input_by said) ≡ true
 answer_sends n (answer.Extra bytes) = refl
 answer_sends n _ = refl
 
 -- ---- whatever was kept stays right through allowed steps
-pub steps_keep : (own : Owns) (keeping : Keeping) (futures : List ℕ) (steps : List ExtraStep) (l : Loop) → AreAllowed own steps l
-    → AreKept keeping futures l.parts → AreKept keeping futures (made_by_all steps l).parts
-steps_keep own keeping futures steps l may is =
-    let a = all_after (next_task l.parts) None own steps l refl may in
-    kept_on _ _ None futures futures l.parts (made_by_all steps l).parts a.parts futures_stay keeping
-    (ap (λ n. list_all (names_made n) keeping.values) (a.parts.same refl) ∙ is.values) is
+pub steps_keep : {ids : Ids} (own : Owns) (keeping : Keeping) (futures : List ℕ) (steps : List ExtraStep) (l : Loop) → AreAllowed own steps l
+    → AreKept ids keeping futures l.parts → AreKept ids keeping futures (made_by_all steps l).parts
+steps_keep {ids = ids} own keeping futures steps l may is =
+    let a = all_after None own steps l may in
+    kept_on _ _ None futures futures l.parts (made_by_all steps l).parts a.parts futures_stay ids ids (as_many ids) keeping is

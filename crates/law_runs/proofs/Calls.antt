@@ -21,13 +21,13 @@ use Rattle.model_wire.specs.Journal.{Entry, Answered, Refused}
 use Rattle.model_loop.specs.Futures.{future_outcome}
 use Rattle.model_loop.specs.Sound.{IsSound}
 use Rattle.model_loop.specs.Suspend.{suspend}
-use Rattle.model_loop.specs.Tasks.{lives, next_task}
+use Rattle.model_loop.specs.Tasks.{lives}
 use Rattle.model_machine.specs.Arguments.{as_int, as_list}
 use Rattle.model_machine.specs.Extra as extra
 use Rattle.model_machine.specs.Extra.{Extra, ExtraAnswer, ExtraCall, ExtraSaid, called, key_of, made_by_all}
 use Rattle.model_machine.specs.Outcomes.{input_of}
 use Rattle.model_machine.specs.Replies.{RequestReply, Halts, Wake, ended, given, input_by, reply, serves, serves_as, serves_until, waits, woken, woken_within}
-use Rattle.model_machine.specs.Sound.{IsFree, IsOpenedAt, IsStateSound, StandsRightly, blocks_of, names_made, sends_made}
+use Rattle.model_machine.specs.Sound.{IsFree, IsOpenedAt, IsStateSound, StandsRightly, blocks_of, ids_of, names_made, sends_made}
 use Rattle.model_machine.specs.State.{Asked, Sleeping, Leaving, Serving, Generator, State, generator, generator_of, in_loop, noted, resumed}
 use Rattle.model_machine.specs.State.{stands}
 use Rattle.model_machine.specs.Step.{says_of}
@@ -44,6 +44,7 @@ use Rattle.law_replies.proofs.Blocks.{open_kept}
 use Rattle.law_replies.proofs.Counts.{get_there, lives_before}
 use Rattle.law_says.specs.Given.{InSaying}
 use Rattle.law_replies.proofs.Given.{Made, asked_leaves, ended_made, made_closed, of_all, said_made}
+use Rattle.law_replies.proofs.Ids.{loop_more}
 use Rattle.law_replies.proofs.Keeping.{futures_kept, leaves_none, loop_keeps, open_of, says_same, stays_stood, stood_resume_point, tapes_blocks, with_open}
 use Rattle.law_replies.proofs.Kept.{futures_stay}
 use Rattle.law_replies.proofs.Nobody.{nobody, over_as}
@@ -51,7 +52,7 @@ use Rattle.law_replies.specs.Added.{KeepsSound}
 use Rattle.law_replies.proofs.Answering.{half, left_before, pending_of, suspended_stood, step_to, within}
 use Rattle.law_replies.proofs.Table.{same_tapes, thrown}
 use Rattle.law_runs.specs.Allowed.{IsAnswerAllowed, IsCallAllowed, IsSaidAllowed, MakesAllowedSteps, owns_at}
-use Rattle.law_runs.proofs.Called.{IsWokenFree, answer_sends, extra_replaced, keys_act, keys_called, may_call, none_free, said_free}
+use Rattle.law_runs.proofs.Called.{IsWokenFree, answer_sends, called_kept, extra_replaced, keys_act, keys_called, may_call, none_free, said_free}
 use Rattle.law_runs.proofs.Steps.{all_after, all_sound}
 
 serving_leaves : (key id : ℕ) → Serving key ≡ Leaving id → ⊥
@@ -87,7 +88,7 @@ as_asked added task key asked s is = record {
 module _ {S : Type 0} (added : Extra S) (task : ℕ) (code arguments : Value) where
   -- ---- after steps of the loop, which leave the tapes as they are, the coroutine asks as before
   module _ (s t : State S) (tapes : SameTapes s t) (futures : t.futures ≡ s.futures) (done : t.main_done ≡ s.main_done)
-      (moved : IsLoopAfter (names_made (next_task s.loop.parts)) false (Some task) None None None s.loop t.loop)
+      (moved : IsLoopAfter (names_made (ids_of s)) false (Some task) None None None s.loop t.loop)
       (sound : IsSound (Some task) (told_in t.events) t.loop) (is : IsAsked added task Asked (request.Extra code arguments) s) where
     same_at : generator_of task t ≡ generator_of task s
     same_at = ap (λ gs. slice_index_or gs task (generator 0 [])) tapes.generators
@@ -104,8 +105,8 @@ module _ {S : Type 0} (added : Extra S) (task : ℕ) (code arguments : Value) wh
     asked_on : IsAsked added task Asked (request.Extra code arguments) t
     asked_on = record {
       others = with_open added (Some task) (Some task) t
-          (loop_keeps added s t tapes (Some task) (Some task) (Some task) (Some task) moved.parts (moved.parts.same refl) sound
-          (λ other f. f) over
+          (loop_keeps added s t tapes (Some task) (Some task) (Some task) (Some task) moved.parts (moved.parts.same refl)
+          (loop_more s t tapes moved) sound (λ other f. f) over
           (stays_stood added s t tapes (Some task) (Some task) (Some task) (Some task) _ _ None None None moved (λ other id f e r. refl))
           (leaves_none added s t tapes (Some task) (Some task) (Some task) (Some task) _ _ None None None moved (λ id f. (refl, refl)))
           (futures_kept s t futures tapes.streams (λ id h. moved.parts.plain id h) is.others.futures)
@@ -122,13 +123,14 @@ module _ {S : Type 0} (added : Extra S) (task : ℕ) (code arguments : Value) wh
   called_in : (woken : Option ℕ) (s : State S) (call : ExtraCall S) → IsWokenFree s.generators woken → IsCallAllowed added woken call s
       → IsAsked added task Asked (request.Extra code arguments) s → IsAsked added task Asked (request.Extra code arguments) (called call s)
   called_in woken s call free may is =
-      let own = owns_at (added.keeps s.extra) s.loop.parts in
+      let own = owns_at (ids_of s) (added.keeps s.extra) s.loop.parts in
       let t = in_loop (made_by_all call.steps) s in
       let on = asked_on s t (record { program = refl; generators = refl; streams = refl; extra = refl; scripts = futures_stay }) refl refl
-      (all_after (next_task s.loop.parts) (Some task) own call.steps s.loop refl may.steps)
+      (all_after (Some task) own call.steps s.loop may.steps)
       (all_sound (Some task) (told_in s.events) own call.steps s.loop may.steps is.others.loop) is in
       record {
-        others = extra_replaced added (Some task) (Some task) t call.state may.kept (keys_called added woken call s free may is.others.keys) on.others;
+        others = extra_replaced added (Some task) (Some task) t call.state (called_kept added woken call s may)
+            (keys_called added woken call s free may is.others.keys) on.others;
         resume_point = on.resume_point;
         says = on.says;
         exits = on.exits;
@@ -144,17 +146,17 @@ module _ {S : Type 0} (added : Extra S) (task : ℕ) (code arguments : Value) wh
   gotten_in call answer left s is =
       let asked = s.events ++ event.Called call ∷ [] in
       asked_on s (gotten call answer left s) (record { program = refl; generators = refl; streams = refl; extra = refl; scripts = futures_stay }) refl refl
-      (refl_loop (names_made (next_task s.loop.parts)) refl false (Some task) None None None s.loop)
+      (refl_loop (names_made (ids_of s)) refl false (Some task) None None None s.loop)
       (as_told (Some task) (told_in s.events) (told_in (asked ++ event.Got answer ∷ [])) s.loop
       (λ group. told_in-none asked (event.Got answer ∷ []) (λ any. refl) group
       ∙ told_in-none s.events (event.Called call ∷ []) (λ any. refl) group) is.others.loop) is
 
   -- ---- it is answered
   pub answered_in : (fresh : Bool) (s : State S) → IsAsked added task Asked (request.Extra code arguments) s → (input : Input)
-      → sends_made (next_task s.loop.parts) input ≡ true → IsStepSound added task (resumed fresh task input s)
+      → sends_made (ids_of s) input ≡ true → IsStepSound added task (resumed fresh task input s)
   answered_in fresh s is input good =
       step_to added task Asked (request.Extra code arguments) s is s (same_tapes s s.loop) is.others.futures refl refl
-      (refl_loop (names_made (next_task s.loop.parts)) refl false (Some task) None None None s.loop) is.others.loop asked_leaves
+      (refl_loop (names_made (ids_of s)) refl false (Some task) None None None s.loop) is.others.loop asked_leaves
       fresh input (λ b. refl) refl good
 
   -- ---- or its task waits
@@ -163,10 +165,10 @@ module _ {S : Type 0} (added : Extra S) (task : ℕ) (code arguments : Value) wh
     abbrev u : State S
     u = waits task on s
 
-    after : IsLoopAfter (names_made (next_task s.loop.parts)) false (Some task) None None None s.loop (waits task on s).loop
+    after : IsLoopAfter (names_made (ids_of s)) false (Some task) None None None s.loop (waits task on s).loop
     after =
-        book_loop (names_made (next_task s.loop.parts)) refl false (Some task) None None None (suspend task on) s.loop
-        (suspend_after (names_made (next_task s.loop.parts)) false (Some task) task on s.loop.parts)
+        book_loop (names_made (ids_of s)) refl false (Some task) None None None (suspend task on) s.loop
+        (suspend_after (names_made (ids_of s)) false (Some task) task on s.loop.parts)
 
     stood_so : (generator_of task (stands (Serving key) task (waits task on s))).resume_point ≡ Serving key
     stood_so = stood_resume_point added task (Serving key) (waits task on s) (within added task Asked (request.Extra code arguments) s is)
@@ -191,7 +193,7 @@ module _ {S : Type 0} (added : Extra S) (task : ℕ) (code arguments : Value) wh
   -- ---- what comes of it, where what wakes it does as well
   abbrev Wakes : Bool → Wake S → Type 0
   Wakes fresh wake =
-      (key : ℕ) (input : Input) (s : State S) → sends_made (next_task s.loop.parts) input ≡ true
+      (key : ℕ) (input : Input) (s : State S) → sends_made (ids_of s) input ≡ true
       → MayStandAt (added.keeps s.extra).has_key s.generators (Serving key) → IsAsked added task Asked (request.Extra code arguments) s
       → RepliesInStep added fresh task (wake key input s)
 
@@ -229,7 +231,7 @@ module _ {S : Type 0} (added : Extra S) (task : ℕ) (code arguments : Value) wh
   serves_in fresh (extra.Waits on key) wake s may each free is = until_in fresh (ended s on) wake s on key each (free key refl) is may refl
   serves_in fresh (extra.Asks number bytes key) wake s may each free is =
       asked_in fresh (call.Extra number bytes) (λ said. wake key (input_by said)) s is
-      (λ said left asks. each key (input_by said) (gotten (call.Extra number bytes) said left s) (answer_sends (next_task s.loop.parts) said)
+      (λ said left asks. each key (input_by said) (gotten (call.Extra number bytes) said left s) (answer_sends (ids_of s) said)
       (free key refl) asks)
 
   pub said_in : (fresh : Bool) (woken : Option ℕ) (said : ExtraSaid S) (wake : Wake S) (s : State S) → IsWokenFree s.generators woken
@@ -261,17 +263,17 @@ module _ {S : Type 0} (added : Extra S) (allowed : MakesAllowedSteps added) (tas
   unfolding reply
   asks_in = number (as_int code)
     where
-      given_ : names_made (next_task s.loop.parts) arguments ≡ true
+      given_ : names_made (ids_of s) arguments ≡ true
       given_ =
-          subst (InSaying (Made (next_task s.loop.parts))) is.says
+          subst (InSaying (Made (ids_of s))) is.says
           (said_made added (Some task) (Some task) s (half added task Asked (request.Extra code arguments) s is) task)
 
-      arguments_made : (it : Value) (values : List Value) → names_made (next_task s.loop.parts) it ≡ true → as_list it ≡ Some values
-          → list_all (names_made (next_task s.loop.parts)) values ≡ true
+      arguments_made : (it : Value) (values : List Value) → names_made (ids_of s) it ≡ true → as_list it ≡ Some values
+          → list_all (names_made (ids_of s)) values ≡ true
       arguments_made (Items items) values made e =
-          subst (λ l. list_all (names_made (next_task s.loop.parts)) l ≡ true)
+          subst (λ l. list_all (names_made (ids_of s)) l ≡ true)
           (ap (λ o. option_map_or (λ (l : List Value). l) o values) e)
-          (of_all (next_task s.loop.parts) (list_of items) ((made_closed (next_task s.loop.parts)).held items made))
+          (of_all (ids_of s) (list_of items) ((made_closed (ids_of s)).held items made))
       arguments_made _ values made e = absurd (none-some values e)
 
       items : (n : ℤ) (o : Option (List Value)) → as_list arguments ≡ o
@@ -293,10 +295,10 @@ module _ {S : Type 0} (added : Extra S) (allowed : MakesAllowedSteps added) (tas
 called_sound : {S : Type 0} (added : Extra S) (s : State S) (call : ExtraCall S) → IsCallAllowed added None call s → IsStateSound added s
     → IsStateSound added (called call s)
 called_sound added s call may sound =
-    let own = owns_at (added.keeps s.extra) s.loop.parts in
+    let own = owns_at (ids_of s) (added.keeps s.extra) s.loop.parts in
     let t = in_loop (made_by_all call.steps) s in
-    let a = all_after (next_task s.loop.parts) None own call.steps s.loop refl may.steps in
-    extra_replaced added None None t call.state may.kept (keys_act added call s may sound.keys)
+    let a = all_after None own call.steps s.loop may.steps in
+    extra_replaced added None None t call.state (called_kept added None call s may) (keys_act added call s may sound.keys)
     (nobody added s sound t (record { program = refl; generators = refl; streams = refl; extra = refl; scripts = futures_stay }) refl
     (over_as added s sound (made_by_all call.steps s.loop) a) a (all_sound None (told_in s.events) own call.steps s.loop may.steps sound.loop))
 

@@ -12,10 +12,10 @@ use Rattle.model_loop.specs.Futures.{is_pending, is_pending_at, settle}
 use Rattle.model_loop.specs.Groups.{group_of, new_group}
 use Rattle.model_loop.specs.Loop.{Group as GroupFields}
 use Rattle.model_loop.specs.Parts.{Future, Parts}
-use Rattle.model_loop.specs.Tasks.{finish, future_of, is_cancelled, must_cancel_of, lives, next_task, clear_must_cancel}
+use Rattle.model_loop.specs.Tasks.{finish, future_of, is_cancelled, must_cancel_of, lives, clear_must_cancel}
 use Rattle.model_loop.proofs.FutureCases.{settled, settled_as}
 use Rattle.model_machine.specs.Extra.{Extra}
-use Rattle.model_machine.specs.Sound.{IsStateSound, blocks_of, exchanges_of, names_made}
+use Rattle.model_machine.specs.Sound.{IsStateSound, blocks_of, exchanges_of, ids_of, names_made}
 use Rattle.model_machine.specs.State.{State, generator_of, unbooked_in}
 use Rattle.model_machine.specs.Step.{says_of}
 use Rattle.model_machine.specs.Told.{told_in}
@@ -34,6 +34,7 @@ use Rattle.law_replies.proofs.Answering.{left_before}
 use Rattle.law_replies.proofs.Blocks.{open_kept}
 use Rattle.law_replies.proofs.Counts.{lives_before, lives_within}
 use Rattle.law_replies.proofs.Given.{Made, said_made}
+use Rattle.law_replies.proofs.Ids.{loop_more}
 use Rattle.law_replies.proofs.Keeping.{apart_of, joined, open_of, with_open, tapes_blocks, futures_kept, loop_keeps, stays_stood, leaves_none}
 use Rattle.law_replies.proofs.Tapes.{past_default}
 use Rattle.law_replies.proofs.Table.{same_tapes}
@@ -83,14 +84,14 @@ module _ {S : Type 0} (added : Extra S) (task : ℕ) (s : State S) (step : IsSte
   pub raised_free : (fault : Exc) → says_of step_limit added task s ≡ Raises fault → HasNoOpenGroup task s
   raised_free fault says = no_group (none_raised fault says)
 
-  module _ (end : Result Value Exc) (good : ResultIn (names_made (next_task s.loop.parts)) end) (free : HasNoOpenGroup task s) where
+  module _ (end : Result Value Exc) (good : ResultIn (names_made (ids_of s)) end) (free : HasNoOpenGroup task s) where
     abbrev t : State S
     t = unbooked_in (finish task end) s
 
-    after : IsLoopAfter (names_made (next_task s.loop.parts)) false (Some task) None None None s.loop t.loop
+    after : IsLoopAfter (names_made (ids_of s)) false (Some task) None None None s.loop t.loop
     after =
-        parts_loop (names_made (next_task s.loop.parts)) refl false (Some task) None None None s.loop (finish task end s.loop.parts)
-        (finish_after (names_made (next_task s.loop.parts)) false (Some task) task end s.loop.parts good)
+        parts_loop (names_made (ids_of s)) refl false (Some task) None None None s.loop (finish task end s.loop.parts)
+        (finish_after (names_made (ids_of s)) false (Some task) task end s.loop.parts good)
 
     dead : lives t.loop.parts task ≡ true → ⊥
     dead l =
@@ -107,7 +108,7 @@ module _ {S : Type 0} (added : Extra S) (task : ℕ) (s : State S) (step : IsSte
         joined added t task
         (with_open added None (Some task) t
         (loop_keeps added s t (same_tapes s t.loop) (Some task) None (Some task) (Some task) after.parts (after.parts.same refl)
-        (finish_step_sound (told_in s.events) task end s.loop free step.others.loop) (λ other f. f) over
+        (loop_more s t (same_tapes s t.loop) after) (finish_step_sound (told_in s.events) task end s.loop free step.others.loop) (λ other f. f) over
         (stays_stood added s t (same_tapes s t.loop) (Some task) None (Some task) (Some task) _ _ None None None after (λ other id f e r. refl))
         (leaves_none added s t (same_tapes s t.loop) (Some task) None (Some task) (Some task) _ _ None None None after (λ id f. (refl, refl)))
         (futures_kept s t refl refl (λ id h. after.parts.plain id h) step.others.futures) (apart_of added (Some task) (Some task) s step.others))
@@ -118,7 +119,7 @@ module _ {S : Type 0} (added : Extra S) (task : ℕ) (s : State S) (step : IsSte
 
   pub returns_sound : (value : Value) → says_of step_limit added task s ≡ Returns value → IsStateSound added (unbooked_in (finish task (Ok value)) s)
   returns_sound value says =
-      ends (Ok value) (subst (InSaying (Made (next_task s.loop.parts))) says
+      ends (Ok value) (subst (InSaying (Made (ids_of s))) says
       (said_made added (Some task) (Some task) s (apart_of added (Some task) (Some task) s step.others) task)) (returned_free value says)
 
   pub raises_sound : (fault : Exc) → says_of step_limit added task s ≡ Raises fault → IsStateSound added (unbooked_in (finish task (Err fault)) s)

@@ -5,11 +5,10 @@ use Rattle.model_value.specs.declared.input.Input.TheVariants.{Throw}
 use Rattle.model_value.specs.declared.request.Request.TheVariants as request
 use Rattle.model_value.specs.Value.{Value, Exc}
 use Rattle.model_says.specs.Requests.{bad_argument}
-use Rattle.model_loop.specs.Tasks.{next_task}
 use Rattle.model_machine.specs.Arguments.{as_int, as_list}
 use Rattle.model_machine.specs.Extra.{NamesNothing, no_extra, unknown_code}
 use Rattle.model_machine.specs.Replies.{given, reply, serves, woken}
-use Rattle.model_machine.specs.Sound.{names_made}
+use Rattle.model_machine.specs.Sound.{ids_of, names_made}
 use Rattle.model_machine.specs.State.{Asked, Serving, State, resumed}
 use Rattle.law_turns.proofs.Loops.{refl_loop}
 use Rattle.law_replies.specs.Added.{KeepsSound}
@@ -41,7 +40,7 @@ wakes : (task key : ℕ) (code arguments : Value) (input : Input) (s : State (Un
     → IsAsked no_extra task (Serving key) (request.Extra code arguments) s → RepliesInStep no_extra true task (woken no_extra task key input s)
 wakes task key code arguments input s is =
     step_to no_extra task (Serving key) (request.Extra code arguments) s is s (same_tapes s s.loop) is.others.futures refl refl
-    (refl_loop (names_made (next_task s.loop.parts)) refl false (Some task) None None None s.loop) is.others.loop (λ id e. serving_leaves key id e)
+    (refl_loop (names_made (ids_of s)) refl false (Some task) None None None s.loop) is.others.loop (λ id e. serving_leaves key id e)
     true (Throw (unknown_code (pos key))) (λ b. refl) refl refl
 
 pub nothing_keeps : KeepsSound no_extra

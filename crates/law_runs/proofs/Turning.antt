@@ -28,7 +28,7 @@ use Rattle.model_machine.specs.Extra.{Extra}
 use Rattle.model_machine.specs.Mids.{mids, mids_below, mids_by, mids_fitted, mids_if, mids_unless, next_mids, then_mids}
 use Rattle.model_machine.specs.Outcomes.{finished_as}
 use Rattle.model_machine.specs.Outside.{actions_of, items_of, news_of, ready_actions, time_of}
-use Rattle.model_machine.specs.Sound.{IsStateSound, names_made}
+use Rattle.model_machine.specs.Sound.{Ids, IsStateSound, ids_of, names_made}
 use Rattle.model_machine.specs.State.{State, in_loop, noted, unbooked_in}
 use Rattle.model_machine.specs.Told.{told_by, told_in}
 use Rattle.model_machine.specs.Turn.{at_time, call_of, cancelled_if, finished_if, is_stalled, next_below, run_below, run_first, run_if, run_pending, turn}
@@ -63,7 +63,7 @@ told_got (event.Said task text ∷ events) answer group = told_got events answer
 told_got (event.Ran it ∷ events) answer group = ap (told_by group it) (told_got events answer group)
 
 -- ---- what came appends
-module _ (n : ℕ) where
+module _ (n : Ids) where
   one_more : (it : Action) (p : Parts) → is_main_done it ≡ false → IsAfter (names_made n) false None p (soon it p)
   one_more it p other = soon_after (names_made n) false None it p other
 
@@ -100,7 +100,7 @@ module _ {S : Type 0} (added : Extra S) where
   noted_in s entries call answer sound =
       nobody added s sound (noted (event.Got answer) (record (noted (event.Called call) s) { answers = entries }))
       (record { program = refl; generators = refl; streams = refl; extra = refl; scripts = futures_stay }) refl sound.main_over
-      (refl_loop (names_made (next_task s.loop.parts)) refl false None None None None s.loop)
+      (refl_loop (names_made (ids_of s)) refl false None None None None s.loop)
       (as_told None (told_in s.events) (told_in ((s.events ++ event.Called call ∷ []) ++ event.Got answer ∷ [])) s.loop
       (λ g. told_got (s.events ++ event.Called call ∷ []) answer g ∙ told_call s.events call g) sound.loop)
 
@@ -114,9 +114,9 @@ module _ {S : Type 0} (added : Extra S) where
           items_sound (told_in s.events) (items_of answer) (in_parts (at_time (time_of answer)) s.loop)
           (at_time_sound (told_in s.events) (time_of answer) s.loop sound.loop)
 
-      a : IsLoopAfter (names_made (next_task s.loop.parts)) false None None None None s.loop (in_parts (woken_by answer) s.loop)
+      a : IsLoopAfter (names_made (ids_of s)) false None None None None s.loop (in_parts (woken_by answer) s.loop)
       a =
-          let n = next_task s.loop.parts in
+          let n = ids_of s in
           let p = at_time (time_of answer) s.loop.parts in
           let q = soon_all (news_of answer) p in
           parts_loop (names_made n) refl false None None None None s.loop (woken_by answer s.loop.parts)
@@ -130,11 +130,11 @@ module _ {S : Type 0} (added : Extra S) where
       nobody added s sound (in_loop cancel_everything s) (record { program = refl; generators = refl; streams = refl; extra = refl; scripts = futures_stay }) refl
       (over_as added s sound (cancel_everything s.loop) all) all (end_of_run_sound None (told_in s.events) s.loop sound.loop)
     where
-      all : IsLoopAfter (names_made (next_task s.loop.parts)) false None None None None s.loop (cancel_everything s.loop)
+      all : IsLoopAfter (names_made (ids_of s)) false None None None None s.loop (cancel_everything s.loop)
       all =
-          book_loop (names_made (next_task s.loop.parts)) refl false None None None None
+          book_loop (names_made (ids_of s)) refl false None None None None
           (request_each ByEnd (range_with_len 0 (next_task s.loop.parts))) s.loop
-          (each_after (names_made (next_task s.loop.parts)) false None ByEnd (range_with_len 0 (next_task s.loop.parts)) s.loop.parts)
+          (each_after (names_made (ids_of s)) false None ByEnd (range_with_len 0 (next_task s.loop.parts)) s.loop.parts)
 
   -- ---- what a turn leaves: something that holds of a sound state, whether the run goes on from there or stops outside a step
   module _ (Left : Went S → Type 0) (goes : (now : State S) → IsStateSound added now → Left (Goes now))
@@ -156,7 +156,7 @@ module _ {S : Type 0} (added : Extra S) where
         asked : IsStateSound added (noted (event.Called (call_of added s)) s)
         asked =
             nobody added s sound (noted (event.Called (call_of added s)) s) (record { program = refl; generators = refl; streams = refl; extra = refl; scripts = futures_stay }) refl
-            sound.main_over (refl_loop (names_made (next_task s.loop.parts)) refl false None None None None s.loop)
+            sound.main_over (refl_loop (names_made (ids_of s)) refl false None None None None s.loop)
             (as_told None (told_in s.events) (told_in (s.events ++ event.Called (call_of added s) ∷ [])) s.loop
             (λ g. told_call s.events (call_of added s) g) sound.loop)
 

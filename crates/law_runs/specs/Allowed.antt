@@ -9,29 +9,31 @@ use Rattle.model_loop.specs.Loop.{Loop}
 use Rattle.model_loop.specs.Owning.{is_plain}
 use Rattle.model_loop.specs.Parts.{Parts}
 use Rattle.model_loop.specs.Sound.{IsSound}
-use Rattle.model_loop.specs.Tasks.{next_task}
 use Rattle.model_machine.specs.Extra as extra
 use Rattle.model_machine.specs.Extra.{Extra, ExtraAnswer, ExtraCall, ExtraSaid, ExtraStep, Keeping, MakesPlain, MakesMany, Settles, Releases, Registers}
 use Rattle.model_machine.specs.Extra.{CallsSoon, CallsLater, Revokes, Cancels, Uncancels, called, key_of, made_by, made_by_all}
-use Rattle.model_machine.specs.Sound.{AreKept, IsOwned, IsTagOwned, names_made, sends_made}
+use Rattle.model_machine.specs.Sound.{AreKept, Ids, IsOwned, IsTagOwned, ids_of, names_made, sends_made}
 use Rattle.model_machine.specs.State.{State}
 use Rattle.model_machine.specs.Told.{told_in}
 
--- where so many tasks were made, each that an outcome names was
-abbrev pub ends_made : ℕ → Outcome → Bool
-ends_made made (Returned value) = names_made made value
-ends_made made _ = true
+-- where so many were made, each that an outcome names was
+abbrev pub ends_made : Ids → Outcome → Bool
+ends_made ids (Returned value) = names_made ids value
+ends_made ids _ = true
 
 -- ---- what is its own
--- its futures and tags as a call begins, and the next numbers, from which on all are its own that the call makes
+-- Its futures and tags as a call begins, and the next numbers, from which on all are its own that the call makes; and what was made,
+-- of which it makes none.
 pub record Owns : Type 0 where
   pub futures : List ℕ
   pub tags : List ℕ
   pub next_future : ℕ
   pub next_tag : ℕ
+  pub ids : Ids
 
-abbrev pub owns_at : Keeping → Parts → Owns
-owns_at keeping p = record { futures = keeping.own; tags = keeping.tags; next_future = next_future p; next_tag = p.next_tag }
+abbrev pub owns_at : Ids → Keeping → Parts → Owns
+owns_at ids keeping p =
+    record { futures = keeping.own; tags = keeping.tags; next_future = next_future p; next_tag = p.next_tag; ids = ids }
 
 abbrev pub IsAmong : List ℕ → ℕ → Type 0
 IsAmong ids id = (place : ℕ) × (slice_get ids place ≡ Some id)
@@ -47,7 +49,7 @@ abbrev pub IsAllowed : Owns → ExtraStep → Loop → Type 0
 IsAllowed own MakesPlain l = Unit {0}
 IsAllowed own (MakesMany members) l = All (λ member. member < next_future l.parts) members
 IsAllowed own (Settles future outcome) l =
-    IsOwn own.futures own.next_future future × IsOwned l.parts future × (ends_made (next_task l.parts) outcome ≡ true)
+    IsOwn own.futures own.next_future future × IsOwned l.parts future × (ends_made own.ids outcome ≡ true)
 IsAllowed own (Releases future) l = IsOwn own.futures own.next_future future × (is_pending l.parts future ≡ false)
 IsAllowed own (Registers future key) l = future < next_future l.parts
 IsAllowed own (CallsSoon key) l = Unit {0}
@@ -62,27 +64,27 @@ AreAllowed own [] l = Unit {0}
 AreAllowed own (step ∷ steps) l = IsAllowed own step l × AreAllowed own steps (made_by step l)
 
 -- ---- what a call may rely on
--- The loop is sound; what is added keeps what was made; the futures of scripts are plain, and the tasks that outcomes name were made.
+-- The loop is sound; what is added keeps what was made; the futures of scripts are plain, and what outcomes name was made.
 pub record MayCall {S : Type 0} (added : Extra S) (running : Option ℕ) (s : State S) : Type 0 where
   pub loop : IsSound running (told_in s.events) s.loop
-  pub kept : AreKept (added.keeps s.extra) s.futures s.loop.parts
+  pub kept : AreKept (ids_of s) (added.keeps s.extra) s.futures s.loop.parts
   pub scripts : (place id : ℕ) → slice_get s.futures place ≡ Some id → is_plain s.loop.parts id ≡ true
   pub outcomes : (id : ℕ) (value : Value) → future_outcome s.loop.parts id ≡ Some (Returned value)
-      → names_made (next_task s.loop.parts) value ≡ true
+      → names_made (ids_of s) value ≡ true
 
 -- ---- what it may come to
 -- Its steps are allowed, and what it keeps then was made: of futures and tags as its own what was its own or is made by it. Keys stay
 -- known, but for the one that it is woken under.
 pub record IsCallAllowed {S : Type 0} (added : Extra S) (woken : Option ℕ) (call : ExtraCall S) (s : State S) : Type 0 where
-  pub steps : AreAllowed (owns_at (added.keeps s.extra) s.loop.parts) call.steps s.loop
-  pub kept : AreKept (added.keeps call.state) s.futures (made_by_all call.steps s.loop).parts
+  pub steps : AreAllowed (owns_at (ids_of s) (added.keeps s.extra) s.loop.parts) call.steps s.loop
+  pub kept : AreKept (ids_of s) (added.keeps call.state) s.futures (made_by_all call.steps s.loop).parts
   pub own : Each (IsOwn (added.keeps s.extra).own (next_future s.loop.parts)) (added.keeps call.state).own
   pub tags : Each (IsOwn (added.keeps s.extra).tags s.loop.parts.next_tag) (added.keeps call.state).tags
   pub keys : (key : ℕ) → (woken ≡ Some key → ⊥) → (added.keeps s.extra).has_key key ≡ true → (added.keeps call.state).has_key key ≡ true
 
--- an answer, in the state after the call: the tasks that its value names were made, and so was the future that it waits for
+-- an answer, in the state after the call: what its value names was made, and so was the future that it waits for
 abbrev pub IsAnswerAllowed : {S : Type 0} → ExtraAnswer → State S → Type 0
-IsAnswerAllowed (extra.Answers value) s = names_made (next_task s.loop.parts) value ≡ true
+IsAnswerAllowed (extra.Answers value) s = names_made (ids_of s) value ≡ true
 IsAnswerAllowed (extra.Raises fault) s = Unit {0}
 IsAnswerAllowed (extra.Waits on key) s = on < next_future s.loop.parts
 IsAnswerAllowed (extra.Asks code bytes key) s = Unit {0}
@@ -100,8 +102,8 @@ pub record IsSaidAllowed {S : Type 0} (added : Extra S) (woken : Option ℕ) (sa
 -- What is added makes allowed steps alone and gives allowed answers, and keeps what was made.
 pub record MakesAllowedSteps {S : Type 0} (added : Extra S) : Type 0 where
   pub ask : (task : ℕ) (code : ℤ) (arguments : List Value) (s : State S) → MayCall added (Some task) s
-      → list_all (names_made (next_task s.loop.parts)) arguments ≡ true → IsSaidAllowed added None (added.ask task code arguments s) s
+      → list_all (names_made (ids_of s)) arguments ≡ true → IsSaidAllowed added None (added.ask task code arguments s) s
   pub wake : (task key : ℕ) (input : Input) (s : State S) → MayCall added (Some task) s → (added.keeps s.extra).has_key key ≡ true
-      → sends_made (next_task s.loop.parts) input ≡ true → IsSaidAllowed added (Some key) (added.wake key input s) s
+      → sends_made (ids_of s) input ≡ true → IsSaidAllowed added (Some key) (added.wake key input s) s
   pub act : (key : ℕ) (s : State S) → MayCall added None s → IsCallAllowed added None (added.act key s) s
   pub item : (code : ℤ) (bytes : List ℕ) (s : State S) → MayCall added None s → IsCallAllowed added None (added.item code bytes s) s

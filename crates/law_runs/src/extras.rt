@@ -11,7 +11,7 @@ ghost use Rattle.model_loop.specs.Loop.{Loop};
 ghost use Rattle.model_loop.specs.Owning.{owner_of};
 ghost use Rattle.model_loop.specs.Sound.{IsSound};
 ghost use Rattle.model_machine.specs.Extra.{Extra, ExtraStep, Keeping, NamesNothing, MakesPlain, MakesMany, Settles, Registers, CallsSoon, CallsLater, Revokes, Cancels, Uncancels, made_by, made_by_all};
-ghost use Rattle.model_machine.specs.Sound.{AreKept, no_extra_as};
+ghost use Rattle.model_machine.specs.Sound.{AreKept, Ids, no_extra_as};
 ghost use Rattle.model_machine.specs.State.{start};
 ghost use Rattle.law_replies.specs.Added.{KeepsSound};
 ghost use Rattle.law_replies.specs.InStep.{IsRunSound};
@@ -51,9 +51,10 @@ pub fn each_step_keeps_the_loop_sound()
 /// What is kept stays right through allowed steps: what was made stays, futures keep their owners,
 /// and a tag names what it named.
 pub fn what_is_kept_stays_right()
-    ensures { (own : Owns) (keeping : Keeping) (futures : List ℕ) (steps : List ExtraStep)
-        (l : Loop) → AreAllowed own steps l → AreKept keeping futures l.parts
-        → AreKept keeping futures (made_by_all steps l).parts }
+    ensures { (own : Owns) (ids : Ids) (keeping : Keeping) (futures : List ℕ)
+        (steps : List ExtraStep) (l : Loop)
+        → AreAllowed own steps l → AreKept ids keeping futures l.parts
+        → AreKept ids keeping futures (made_by_all steps l).parts }
 {}
 
 /// So whatever is added keeps states sound where it makes allowed steps alone, and each state of

@@ -8,12 +8,12 @@ ghost use Rattle.model_says.specs.Endings.{Asks, Returns, Raises};
 ghost use Rattle.model_says.specs.Says.{step_limit};
 ghost use Rattle.model_wire.specs.declared.event.Event.TheVariants.{Ran};
 ghost use Rattle.model_loop.specs.Parts.{Handle};
-ghost use Rattle.model_loop.specs.Tasks.{begin_step, finish, lives, next_task};
+ghost use Rattle.model_loop.specs.Tasks.{begin_step, finish, lives};
 ghost use Rattle.model_loop.specs.Ways.{steps};
 ghost use Rattle.model_machine.specs.Extra.{Extra};
 ghost use Rattle.model_machine.specs.Outcomes.{woken_with};
 ghost use Rattle.model_machine.specs.Replies.{decides};
-ghost use Rattle.model_machine.specs.Sound.{IsStateSound, sends_made};
+ghost use Rattle.model_machine.specs.Sound.{IsStateSound, ids_of, sends_made};
 ghost use Rattle.model_machine.specs.State.{Asked, Serving, State, generator_of, noted, stands, unbooked_in};
 ghost use Rattle.model_machine.specs.Step.{given_up, says_of, serve, step};
 ghost use Rattle.law_turns.specs.Fits.{HasNoOpenGroup};
@@ -21,7 +21,7 @@ ghost use Rattle.law_turns.specs.Replied.{IsResumePoint};
 ghost use Rattle.law_replies.specs.Added.{KeepsSound};
 ghost use Rattle.law_replies.specs.InStep.{IsAsked, IsStepSound, LeavesStateSound, RepliesInStep};
 
-/// A step begins by a handle that steps its task, with an input that names tasks that were made.
+/// A step begins by a handle that steps its task, with an input that names what was made.
 /// The task lives, and stands as the loop needs it; the coroutine asks what it asked before; and
 /// what the input means is sound.
 pub fn a_step_begins_sound<S>()
@@ -50,7 +50,7 @@ pub fn a_step_begins_sound<S>()
         → (s : State S) (task : ℕ) (input : Input) (handle : Handle) (rest : List Handle)
         → s.loop.parts.pending ≡ handle ∷ rest → handle.dead ≡ false
         → steps task handle.action ≡ true → IsStateSound added s
-        → sends_made (next_task s.loop.parts) input ≡ true →
+        → sends_made (ids_of s) input ≡ true →
         let gone = noted (Ran handle.action) (unbooked_in (λ p. record p { pending = rest }) s) in
         let resume_point = (generator_of task s).resume_point in
         let begun = begin_step task input (given_up resume_point gone.loop.parts) in
@@ -58,7 +58,7 @@ pub fn a_step_begins_sound<S>()
         (decides added resume_point task begun.input (stands Asked task (unbooked_in
         (λ p. begun.parts) gone))) }
     ensures woken { (added : Extra S) (s : State S) (task : ℕ) → IsStateSound added s
-        → sends_made (next_task s.loop.parts) (woken_with s.loop.parts task) ≡ true }
+        → sends_made (ids_of s) (woken_with s.loop.parts task) ≡ true }
 {}
 
 /// A task that returns or raises is the parent of no group whose block is open, and its end leaves
@@ -78,7 +78,7 @@ pub fn a_step_keeps_it_sound<S>()
         → (s : State S) (task : ℕ) (input : Input) (handle : Handle) (rest : List Handle)
         → s.loop.parts.pending ≡ handle ∷ rest → handle.dead ≡ false
         → steps task handle.action ≡ true → IsStateSound added s
-        → sends_made (next_task s.loop.parts) input ≡ true
+        → sends_made (ids_of s) input ≡ true
         → LeavesStateSound added (step step_limit added task input
         (noted (Ran handle.action) (unbooked_in (λ p. record p { pending = rest }) s))) }
     ensures rest { (added : Extra S) → KeepsSound added

@@ -1,35 +1,33 @@
 -- Locks, events and queues make allowed steps alone, and what they keep stays right.
-use Rattle.std.proofs.Common.{◌≡◌, ℕ, ℤ, pos, negsuc, ◌+◌, ◌<◌, ◌≤◌, ◌⊎◌, inl, inr, Bool, true, false, List, [], ◌∷◌, ◌++◌, Option, Some, None, length, slice_get}
+use Rattle.std.proofs.Common.{◌≡◌, ℕ, ℤ, pos, negsuc, ◌+◌, ◌<◌, ◌≤◌, inl, inr, Bool, true, false, List, [], ◌∷◌, Option, Some, None, slice_get}
 use Rattle.std.proofs.Common.{refl, sym, ap, subst, ◌∙◌, arith, le_refl, length-append}
 use Rattle.std.specs.Prelude.{◌==◌, if◌then◌else◌}
-use Rattle.std.specs.List.{AllByRecursion as Each, list_all}
+use Rattle.std.specs.List.{AllByRecursion as Each}
 use Rattle.std.specs.Option.{option_map, option_map_or}
-use Rattle.std.proofs.lemmas.Bool.{and_parts}
 use Rattle.model_value.specs.Input.{Input}
-use Rattle.model_value.specs.Value.{Exc, Nothing, Outcome, Truth, Value}
+use Rattle.model_value.specs.Value.{Value}
 use Rattle.model_value.specs.declared.input.Input.TheVariants.{Send, Throw}
-use Rattle.model_value.specs.declared.outcome.Outcome.TheVariants.{Value as Returned}
 use Rattle.model_loop.specs.Futures.{next_future}
 use Rattle.model_loop.specs.Loop.{Loop}
 use Rattle.model_loop.specs.Owning.{owner_at}
 use Rattle.model_loop.specs.Parts.{Parts, Plain}
-use Rattle.model_loop.specs.Tasks.{next_task}
 use Rattle.model_says.specs.Operations.{out_of_range}
 use Rattle.model_says.specs.Requests.{bad_argument}
 use Rattle.model_machine.specs.Arguments.{as_int}
 use Rattle.model_machine.specs.Extra as extra
 use Rattle.model_machine.specs.Extra.{Answers, ExtraAnswer, ExtraCall, ExtraSaid, ExtraStep, MakesPlain, Raises, Settles, Waits, called, key_of, made_by}
 use Rattle.model_machine.specs.Extra.{made_by_all, unknown_code}
-use Rattle.model_machine.specs.Sound.{AreKept, IsNoneOf, IsOwned, names_made, sends_made}
+use Rattle.model_machine.specs.Sound.{AreKept, Ids, IsNoneOf, IsOwned, ids_of, names_made, sends_made}
 use Rattle.model_machine.specs.State.{State}
 use Rattle.model_reach.specs.Part.{can_draw, only_says, passes, place_of, refuses, stays}
 use Rattle.law_cancel.proofs.Lookups.{get-push_last}
 use Rattle.law_steps.proofs.CancelSound.{plain_within}
 use Rattle.law_runs.specs.Allowed.{AreAllowed, IsAllowed, IsAmong, IsAnswerAllowed, IsCallAllowed, IsKeyAllowed, IsOwn, IsSaidAllowed, MakesAllowedSteps, MayCall}
 use Rattle.law_runs.specs.Allowed.{Owns, ends_made, owns_at}
-use Rattle.law_runs.proofs.Called.{steps_keep}
+use Rattle.law_replies.proofs.Ids.{IsMore, names_up}
+use Rattle.law_runs.proofs.Called.{called_more, steps_keep}
 use Rattle.law_runs.proofs.Steps.{all_after}
-use Rattle.model_sync.specs.Synced.{Acquires, Awaits, Event, Gets, Lock, Puts, Queue, Synced, Waiting, is_place, next_key, sync_keeps, sync_part, waiting_at}
+use Rattle.model_sync.specs.Synced.{Acquires, Awaits, Gets, Puts, Synced, Waiting, is_place, next_key, sync_keeps, sync_part, waiting_at}
 use Rattle.model_sync.specs.Locks.{acquired}
 use Rattle.model_sync.specs.Events.{waited}
 use Rattle.model_sync.specs.Queues.{getting, putting}
@@ -37,7 +35,7 @@ use Rattle.model_sync.specs.Serving.{Acquire, Clear, Get, IsLocked, IsSet, Makes
 use Rattle.model_sync.specs.Serving.{bare, named, one, served, sync_means, two, wanted_of, woken}
 use Rattle.law_sync.proofs.Lists.{all_each, among_each, each_all, each_at, each_found, each_from}
 use Rattle.law_sync.proofs.Holding.{EventHolds, Holds, LockHolds, QueueHolds, WaitingHolds, holds_from, holds_on, own_holds, values_hold}
-use Rattle.law_sync.proofs.Comes.{AgainComes, AnswerHolds, Comes, FirstComes, GoesOn, OrNext, PutsHold, Wakes, WaitsOn, acquired_comes, getting_comes}
+use Rattle.law_sync.proofs.Comes.{AnswerHolds, Comes, GoesOn, OrNext, PutsHold, Wakes, WaitsOn, acquired_comes, getting_comes}
 use Rattle.law_sync.proofs.Comes.{putting_comes, served_comes, waited_comes}
 use Rattle.law_sync.proofs.Keys.{drawn_now, drawn_still, undrawn}
 
@@ -49,11 +47,8 @@ IsNone (Some it) = ⊥
 -- ---- what is its own stays so
 owned_on : (own : Owns) (step : ExtraStep) (l : Loop) (id : ℕ) → IsAllowed own step l → IsOwned l.parts id → IsOwned (made_by step l).parts id
 owned_on own step l id may o =
-    let a = (all_after (next_task l.parts) None own (step ∷ []) l refl (may, tt)).parts in
+    let a = (all_after None own (step ∷ []) l (may, tt)).parts in
     (let f = a.futures in let w = o.0 in omega (arith, f, w), a.owners id o.0 ∙ o.1)
-
-made_on : (own : Owns) (step : ExtraStep) (l : Loop) → IsAllowed own step l → next_task (made_by step l).parts ≡ next_task l.parts
-made_on own step l may = (all_after (next_task l.parts) None own (step ∷ []) l refl (may, tt)).parts.same refl
 
 -- ---- what values are put
 module _ (V : Value → Type 0) where
@@ -113,17 +108,17 @@ module _ (running : Option ℕ) (s : State Synced) (may : MayCall sync_means run
   abbrev p : Parts
   p = s.loop.parts
 
-  abbrev n : ℕ
-  n = next_task s.loop.parts
+  abbrev n : Ids
+  n = ids_of s
 
   abbrev own : Owns
-  own = owns_at (sync_keeps s.extra) s.loop.parts
+  own = owns_at (ids_of s) (sync_keeps s.extra) s.loop.parts
 
   abbrev Old : ℕ → Type 0
   Old id = IsAmong (sync_keeps s.extra).own id
 
   abbrev Made : Value → Type 0
-  Made value = names_made (next_task s.loop.parts) value ≡ true
+  Made value = names_made (ids_of s) value ≡ true
 
   pub holds : Holds Old Made s.extra
   holds =
@@ -156,7 +151,7 @@ module _ (running : Option ℕ) (s : State Synced) (may : MayCall sync_means run
       let ok : IsAllowed own (Settles future outcome) l = (
         inl wakes.0.0,
         owned future wakes.0.0,
-        ap (ends_made (next_task l.parts)) wakes.0.1,
+        ap (ends_made (ids_of s)) wakes.0.1,
       ) in
       (ok, wakes_allowed steps (made_by (Settles future outcome) l) wakes.1 (λ id old. owned_on own (Settles future outcome) l id ok (owned id old)))
   wakes_allowed (_ ∷ steps) l wakes owned = absurd wakes.0
@@ -174,9 +169,7 @@ module _ (running : Option ℕ) (s : State Synced) (may : MayCall sync_means run
       own = own_holds (IsOwned q) Made state (holds_on P (IsOwned q) Made owned state is);
       apart = own_holds (IsNoneOf s.futures) Made state (holds_on P (IsNoneOf s.futures) Made apart state is);
       tags = tt;
-      values =
-          ap (λ k. list_all (names_made k) (sync_keeps state).values) ((all_after n None own steps s.loop refl ok).parts.same refl)
-          ∙ each_all (names_made n) (sync_keeps state).values (values_hold P Made state is);
+      values = each_all (names_made n) (sync_keeps state).values (values_hold P Made state is);
     };
     own =
         own_holds (IsOwn (sync_keeps s.extra).own (next_future p)) Made state
@@ -194,11 +187,11 @@ module _ (running : Option ℕ) (s : State Synced) (may : MayCall sync_means run
   old_owned : (id : ℕ) → Old id → IsOwned p id
   old_owned id old = among_each (IsOwned p) (sync_keeps s.extra).own id may.kept.own old
 
-  answer_made : (answer : ExtraAnswer) (t : State Synced) → next_task t.loop.parts ≡ n → AnswerHolds Old Made answer → IsAnswerAllowed answer t
-  answer_made (Answers value) t same h = ap (λ k. names_made k value) same ∙ h
-  answer_made (Raises exception) t same h = tt
-  answer_made (Waits on key) t same h = absurd h
-  answer_made (extra.Asks code bytes key) t same h = absurd h
+  answer_made : (answer : ExtraAnswer) (t : State Synced) → IsMore n (ids_of t) → AnswerHolds Old Made answer → IsAnswerAllowed answer t
+  answer_made (Answers value) t more h = names_up n (ids_of t) more value h
+  answer_made (Raises exception) t more h = tt
+  answer_made (Waits on key) t more h = absurd h
+  answer_made (extra.Asks code bytes key) t more h = absurd h
 
   answer_none : (answer : ExtraAnswer) → AnswerHolds Old Made answer → IsNone (key_of answer)
   answer_none (Answers value) h = tt
@@ -212,14 +205,14 @@ module _ (running : Option ℕ) (s : State Synced) (may : MayCall sync_means run
     call = state_allowed woken said.call.steps said.call.state Old ok g.state
         (λ id old. among_each (IsOwned (made_by_all said.call.steps s.loop).parts) (sync_keeps s.extra).own id kept_on.own old) old_apart
         (λ id old. inl old) (let e = g.keys in omega (arith, e, more));
-    answer = answer_made said.answer (called said.call s) ((all_after n None own said.call.steps s.loop refl ok).parts.same refl) g.answer;
+    answer = answer_made said.answer (called said.call s) (called_more sync_means said.call s ok) g.answer;
     key = λ key e. absurd (subst IsNone e (answer_none said.answer g.answer));
   }
     where
       ok : AreAllowed own said.call.steps s.loop
       ok = wakes_allowed said.call.steps s.loop g.steps old_owned
 
-      kept_on : AreKept (sync_keeps s.extra) s.futures (made_by_all said.call.steps s.loop).parts
+      kept_on : AreKept (ids_of s) (sync_keeps s.extra) s.futures (made_by_all said.call.steps s.loop).parts
       kept_on = steps_keep own (sync_keeps s.extra) s.futures said.call.steps s.loop ok may.kept
 
   -- ---- one that waits
@@ -325,7 +318,7 @@ pub sync_allowed : MakesAllowedSteps sync_means
 sync_allowed = record {
   ask = λ task code arguments s may made.
       ask_allowed (Some task) s may code (wanted_of code arguments)
-      (wanted_puts (Made (Some task) s may) code arguments (all_each (names_made (next_task s.loop.parts)) arguments made));
+      (wanted_puts (Made (Some task) s may) code arguments (all_each (names_made (ids_of s)) arguments made));
   wake = λ task key input s may known made.
       wake_allowed (Some task) s may key known input made (waiting_at (place_of sync_part key) s.extra) refl;
   act = λ key s may. stays_allowed None s may None;

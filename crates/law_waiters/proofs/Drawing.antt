@@ -59,12 +59,12 @@ abbrev pub SaidRight : ExtraSaid Gathered → Loop → List Generator → Type 0
 SaidRight said l gs = CallRight said.call l gs × IsFreeFor said.answer said.call.state gs
 
 -- ---- lists
-append_old : (xs ys : List Drawn) (k : ℕ) → k < length xs → slice_get (xs ++ ys) k ≡ slice_get xs k
+pub append_old : (xs ys : List Drawn) (k : ℕ) → k < length xs → slice_get (xs ++ ys) k ≡ slice_get xs k
 append_old [] ys k h = absurd (omega (arith, h))
 append_old (x ∷ xs) ys zero h = refl
 append_old (x ∷ xs) ys (suc k) h = append_old xs ys k (omega (arith, h))
 
-append_new : (xs ys : List Drawn) (k : ℕ) → length xs ≤ k → slice_get (xs ++ ys) k ≡ slice_get ys (k - length xs)
+pub append_new : (xs ys : List Drawn) (k : ℕ) → length xs ≤ k → slice_get (xs ++ ys) k ≡ slice_get ys (k - length xs)
 append_new [] ys k h = let e : k ≡ k - 0 = omega arith in ap (slice_get ys) e
 append_new (x ∷ xs) ys zero h = absurd (omega (arith, h))
 append_new (x ∷ xs) ys (suc k) h =

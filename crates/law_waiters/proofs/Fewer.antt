@@ -32,10 +32,7 @@ use Rattle.law_changes.specs.Reaches.{Reaches}
 use Rattle.law_groups.proofs.Due.{due-entries, due-futures}
 use Rattle.law_groups.proofs.Entries.{entries-later, entries-revoke, entries-soon}
 use Rattle.law_kept.specs.Walks.{MayBeside, MayInLoop}
-
-abbrev pub is_key : ℕ → Action → Bool
-is_key key (action.Extra other) = other == key
-is_key key _ = false
+use Rattle.law_waiters.specs.Timed.{is_key}
 
 abbrev called_at : ℕ → Option Future → ℕ
 called_at key found = count_by (is_key key) (callbacks_at found)

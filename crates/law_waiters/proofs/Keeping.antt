@@ -27,10 +27,10 @@ use Rattle.model_gather.specs.Serving.{gather_means}
 use Rattle.law_changes.specs.Changes.{LeavesPending}
 use Rattle.law_kept.specs.Walks.{Beside, StoodAt, Walks, runs}
 use Rattle.law_waiters.specs.Reached.{first_parted}
-use Rattle.law_waiters.specs.Timed.{AsksOnce, IsStepOf, KeepsToKeys, WaitsAsPart, asked_of, is_by_key, took_of}
+use Rattle.law_waiters.specs.Timed.{AsksOnce, IsStepOf, KeepsToKeys, WaitsAsPart, asked_of, is_by_key, is_key, took_of}
 use Rattle.law_waiters.proofs.Books.{BooksNot, asks_of, row_same, takes_of}
 use Rattle.law_waiters.proofs.Drawing.{IsFreeFor, IsReady, KeepsRight, timed_at, timed_in}
-use Rattle.law_waiters.proofs.Fewer.{StepFor, change_fewer, is_key, row_fewer}
+use Rattle.law_waiters.proofs.Fewer.{StepFor, change_fewer, row_fewer}
 use Rattle.law_waiters.proofs.Right.{asked_in, goes_right, is_waiting, still_right, the_key, took_in}
 use Rattle.law_waiters.proofs.Timing.{acted_right, asked_right, woken_right}
 
@@ -46,7 +46,7 @@ only_first false true d e = absurd (cc)
 only_first false false true e = absurd (cc)
 only_first false false false e = absurd (cc)
 
-key_here : (key : ℕ) → part_of_key key ≡ OfGather → key ≡ the_key (place_of gather_part key)
+pub key_here : (key : ℕ) → part_of_key key ≡ OfGather → key ≡ the_key (place_of gather_part key)
 key_here key e =
     let z : key % 4 ≡ 0 = eqb-true (key % 4) 0 (only_first (key % 4 == 0) (key % 4 == 1) (key % 4 == 2) e) in
     omega (arith, z)

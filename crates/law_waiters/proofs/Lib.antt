@@ -1,13 +1,14 @@
 mod Shapes
-mod Fitting
+pub mod Fitting
 mod Going
 mod Reaching
-mod Running
+pub mod Running
 mod Fewer
 mod Timers
 mod Books
 mod Right
-mod Drawing
+pub mod Drawing
 mod Timing
-mod Keeping
-mod Counting
+pub mod Keeping
+pub mod Asking
+pub mod Counting

@@ -8,7 +8,8 @@ use Rattle.model_loop.specs.Entries.{entries, handles_where, timers_where}
 use Rattle.model_loop.specs.Handles.{later, revoke}
 use Rattle.model_loop.specs.Parts.{Handle, Parts, Timer}
 use Rattle.law_groups.proofs.Entries.{entries-later, entries-revoke, of_tag}
-use Rattle.law_waiters.proofs.Fewer.{Fewer, NoCallback, is_key}
+use Rattle.law_waiters.specs.Timed.{is_key}
+use Rattle.law_waiters.proofs.Fewer.{Fewer, NoCallback}
 
 abbrev pub any_of : ℕ → ℕ → Action → Bool
 any_of key tag it = is_key key it

@@ -2,6 +2,8 @@
 -- where its task went on after that.
 use Rattle.std.specs.Prelude.{◌≡◌, ◌==◌, ℕ, ℤ, Bool, true, false, List, Option, Some, slice_get}
 use Rattle.std.specs.List.{AllByRecursion as Each, count_by}
+use Rattle.model_value.specs.Action.{Action}
+use Rattle.model_value.specs.declared.action.Action.TheVariants as action
 use Rattle.model_value.specs.Input.{Input}
 use Rattle.model_value.specs.Value.{Value}
 use Rattle.model_loop.specs.Balance.{asks, takes}
@@ -17,6 +19,11 @@ use Rattle.model_gather.specs.Gathered.{Drawn, Expired, Expiring, Finished, Gath
 abbrev pub is_by_key : ℕ → Origin → Bool
 is_by_key key (ByExtra other) = other == key
 is_by_key key _ = false
+
+-- a handle of what is added, by its key
+abbrev pub is_key : ℕ → Action → Bool
+is_key key (action.Extra other) = other == key
+is_key key _ = false
 
 -- its time was over before its task went on, whether that has gone on since or not
 abbrev pub was_expiring : TimedState → Bool

@@ -1,5 +1,5 @@
 -- What each command may write, by what is seen of the outside before and after.
-use Rattle.std.specs.Prelude.{◌≡◌, ◌≢◌, ℕ, ◌≤◌, Bool, List, ◌++◌, Option, Some, None, Ok, Err, ◌⊎◌}
+use Rattle.std.specs.Prelude.{◌≡◌, ◌≢◌, ℕ, ◌+◌, ◌<◌, Bool, List, ◌++◌, Option, Some, None, Ok, Err, ◌⊎◌}
 use Rattle.model_tree.specs.Syntax.{Program}
 use Rattle.model_text.specs.Scripts.{script_of}
 use Rattle.model_text.specs.SecondPass.{Judged}
@@ -18,10 +18,12 @@ use Rattle.model_commands.specs.Recorded.{FailsRecording, recorded}
 use Rattle.model_commands.specs.Telling.{Between}
 use Rattle.model_commands.specs.Works.{MayWork}
 
--- What is known of the outside over a call of the program: what is seen of it before and after, that each call of the wire fails, how
--- much of a run it was told, by the file in which the run is recorded and by its events, and why a run that didn't fail ended so.
+-- What is known of the outside over a call of the program: what is seen of it before and after, that the wire is the same, that each
+-- call of it fails, how much of a run it was told, by the file in which the run is recorded and by its events, and why a run that
+-- didn't fail ended so.
 pub record Outside : Type 1 where
   pub seen : Between
+  pub same : Type 0
   pub fails : Type 0
   pub told : (file : Option (List ℕ)) → List Event → Type 0
   pub caused : End → Type 0
@@ -37,15 +39,16 @@ abbrev pub faulted : (trace : Bool) → (fault : End) → Run → ProgramOutput
 faulted trace fault it = output_of trace (record it { end = fault })
 
 -- The answers of a turn could not be recorded: of its entries the file has a front, and it failed. The lines of the turns before are
--- written, and the fault's. Entries that agree with what the wire told begin with these answers.
+-- written, and the fault's; those of this one turn are left out. Entries that agree with what the wire told begin with these answers.
 pub record StopsRecording (it : Between) (program : Program) (pace : Pace) (output : ProgramOutput) : Type 0 where
   pub had : List Entry
   pub told : (rest : List Entry) × Agrees it.before.left (had ++ rest)
   -- so many turns were made before it
   pub made : ℕ
-  pub fewer : made ≤ pace.turns
-  -- the events of it, and of those after it
+  pub fewer : made < pace.turns
+  -- the events of it alone, and of those after it
   pub turn : List Event
+  pub next : (run program had (made + 1)).events ≡ (run program had made).events ++ turn
   pub more : List Event
   pub events : (run program had pace.turns).events ≡ ((run program had made).events ++ turn) ++ more
   pub asked : Asks ((run program had made).events ++ turn) it.before it.after
@@ -67,18 +70,18 @@ MayRun it program pace output =
     × it.told pace.file (run program had pace.turns).events)
     ⊎ StopsRecording it.seen program pace output)
 
--- nothing was asked of the wire, and nothing is seen to have changed of the shelf
-abbrev pub IsUntouched : Between → Type 0
-IsUntouched it = (it.after ≡ it.before) × (it.new ≡ it.old)
+-- nothing was asked of the wire
+abbrev pub IsUnasked : Outside → Type 0
+IsUnasked it = it.same × (it.seen.after ≡ it.seen.before)
 
--- by what the text of the script spells
+-- by what the text of the script spells; of one that is refused nothing is seen to have changed of the shelf
 abbrev pub MayRunScript : Outside → Judged Program → Pace → ProgramOutput → Type 0
-MayRunScript it (Err fault) pace output = IsUntouched it.seen × (output ≡ script_refused fault)
+MayRunScript it (Err fault) pace output = IsUnasked it × (it.seen.new ≡ it.seen.old) × (output ≡ script_refused fault)
 MayRunScript it (Ok program) pace output = MayRun it program pace output
 
 abbrev pub MayRunOver : Outside → (script : List ℕ) → Pace → ProgramOutput → Type 0
 MayRunOver it script pace output =
-    (FileFailed script it.seen.old it.seen.new × (it.seen.new.file ≡ it.seen.old.file) × (it.seen.after ≡ it.seen.before) × (output ≡ script_failed))
+    (FileFailed script it.seen.old it.seen.new × (it.seen.new.file ≡ it.seen.old.file) × IsUnasked it × (output ≡ script_failed))
     ⊎ ((text : List ℕ) × FileSays (it.seen.old.file script) text × MayRunScript it (script_of text) pace output)
 
 -- what may be written for words
@@ -111,10 +114,20 @@ KeepsFiles (Some (Replay script journal trace turns)) old new = new.file ≡ old
 KeepsFiles (Some (RunIt script file trace turns)) old new = KeepsOthers file old new
 KeepsFiles (Some (Work seed)) old new = new.file ≡ old.file
 
--- which commands leave the wire as it is: all but a run
-abbrev pub KeepsWire : {W : Type 0} → Option Command → (old new : W) → Type 0
-KeepsWire None old new = new ≡ old
-KeepsWire (Some (Check script)) old new = new ≡ old
-KeepsWire (Some (Replay script journal trace turns)) old new = new ≡ old
-KeepsWire (Some (RunIt script file trace turns)) old new = Unit {0}
-KeepsWire (Some (Work seed)) old new = new ≡ old
+abbrev pub IsRefused : Judged Program → Type 0
+IsRefused (Ok program) = ⊥
+IsRefused (Err fault) = Unit {0}
+
+-- A shelf tells that there is no script in a file: it is missing, or its text is refused.
+abbrev pub HoldsNoScript : Option (Option (List ℕ)) → Type 0
+HoldsNoScript None = ⊥
+HoldsNoScript (Some None) = Unit {0}
+HoldsNoScript (Some (Some text)) = IsRefused (script_of text)
+
+-- which commands leave the wire as it is, by the files: all but a run of a script
+abbrev pub KeepsWire : {W : Type 0} → Option Command → ShelfSeen → (old new : W) → Type 0
+KeepsWire None files old new = new ≡ old
+KeepsWire (Some (Check script)) files old new = new ≡ old
+KeepsWire (Some (Replay script journal trace turns)) files old new = new ≡ old
+KeepsWire (Some (RunIt script file trace turns)) files old new = HoldsNoScript (files.file script) → new ≡ old
+KeepsWire (Some (Work seed)) files old new = new ≡ old

@@ -26,6 +26,7 @@ between old new = record { old = old.files; new = new.files; before = old.told; 
 abbrev pub whole : {F W : Type 0} → (old new : Moment F W) → Outside
 whole old new = record {
   seen = between old new;
+  same = new.wire ≡ old.wire;
   fails = old.fails;
   told = TellsAll (between old new);
   caused = IsCaused old.told new.told;
@@ -33,7 +34,13 @@ whole old new = record {
 
 -- Where the run was cut short it was told the first of it, and nothing is known of the end that it would have had.
 abbrev pub first : {F W : Type 0} → (old new : Moment F W) → (told : Between → (file : Option (List ℕ)) → List Event → Type 0) → Outside
-first old new told = record { seen = between old new; fails = old.fails; told = told (between old new); caused = λ end. Unit {0} }
+first old new told = record {
+  seen = between old new;
+  same = new.wire ≡ old.wire;
+  fails = old.fails;
+  told = told (between old new);
+  caused = λ end. Unit {0};
+}
 
 abbrev pub stopped : {F W : Type 0} → (old new : Moment F W) → Outside
 stopped old new = first old new TellsFirst
@@ -55,7 +62,7 @@ pub record Behaves {F W : Type 0} (given : List (List ℕ)) (old new : Moment F 
       → StopsShort (MayWrite (starved old new) (command_of given)) (IsUnbegun (starved old new) (command_of given)) old.sink new.sink
   -- Files change as the command says.
   pub files : KeepsFiles (command_of given) old.files new.files
-  -- The wire is asked by a run alone.
-  pub wire : KeepsWire (command_of given) old.wire new.wire
+  -- The wire is asked by a run of a script alone.
+  pub wire : KeepsWire (command_of given) old.files old.wire new.wire
   -- Words that are refused ask nothing of the shelf.
   pub words : command_of given ≡ None → new.shelf ≡ old.shelf

@@ -1,6 +1,6 @@
 -- What jobs beside the loop keep. Source: the library reference, "Coroutines and Tasks", `asyncio.to_thread`; `threads.py`;
 -- `base_events.py`, `run_in_executor`.
-use Rattle.std.specs.Prelude.{ℕ, ◌+◌, ◌==◌, Bool, List, [], ◌∷◌, ◌++◌, Option, Some, None}
+use Rattle.std.specs.Prelude.{ℕ, ◌+◌, ◌==◌, Bool, List, [], ◌∷◌, ◌++◌, Option}
 use Rattle.std.specs.List.{flat_map}
 use Rattle.std.specs.Map.{lookup, remove_entry, set_value}
 use Rattle.model_machine.specs.Extra.{ExtraAnswer, ExtraSaid, ExtraStep, Keeping}

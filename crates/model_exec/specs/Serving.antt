@@ -10,7 +10,7 @@ use Rattle.model_value.specs.declared.kind.Kind.TheVariants.{OSError, ValueError
 use Rattle.model_value.specs.declared.outcome.Outcome.TheVariants.{Value as Returned}
 use Rattle.model_says.specs.Requests.{bad_argument}
 use Rattle.model_machine.specs.Arguments.{as_bytes, as_int}
-use Rattle.model_machine.specs.Extra.{Extra, Answers, Asks, ExtraCall, ExtraSaid, MakesPlain, Raises, Settles, Waits, unknown_code}
+use Rattle.model_machine.specs.Extra.{Extra, Answers, Asks, ExtraAnswer, ExtraCall, ExtraSaid, MakesPlain, Raises, Settles, Waits, unknown_code}
 use Rattle.model_loop.specs.Futures.{next_future}
 use Rattle.model_loop.specs.Parts.{Parts}
 use Rattle.model_reach.specs.Part.{drawing, only_says, passes, place_of, refuses, stays}
@@ -71,13 +71,14 @@ answered key place (Send value) p kept =
 answered key place (Throw exception) p kept = says (stand_no_more place kept) [] (Raises exception)
 
 -- ---- the task goes on, with what the job came to
-abbrev pub came_as : Option (List ℕ) → Value → Value
-came_as (Some result) value = Bytes result
-came_as None value = value
+-- nothing but news of its job gives its future a value
+abbrev pub came_as : Option (List ℕ) → ExtraAnswer
+came_as (Some result) = Answers (Bytes result)
+came_as None = Raises strange_answer
 
 -- a job whose task is thrown an exception goes on
 abbrev pub waited : (place : ℕ) → Option (List ℕ) → Input → Execed → ExtraSaid Execed
-waited place came (Send value) kept = says (stand_no_more place kept) [] (Answers (came_as came value))
+waited place came (Send value) kept = says (stand_no_more place kept) [] (came_as came)
 waited place came (Throw exception) kept = says (stand_no_more place kept) [] (Raises exception)
 
 abbrev pub woken : Option Standing → (key place : ℕ) → Input → Parts → Execed → ExtraSaid Execed

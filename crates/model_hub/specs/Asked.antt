@@ -1,6 +1,6 @@
 -- What one call of a hub does, over what is seen of it: its answer and what it keeps are those of the definitions for what
 -- the others did, and what they did is what is seen of them.
-use Rattle.std.specs.Prelude.{◌≡◌, ℕ, ◌+◌, ◌-◌, ◌^◌, ◌<◌, Bool, true, false, List, [], ◌∷◌, ◌++◌, ◌⊎◌, Option, length, min}
+use Rattle.std.specs.Prelude.{◌≡◌, ℕ, ◌+◌, ◌-◌, ◌^◌, ◌<◌, Bool, true, false, List, [], ◌∷◌, ◌++◌, ◌⊎◌, Option, length, min, if◌then◌else◌}
 use Rattle.std.specs.List.{filter}
 use Rattle.model_wire.specs.Call.{Call, Answer}
 use Rattle.model_wire.specs.declared.answer.Answer.TheVariants as answer
@@ -23,7 +23,7 @@ use Rattle.model_hub.specs.Lanes.{serve}
 use Rattle.model_hub.specs.Gathering.{begin, are_taken}
 use Rattle.model_hub.specs.Select.{polled_watch, polled_wait}
 use Rattle.model_hub.specs.Calls.{ask, commands_to, most_children}
-use Rattle.model_hub.specs.Told.{PollerSeen, LauncherSeen, Launches, Kills, told_with, with_launch, with_kill}
+use Rattle.model_hub.specs.Told.{PollerSeen, LauncherSeen, Launches, Kills, told_with, with_launch, with_kill, is_socket}
 
 -- What is seen of a hub: what it keeps, how many of its takes found no post, what was given to each lane of a child and how
 -- many gives met a full one, its poller, its launcher, and how often it failed.
@@ -80,21 +80,11 @@ answers_of_net Memory = []
 abbrev pub polls_of : Call → Lanes → Hub → List Call
 polls_of (call.Select wait watched) lanes hub =
     call.Select (polled_wait watched (serve lanes watched hub) wait) (polled_watch watched) ∷ []
-polls_of (call.Feed child bytes) lanes hub = []
-polls_of (call.End child) lanes hub = []
-polls_of (call.Kill child) lanes hub = []
-polls_of (call.Launch words) lanes hub = []
-polls_of (call.Extra code bytes) lanes hub = []
-polls_of asks lanes hub = asks ∷ []
+polls_of asks lanes hub = if is_socket asks then asks ∷ [] else []
 
 abbrev pub answers_of : Call → Others → List Answer
 answers_of (call.Select wait watched) others = answers_of_poll others.polled
-answers_of (call.Feed child bytes) others = []
-answers_of (call.End child) others = []
-answers_of (call.Kill child) others = []
-answers_of (call.Launch words) others = []
-answers_of (call.Extra code bytes) others = []
-answers_of _ others = answers_of_net others.net
+answers_of asks others = if is_socket asks then answers_of_net others.net else []
 
 -- the poller's answer fits what it was asked, and it failed only where its count rose
 abbrev pub PollKeeps : List Watch → Polled → (faults faults_now : ℕ) → Type 0
@@ -109,12 +99,7 @@ NetKeeps asks Memory faults faults_now = Unit {0}
 
 abbrev pub HubKeeps : Call → Others → (faults faults_now : ℕ) → Type 0
 HubKeeps (call.Select wait watched) others faults faults_now = PollKeeps watched others.polled faults faults_now
-HubKeeps (call.Feed child bytes) others faults faults_now = Unit {0}
-HubKeeps (call.End child) others faults faults_now = Unit {0}
-HubKeeps (call.Kill child) others faults faults_now = Unit {0}
-HubKeeps (call.Launch words) others faults faults_now = Unit {0}
-HubKeeps (call.Extra code bytes) others faults faults_now = Unit {0}
-HubKeeps asks others faults faults_now = NetKeeps asks others.net faults faults_now
+HubKeeps asks others faults faults_now = is_socket asks ≡ true → NetKeeps asks others.net faults faults_now
 
 -- ---- the launcher
 abbrev pub kills_after : Call → Option Kills → Option Kills

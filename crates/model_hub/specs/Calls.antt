@@ -18,6 +18,7 @@ use Rattle.model_hub.specs.Others.{Lanes, OfClose, OfWrite, Launching, Started, 
 use Rattle.model_hub.specs.Lanes.{serve, serve_child, after_close, if_given, gos_to, closes_to}
 use Rattle.model_hub.specs.Gathering.{most_waiting}
 use Rattle.model_hub.specs.Select.{select}
+use Rattle.model_hub.specs.Told.{is_datagram}
 
 abbrev pub is_empty : List ℕ → Bool
 is_empty [] = true
@@ -105,7 +106,8 @@ answer_to (call.Feed child bytes) others hub = feed others.lanes child bytes hub
 answer_to (call.End child) others hub = end others.lanes child hub
 answer_to (call.Kill child) others hub = kill others.lanes hub
 answer_to (call.Launch words) others hub = launch others.lanes others.launching hub
-answer_to (call.Extra code bytes) others hub = extra others.lanes hub
+answer_to (call.Extra code bytes) others hub =
+    if is_datagram code then socket others.lanes others.net hub else extra others.lanes hub
 answer_to _ others hub = socket others.lanes others.net hub
 
 -- once memory was refused, it is refused for ever

@@ -1,5 +1,5 @@
 -- What contracts see of a poller and of a launcher. What is not told is `None`, and then nothing is promised of it.
-use Rattle.std.specs.Prelude.{ℕ, ◌+◌, ◌-◌, ◌^◌, Bool, true, false, List, ◌++◌, Option, Some, None, min}
+use Rattle.std.specs.Prelude.{ℕ, ◌+◌, ◌-◌, ◌^◌, ℤ, pos, negsuc, Bool, true, false, ◌&&◌, List, ◌++◌, Option, Some, None, min, nat_le}
 use Rattle.model_wire.specs.Call.{Call, Answer}
 use Rattle.model_wire.specs.declared.call.Call.TheVariants as call
 
@@ -43,7 +43,12 @@ abbrev pub with_kill : ℕ → Option Kills → Option Kills
 with_kill child None = None
 with_kill child (Some told) = Some (record { count = one_more told.count; child = child })
 
--- a call on a listener or a connection
+-- the codes of added requests on endpoints of datagrams: 400 opens one, 401 sends, 402 is what comes, 403 closes
+abbrev pub is_datagram : ℤ → Bool
+is_datagram (pos code) = nat_le 400 code && nat_le code 403
+is_datagram (negsuc before) = false
+
+-- a call on a listener, a connection or an endpoint of datagrams
 abbrev pub is_socket : Call → Bool
 is_socket (call.Select wait watched) = false
 is_socket (call.Listen port) = true
@@ -58,4 +63,4 @@ is_socket (call.CloseServer server) = true
 is_socket (call.End child) = false
 is_socket (call.Kill child) = false
 is_socket (call.Launch words) = false
-is_socket (call.Extra code bytes) = false
+is_socket (call.Extra code bytes) = is_datagram code

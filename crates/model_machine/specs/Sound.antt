@@ -11,7 +11,8 @@ use Rattle.model_value.specs.Action.{Action}
 use Rattle.model_value.specs.Equality.{equal}
 use Rattle.model_value.specs.Input.{Input}
 use Rattle.model_value.specs.Request.{Request}
-use Rattle.model_value.specs.Value.{Value, Values, no_values, value_then, Items, Task, Group, Timeout}
+use Rattle.model_value.specs.Value.{Value, Nothing, Truth, Int, Text, Bytes, Items, Fut, Task, Group, Timeout, Conn, Server, Child, Errs, Exception}
+use Rattle.model_value.specs.Value.{Values, no_values, value_then}
 use Rattle.model_says.specs.Blocks.{open_blocks}
 use Rattle.model_says.specs.Endings.{Asks, Exchange}
 use Rattle.model_says.specs.Says.{exchanges_along, step_limit}
@@ -19,13 +20,13 @@ use Rattle.model_wire.specs.declared.event.Handed.{Handed}
 use Rattle.model_wire.specs.declared.event.Handed.TheVariants as to
 use Rattle.model_loop.specs.Entries.{entries}
 use Rattle.model_loop.specs.Futures.{future_outcome, next_future}
-use Rattle.model_loop.specs.Groups.{group_of}
+use Rattle.model_loop.specs.Groups.{group_of, next_group}
 use Rattle.model_loop.specs.Loop.{Loop, TimeoutState, Active, Expiring}
 use Rattle.model_loop.specs.Owning.{is_main_done, is_plain, own_future, owner_of}
 use Rattle.model_loop.specs.Parts.{Future, Handle, Parts, Plain, Timer}
 use Rattle.model_loop.specs.Sound.{IsSound}
 use Rattle.model_loop.specs.Tasks.{future_of, lives, next_task}
-use Rattle.model_loop.specs.Timeouts.{timeout_of}
+use Rattle.model_loop.specs.Timeouts.{next_timeout, timeout_of}
 use Rattle.model_loop.specs.Totals.{callbacks_of, pending_where}
 use Rattle.model_loop.specs.Ways.{is_running}
 use Rattle.model_stream.specs.Kept.{StreamsKeep, times_kept}
@@ -168,27 +169,62 @@ pub record AreBlocksOpen {S : Type 0} (s : State S) : Type 0 where
   pub own : (task : ℕ) → AreBlocksOf s.loop task (blocks_of s task)
 
 -- ---- values
--- where so many tasks were made, each that a value names was
+-- How many of each kind were made. Each kind is numbered from 0; those of a child's standard error are the child's.
+pub record Ids : Type 0 where
+  pub tasks : ℕ
+  -- of `future()`
+  pub futures : ℕ
+  pub timeouts : ℕ
+  pub groups : ℕ
+  pub servers : ℕ
+  pub connections : ℕ
+  pub children : ℕ
+
+abbrev pub ids_of : {S : Type 0} → State S → Ids
+ids_of s =
+    record {
+      tasks = next_task s.loop.parts;
+      futures = length s.futures;
+      timeouts = next_timeout s.loop;
+      groups = next_group s.loop;
+      servers = length s.streams.servers;
+      connections = length s.streams.connections;
+      children = length s.streams.children;
+    }
+
+-- where so many were made, each that a value names was
 abbrev mutual
-  pub names_made : ℕ → Value → Bool
-  names_made made (Items items) = all_made made items
-  names_made made (Task id) = nat_lt id made
-  names_made made _ = true
+  pub names_made : Ids → Value → Bool
+  names_made ids Nothing = true
+  names_made ids (Truth truth) = true
+  names_made ids (Int number) = true
+  names_made ids (Text bytes) = true
+  names_made ids (Bytes bytes) = true
+  names_made ids (Items items) = all_made ids items
+  names_made ids (Fut id) = nat_lt id ids.futures
+  names_made ids (Task id) = nat_lt id ids.tasks
+  names_made ids (Group id) = nat_lt id ids.groups
+  names_made ids (Timeout id) = nat_lt id ids.timeouts
+  names_made ids (Conn id) = nat_lt id ids.connections
+  names_made ids (Server id) = nat_lt id ids.servers
+  names_made ids (Child id) = nat_lt id ids.children
+  names_made ids (Errs id) = nat_lt id ids.children
+  names_made ids (Exception exception) = true
 
-  pub all_made : ℕ → Values → Bool
-  all_made made no_values = true
-  all_made made (value_then value others) = names_made made value && all_made made others
+  pub all_made : Ids → Values → Bool
+  all_made ids no_values = true
+  all_made ids (value_then value others) = names_made ids value && all_made ids others
 
-abbrev pub sends_made : ℕ → Input → Bool
-sends_made made (Send value) = names_made made value
-sends_made made (Throw exception) = true
+abbrev pub sends_made : Ids → Input → Bool
+sends_made ids (Send value) = names_made ids value
+sends_made ids (Throw exception) = true
 
--- The tasks that arguments, tapes and outcomes name were made. So no script has one that wasn't.
-pub record AreTasksMade {S : Type 0} (s : State S) : Type 0 where
-  pub arguments : (task : ℕ) → list_all (names_made (next_task s.loop.parts)) (generator_of task s).arguments ≡ true
-  pub tape : (task : ℕ) → list_all (λ entry. sends_made (next_task s.loop.parts) entry.input) (generator_of task s).tape ≡ true
+-- Whatever arguments, tapes and outcomes name was made. So no script has a value that names what wasn't.
+pub record AreIdsMade {S : Type 0} (s : State S) : Type 0 where
+  pub arguments : (task : ℕ) → list_all (names_made (ids_of s)) (generator_of task s).arguments ≡ true
+  pub tape : (task : ℕ) → list_all (λ entry. sends_made (ids_of s) entry.input) (generator_of task s).tape ≡ true
   pub outcomes : (id : ℕ) (value : Value) → future_outcome s.loop.parts id ≡ Some (Returned value)
-      → names_made (next_task s.loop.parts) value ≡ true
+      → names_made (ids_of s) value ≡ true
 
 -- ---- futures of `future()`
 -- each is a plain one, which it alone names, and which no connection or child keeps
@@ -224,14 +260,14 @@ abbrev pub IsTagOwned : Parts → ℕ → Type 0
 IsTagOwned p tag = (tag < p.next_tag) × (entries (no_extra_as tag) p ≡ 0)
 
 -- What is added keeps what was made: futures that scripts may await, others of its own, which are no task's and no script's, and
--- tags of its own handles. `futures` are those of `future()`.
-pub record AreKept (keeping : Keeping) (futures : List ℕ) (p : Parts) : Type 0 where
+-- tags of its own handles; and what its values name was. `futures` are those of `future()`.
+pub record AreKept (ids : Ids) (keeping : Keeping) (futures : List ℕ) (p : Parts) : Type 0 where
   pub tasks : Each (λ task. task < next_task p) keeping.tasks
   pub awaitable : Each (IsAwaitable futures p) keeping.futures
   pub own : Each (IsOwned p) keeping.own
   pub apart : Each (IsNoneOf futures) keeping.own
   pub tags : Each (IsTagOwned p) keeping.tags
-  pub values : list_all (names_made (next_task p)) keeping.values ≡ true
+  pub values : list_all (names_made ids) keeping.values ≡ true
 
 -- the task stands at a request under this key
 abbrev pub StandsUnder : List Generator → (task key : ℕ) → Type 0
@@ -277,8 +313,8 @@ pub record IsSoundOver {S : Type 0} (Blocks : Type 0) (running excused : Option 
   pub streams : AreStreamsFutures s
   pub kept_once : AreKeptOnce s
   pub futures : AreScriptsFutures s
-  pub made : AreTasksMade s
-  pub kept : AreKept (added.keeps s.extra) s.futures s.loop.parts
+  pub made : AreIdsMade s
+  pub kept : AreKept (ids_of s) (added.keeps s.extra) s.futures s.loop.parts
   pub keys : AreKeysKept (added.keeps s.extra).has_key s.generators
 
 -- all of its blocks

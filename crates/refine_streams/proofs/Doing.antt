@@ -8,7 +8,6 @@ use Rattle.model_wire.specs.Fits.{fits}
 use Rattle.model_wire.specs.Journal.{Entry, Answered, Refused}
 use Rattle.model_wire.specs.Trace.{End}
 use Rattle.model_loop.specs.Futures.{next_future}
-use Rattle.model_loop.specs.Owning.{is_plain}
 use Rattle.model_machine.specs.Does.{changed, does}
 use Rattle.model_machine.specs.State.{State, noted, unbooked_in}
 use Rattle.model_machine.specs.Went.{answered_so, answers_in, fitted_so}
@@ -17,7 +16,7 @@ use Rattle.model_stream.specs.Streams.{Streams}
 use Rattle.aio_exchange.specs.Among.{told_by}
 use Rattle.aio_exchange.specs.Exchanged.{AllFit, entries_of}
 use Rattle.aio_exchange.specs.Ways.{Move, Did, Heard, Leads, had_on}
-use Rattle.law_cases.specs.TreeEnd.{IsStreamsEnd, IsTreeEnd}
+use Rattle.law_cases.specs.TreeEnd.{IsStreamsEnd, IsTreeEnd, owned_in as plain_in}
 use Rattle.law_cases.proofs.Ending.{tree_ends}
 use Rattle.law_cases.proofs.Replying.{end_keeps}
 use Rattle.law_cases.specs.Trees.{Keeping, KeepsStreams}
@@ -95,7 +94,7 @@ module _ {A S : Type 0} (Left : ℕ → A → Type 0) (s : State S) where
   Came (Some came) = IsTreeEnd s came.1 × Left (next_future came.1.loop.parts) came.0
 
   pub way_ends : (tree : Doing A) (way : List Move) (it : A) (left : List Entry)
-      → Keeping Left (is_plain s.loop.parts) (next_future s.loop.parts) tree → Leads tree way (Ends it) → AllFit (had_on way)
+      → Keeping Left (plain_in s) (next_future s.loop.parts) tree → Leads tree way (Ends it) → AllFit (had_on way)
       → s.answers ≡ entries_of (had_on way) ++ left
       → IsTreeEnd s (along way left s) × Left (next_future (along way left s).loop.parts) it
   way_ends tree way it left keeps h fit e =
@@ -103,9 +102,9 @@ module _ {A S : Type 0} (Left : ℕ → A → Type 0) (s : State S) where
       (tree_ends (λ how last. None) Came s (λ how last ended. tt) Left (λ a t. Some (a, t)) (λ a t ended l. (ended, l)) tree keeps)
 
 pub streams_end : {S : Type 0} (tree : Doing Streams) (way : List Move) (streams : Streams) (s : State S) (left : List Entry)
-    → Keeping (KeepsStreams (is_plain s.loop.parts) (next_future s.loop.parts) s.streams) (is_plain s.loop.parts) (next_future s.loop.parts) tree
+    → Keeping (KeepsStreams (plain_in s) (next_future s.loop.parts) s.streams) (plain_in s) (next_future s.loop.parts) tree
     → Leads tree way (Ends streams) → AllFit (had_on way) → s.answers ≡ entries_of (had_on way) ++ left
     → IsStreamsEnd s (along way left s) streams
 streams_end tree way streams s left keeps h fit e =
-    let it = way_ends (KeepsStreams (is_plain s.loop.parts) (next_future s.loop.parts) s.streams) s tree way streams left keeps h fit e in
+    let it = way_ends (KeepsStreams (plain_in s) (next_future s.loop.parts) s.streams) s tree way streams left keeps h fit e in
     end_keeps s (along way left s) streams it.0 it.1

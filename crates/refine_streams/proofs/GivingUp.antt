@@ -1,10 +1,10 @@
 -- A read that is resumed waits no more.
 use Rattle.std.proofs.Common.{◌≡◌, ℕ, Option, Some, ◌∙◌, sym, ap, subst}
 use Rattle.model_loop.specs.Futures.{next_future}
-use Rattle.model_loop.specs.Owning.{is_plain}
 use Rattle.model_stream.specs.Requests.{StreamReader, give_up_read}
 use Rattle.model_machine.specs.Replies.{waits_no_more}
 use Rattle.model_machine.specs.State.{State}
+use Rattle.law_cases.specs.TreeEnd.{owned_in as plain_in}
 use Rattle.law_cases.proofs.Asking.{gives_up, gives_up_own}
 use Rattle.aio_transports.specs.Standing.{Becomes}
 use Rattle.aio_extra.specs.Added.{Added}
@@ -24,8 +24,8 @@ gives_up_so {X} {a} out c old new s on from h becomes frame = record {
       (streams_change out c old new.transports s (give_up_read on from s.streams) h.stands (becomes s.streams h.stands.transports).0
       (λ sleeper id own.
       fewer_kept s.loop.parts (next_future s.loop.parts) s.streams (give_up_read on from s.streams)
-      (gives_up (is_plain s.loop.parts) (next_future s.loop.parts) on from s.streams h.streams).asked id own.plain));
-  streams = gives_up_own (is_plain s.loop.parts) on from s.streams h.streams;
+      (gives_up (plain_in s) (next_future s.loop.parts) on from s.streams h.streams).asked id own.plain));
+  streams = gives_up_own (plain_in s) on from s.streams h.streams;
   owns = h.owns;
 }
 

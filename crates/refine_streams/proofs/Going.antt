@@ -2,7 +2,6 @@
 -- is stood for, or ends the run there.
 use Rattle.std.proofs.Common.{◌≡◌, ℕ, ◌<◌, ◌⊎◌, true, List, [], ◌++◌, Option, Some, length, slice_get, Ok, Err, ◌∙◌, sym, ap, subst, inl, inr, arith}
 use Rattle.model_loop.specs.Futures.{is_pending_at, next_future}
-use Rattle.model_loop.specs.Owning.{is_plain}
 use Rattle.model_loop.specs.Suspend.{suspend}
 use Rattle.model_loop.specs.Tasks.{waiter_of}
 use Rattle.model_stream.specs.Doing.{Doing, Ends}
@@ -20,7 +19,7 @@ use Rattle.aio_exchange.specs.Follows.{Follows, Reach, reach}
 use Rattle.aio_exchange.specs.Tells.{Tells}
 use Rattle.aio_exchange.specs.Ways.{Leads, had_on}
 use Rattle.refine_parts.proofs.Telling.{next_kept, pending_kept}
-use Rattle.law_cases.specs.TreeEnd.{IsStreamsEnd, IsTreeEnd}
+use Rattle.law_cases.specs.TreeEnd.{IsStreamsEnd, IsTreeEnd, owned_in as plain_in}
 use Rattle.law_cases.proofs.Replying.{end_keeps}
 use Rattle.law_cases.specs.Trees.{IsMade, Keeping, KeepsStreams}
 use Rattle.aio_task.specs.View.{View}
@@ -102,8 +101,8 @@ module _ {X W A M R : Type 0} {a : Added X} (p : Piece a (State a.Kept) M R) (ca
   module _ (So : A → Type 0)
       (keeping : (s : State a.Kept) → AreStreamsFutures s
       → Keeping
-      (λ next it. KeepsStreams (is_plain s.loop.parts) (next_future s.loop.parts) s.streams next (ends it) × Made (next_future s.loop.parts) next it)
-      (is_plain s.loop.parts) (next_future s.loop.parts) (call.tree (next_future s.loop.parts) s.streams))
+      (λ next it. KeepsStreams (plain_in s) (next_future s.loop.parts) s.streams next (ends it) × Made (next_future s.loop.parts) next it)
+      (plain_in s) (next_future s.loop.parts) (call.tree (next_future s.loop.parts) s.streams))
       (frame : new ≡ record old { parts = new.parts; events = new.events; transports = new.transports })
       (next : State a.Kept → M) (Known : (first next : ℕ) → Type 0)
       (goes_on : (it : A) (t : State a.Kept) → So it → call.next it t ≡ next (with_streams (ends it) t))
@@ -140,11 +139,11 @@ module _ {X W A M R : Type 0} {a : Added X} (p : Piece a (State a.Kept) M R) (ca
             subst (λ n. Leads (call.tree n s.streams) it.way (Ends it.it)) (next_kept h.stands.name_map old.parts s.loop.parts h.stands.keeps) it.leads
 
         came : IsTreeEnd s t
-            × (KeepsStreams (is_plain s.loop.parts) (next_future s.loop.parts) s.streams (next_future t.loop.parts) (ends it.it)
+            × (KeepsStreams (plain_in s) (next_future s.loop.parts) s.streams (next_future t.loop.parts) (ends it.it)
             × Made (next_future s.loop.parts) (next_future t.loop.parts) it.it)
         came =
             way_ends
-            (λ next it. KeepsStreams (is_plain s.loop.parts) (next_future s.loop.parts) s.streams next (ends it) × Made (next_future s.loop.parts) next it)
+            (λ next it. KeepsStreams (plain_in s) (next_future s.loop.parts) s.streams next (ends it) × Made (next_future s.loop.parts) next it)
             s (call.tree (next_future s.loop.parts) s.streams) it.way it.it c.answers (keeping s h.streams) leads it.fit it.answers
 
         ended : IsStreamsEnd s t (ends it.it)

@@ -1,5 +1,5 @@
 -- What a tree of streams leaves of the loop's parts, and of the futures that streams keep.
-use Rattle.std.proofs.Common.{◌≡◌, ℕ, ◌+◌, ◌<◌, ◌≤◌, true, Some, None, refl, subst, arith}
+use Rattle.std.proofs.Common.{◌≡◌, ℕ, ◌+◌, ◌<◌, ◌≤◌, true, Some, None, length, refl, subst, arith}
 use Rattle.model_loop.specs.Futures.{next_future}
 use Rattle.model_loop.specs.Handles.{soon}
 use Rattle.model_loop.specs.Owning.{OwnsFutures, is_plain}
@@ -35,12 +35,12 @@ LeavesMade p q = AreOwnMade p → Leaves None p q × AreOwnMade q
 made_too : (p q : Parts) → Leaves None p q → AreOwnMade p → Leaves None p q × AreOwnMade q
 made_too p q leaves made = (leaves, own_made_on p q leaves made)
 
-change_leaves : (change : PartsChange) (p : Parts) → MayInTree change p → LeavesMade p (made_of_parts change p)
-change_leaves (CallsSoon it) p may made = made_too p (soon it p) (leaves_handles p (soon it p) refl refl refl) made
-change_leaves (MakesFuture kind) p may made = made_too p (made_of_parts (MakesFuture kind) p) (leaves_make kind p made) made
-change_leaves (Settles future outcome) p may made =
+change_leaves : (connections : ℕ) (change : PartsChange) (p : Parts) → MayInTree connections change p → LeavesMade p (made_of_parts change p)
+change_leaves connections (CallsSoon it) p may made = made_too p (soon it p) (leaves_handles p (soon it p) refl refl refl) made
+change_leaves connections (MakesFuture kind) p may made = made_too p (made_of_parts (MakesFuture kind) p) (leaves_make kind p made) made
+change_leaves connections (Settles future outcome) p may made =
     made_too p (made_of_parts (Settles future outcome) p) (leaves_settle future outcome p (plain_within p future may.0).0) made
-change_leaves _ p may made = absurd may
+change_leaves connections _ p may made = absurd may
 
 leaves_made_then : (p q r : Parts) → LeavesMade p q → LeavesMade q r → LeavesMade p r
 leaves_made_then p q r first second made =
@@ -50,7 +50,7 @@ leaves_made_then p q r first second made =
 
 pub tree_leaves : {S : Type 0} (s t : State S) → IsTreeEnd s t → OwnsFutures s.loop.parts → Leaves None s.loop.parts t.loop.parts
 tree_leaves s t it owns =
-    (fold LeavesMade (λ p made. (leaves_same p, made)) leaves_made_then change_leaves it.row (own_there s.loop.parts owns)).0
+    (fold LeavesMade (λ p made. (leaves_same p, made)) leaves_made_then (change_leaves (length s.streams.connections)) it.row (own_there s.loop.parts owns)).0
 
 -- that a task waits for a future that was made since is new to no sleep's own
 pub made_spares : (task on : ℕ) (p : Parts) (named : ℕ → Type 0) → next_future p ≤ on → Spares (Some (task, on)) p named

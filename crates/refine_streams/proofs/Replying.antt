@@ -2,7 +2,6 @@
 use Rattle.std.proofs.Common.{◌≡◌, ℕ, ◌<◌, List, Some, length, Ok, Err, ap, sym, subst}
 use Rattle.model_value.specs.Value.{Exc, Value}
 use Rattle.model_loop.specs.Futures.{next_future}
-use Rattle.model_loop.specs.Owning.{is_plain}
 use Rattle.model_stream.specs.Doing.{Doing}
 use Rattle.model_stream.specs.Streams.{Streams}
 use Rattle.model_machine.specs.Replies as plain
@@ -17,6 +16,7 @@ use Rattle.aio_wire.specs.declared.stop.Stop.TheVariants as stop
 use Rattle.aio_exchange.specs.Exchanged.{Exchange}
 use Rattle.aio_exchange.specs.Follows.{reach}
 use Rattle.law_reach.specs.Reaches.{left_by}
+use Rattle.law_cases.specs.TreeEnd.{owned_in as plain_in}
 use Rattle.law_cases.specs.Trees.{AnswersStreams, IsMade, Keeping, KeepsStreams}
 use Rattle.aio_task.specs.Keeps.{NameMap}
 use Rattle.aio_task.specs.View.{View}
@@ -113,7 +113,7 @@ module _ {X W : Type 0} {a : Added X} (o : Outside W) (task : ℕ) (old new last
       pub asked_goes : (call : Answers o (tree (length old.parts.futures)) old.transports new.transports (reach old.parts wire old.events)
           (reach new.parts after new.events) (Ok it))
           → ((s : State a.Kept) → AreStreamsFutures s
-          → Keeping (AnswersStreams Waits (is_plain s.loop.parts) (next_future s.loop.parts) s.streams) (is_plain s.loop.parts) (next_future s.loop.parts)
+          → Keeping (AnswersStreams Waits (plain_in s) (next_future s.loop.parts) s.streams) (plain_in s) (next_future s.loop.parts)
           (tree (next_future s.loop.parts) s.streams))
           → new ≡ record old { parts = new.parts; events = new.events; transports = new.transports }
           → (had : List Exchange) × HasCome o replying.from had (ported wire old.events) (ported after new.events)
@@ -137,7 +137,7 @@ module _ {X W : Type 0} {a : Added X} (o : Outside W) (task : ℕ) (old new last
         → Changes o (tree (length old.parts.futures)) old.transports new.transports (reach old.parts wire old.events)
         (reach new.parts after new.events) (Ok it)
         → ((s : State a.Kept) → AreStreamsFutures s
-        → Keeping (KeepsStreams (is_plain s.loop.parts) (next_future s.loop.parts) s.streams) (is_plain s.loop.parts) (next_future s.loop.parts)
+        → Keeping (KeepsStreams (plain_in s) (next_future s.loop.parts) s.streams) (plain_in s) (next_future s.loop.parts)
         (tree (next_future s.loop.parts) s.streams))
         → new ≡ record old { parts = new.parts; events = new.events; transports = new.transports }
         → (had : List Exchange) × HasCome o replying.from had (ported wire old.events) (ported after new.events)

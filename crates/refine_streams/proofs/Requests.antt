@@ -2,7 +2,6 @@
 -- code. `may` says where it may be made, and `means` that the machine does its tree there.
 use Rattle.std.proofs.Common.{◌≡◌, ℕ, Bool, List, Option, Some, None, length, Result, Ok, Err, refl, ap, subst}
 use Rattle.model_loop.specs.Futures.{next_future}
-use Rattle.model_loop.specs.Owning.{is_plain}
 use Rattle.model_stream.specs.Doing.{Doing}
 use Rattle.model_stream.specs.Streams.{Streams}
 use Rattle.model_machine.specs.Does.{does}
@@ -14,7 +13,8 @@ use Rattle.aio_wire.specs.declared.stop.Stop.{Stop}
 use Rattle.aio_exchange.specs.Exchanged.{Exchange}
 use Rattle.aio_exchange.specs.Follows.{reach}
 use Rattle.aio_exchange.proofs.Telling.{tells_follow}
-use Rattle.law_cases.specs.Trees.{AnswersStreams, ConnectWaits, ConnectsStreams, IsMade, Keeping, KeepsStreams}
+use Rattle.law_cases.specs.TreeEnd.{owned_in as plain_in}
+use Rattle.law_cases.specs.Trees.{AnswersStreams, ConnectWaits, ConnectsStreams, IsMade, Keeping, KeepsStreams, Owned}
 use Rattle.law_cases.proofs.Composing.{keeping_more}
 use Rattle.aio_task.specs.View.{View}
 use Rattle.aio_change.specs.Seen.{seen_changed}
@@ -75,7 +75,7 @@ module _ {X W M Q : Type 0} {a : Added X} (o : Outside W) (p : Piece a (State a.
 
     pub do_goes : (Waits : (ℕ → Type 0) → R → Type 0) (said : R) (says : Says (Ok said))
         → ((s : State a.Kept) → AreStreamsFutures s
-        → Keeping (AnswersStreams Waits (is_plain s.loop.parts) (next_future s.loop.parts) s.streams) (is_plain s.loop.parts) (next_future s.loop.parts)
+        → Keeping (AnswersStreams Waits (plain_in s) (next_future s.loop.parts) s.streams) (plain_in s) (next_future s.loop.parts)
         (tree (next_future s.loop.parts) s.streams))
         → new ≡ record old { parts = new.parts; events = new.events; transports = new.transports }
         → (had : List Exchange) × HasCome o p.from had (ported wire old.events) (ported after new.events)
@@ -107,7 +107,7 @@ module _ {X W M Q : Type 0} {a : Added X} (o : Outside W) (p : Piece a (State a.
 
     pub change_goes : {R : Type 0} (said : R) (says : Leaves (Ok said))
         → ((s : State a.Kept) → AreStreamsFutures s
-        → Keeping (KeepsStreams (is_plain s.loop.parts) (next_future s.loop.parts) s.streams) (is_plain s.loop.parts) (next_future s.loop.parts)
+        → Keeping (KeepsStreams (plain_in s) (next_future s.loop.parts) s.streams) (plain_in s) (next_future s.loop.parts)
         (tree (next_future s.loop.parts) s.streams))
         → new ≡ record old { parts = new.parts; events = new.events; transports = new.transports }
         → (had : List Exchange) × HasCome o p.from had (ported wire old.events) (ported after new.events)
@@ -116,8 +116,8 @@ module _ {X W M Q : Type 0} {a : Added X} (o : Outside W) (p : Piece a (State a.
         call_passes p changing out old new wire after (λ streams. streams) (λ first now streams. Unit {0}) may means has
         (λ streams. Unit {0})
         (λ s kept.
-        keeping_more (is_plain s.loop.parts) (KeepsStreams (is_plain s.loop.parts) (next_future s.loop.parts) s.streams)
-        (λ now streams. KeepsStreams (is_plain s.loop.parts) (next_future s.loop.parts) s.streams now streams × Unit {0})
+        keeping_more (plain_in s) (KeepsStreams (plain_in s) (next_future s.loop.parts) s.streams)
+        (λ now streams. KeepsStreams (plain_in s) (next_future s.loop.parts) s.streams now streams × Unit {0})
         (λ now streams keeps. (keeps, tt)) (next_future s.loop.parts) (tree (next_future s.loop.parts) s.streams) (keeping s kept))
         frame next (λ first now. Unit {0}) (λ streams t so. refl) (λ first now streams so made. tt)
         o (λ s stood. let it = says s stood in (it.0, (it.1.0, (it.1.1.0, tt))))
@@ -133,7 +133,7 @@ module _ {X M Q : Type 0} {a : Added X} (p : Piece a (State a.Kept) M Q) (out : 
       → (Waits : (ℕ → Type 0) → R → Type 0) (said : R)
       → ToldWith (tree (length old.parts.futures)) old.transports new.transports old.parts new.parts said
       → ((s : State a.Kept) → AreStreamsFutures s
-      → Keeping (AnswersStreams Waits (is_plain s.loop.parts) (next_future s.loop.parts) s.streams) (is_plain s.loop.parts) (next_future s.loop.parts)
+      → Keeping (AnswersStreams Waits (plain_in s) (next_future s.loop.parts) s.streams) (plain_in s) (next_future s.loop.parts)
       (tree (next_future s.loop.parts) s.streams))
       → (c : Context a) (s : State a.Kept) → p.from c s
       → HasGone out (λ first now. Waits (IsMade first now) said) (p.does s) (next said) c old new s
@@ -149,21 +149,21 @@ module _ {X M Q : Type 0} {a : Added X} (p : Piece a (State a.Kept) M Q) (out : 
       → p.does s ≡ does p.ends (tree (next_future s.loop.parts) s.streams) (λ streams now. next (with_streams streams now)) s)
       → Told (tree (length old.parts.futures)) old.transports new.transports old.parts new.parts
       → ((s : State a.Kept) → AreStreamsFutures s
-      → Keeping (KeepsStreams (is_plain s.loop.parts) (next_future s.loop.parts) s.streams) (is_plain s.loop.parts) (next_future s.loop.parts)
+      → Keeping (KeepsStreams (plain_in s) (next_future s.loop.parts) s.streams) (plain_in s) (next_future s.loop.parts)
       (tree (next_future s.loop.parts) s.streams))
       → (c : Context a) (s : State a.Kept) → p.from c s → HasGone out (λ first now. Unit {0}) (p.does s) next c old new s
   change_tells tree next means told keeping =
       call_tells {W = Unit {0}} p (record { tree = tree; next = λ streams now. next (with_streams streams now) }) out old new tt tt (λ streams. streams)
       (λ first now streams. Unit {0}) may means has (λ streams. Unit {0})
       (λ s kept.
-      keeping_more (is_plain s.loop.parts) (KeepsStreams (is_plain s.loop.parts) (next_future s.loop.parts) s.streams)
-      (λ now streams. KeepsStreams (is_plain s.loop.parts) (next_future s.loop.parts) s.streams now streams × Unit {0})
+      keeping_more (plain_in s) (KeepsStreams (plain_in s) (next_future s.loop.parts) s.streams)
+      (λ now streams. KeepsStreams (plain_in s) (next_future s.loop.parts) s.streams now streams × Unit {0})
       (λ now streams keeps. (keeps, tt)) (next_future s.loop.parts) (tree (next_future s.loop.parts) s.streams) (keeping s kept))
       frame next (λ first now. Unit {0}) (λ streams t so. refl) (λ first now streams so made. tt)
       (λ s stood. let it = told s stood in (it.0, (it.1.0, (it.1.1.0, tt)))) events
 
 -- ---- a connect
-pub begun_waits : (own : ℕ → Bool) (first next : ℕ) (before : Streams) (tree : Doing (Streams × Option (ℕ × ℕ)))
+pub begun_waits : (own : Owned) (first next : ℕ) (before : Streams) (tree : Doing (Streams × Option (ℕ × ℕ)))
     → Keeping (ConnectsStreams own first before) own next tree → Keeping (AnswersStreams BegunWaits own first before) own next tree
 begun_waits own first next before tree =
     keeping_more own (ConnectsStreams own first before) (AnswersStreams BegunWaits own first before) (λ now done h. (h.0, at now done.0 done.1 h.1))

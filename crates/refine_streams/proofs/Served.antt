@@ -4,7 +4,6 @@ use Rattle.std.proofs.Common.{◌≡◌, ℕ, ◌<◌, true, List, Some, None, l
 use Rattle.model_value.specs.Request.{Request}
 use Rattle.model_value.specs.Value.{Exc, Value}
 use Rattle.model_loop.specs.Futures.{is_pending_at, next_future}
-use Rattle.model_loop.specs.Owning.{is_plain}
 use Rattle.model_stream.specs.Doing.{Doing}
 use Rattle.model_stream.specs.Streams.{Streams}
 use Rattle.model_machine.specs.Replies as plain
@@ -19,6 +18,7 @@ use Rattle.aio_wire.specs.declared.stop.Stop.TheVariants as stop
 use Rattle.aio_exchange.specs.Exchanged.{Exchange}
 use Rattle.aio_exchange.specs.Follows.{reach}
 use Rattle.law_reach.specs.Reaches.{left_by}
+use Rattle.law_cases.specs.TreeEnd.{owned_in as plain_in}
 use Rattle.law_cases.specs.Trees.{AnswersStreams, IsMade, Keeping, KeepsStreams}
 use Rattle.aio_task.specs.Keeps.{NameMap}
 use Rattle.aio_task.specs.View.{View}
@@ -82,7 +82,7 @@ module _ {X : Type 0} {a : Added X} (task : ℕ) (request : Request) (old : RunS
           (call : Answers o (tree (length old.parts.futures)) old.transports new.transports (reach old.parts wire old.events)
           (reach new.parts after new.events) (Ok it))
           (keeping : (s : State a.Kept) → AreStreamsFutures s
-          → Keeping (AnswersStreams Waits (is_plain s.loop.parts) (next_future s.loop.parts) s.streams) (is_plain s.loop.parts) (next_future s.loop.parts)
+          → Keeping (AnswersStreams Waits (plain_in s) (next_future s.loop.parts) s.streams) (plain_in s) (next_future s.loop.parts)
           (tree (next_future s.loop.parts) s.streams))
           (frame : new ≡ record old { parts = new.parts; events = new.events; transports = new.transports }) where
         abbrev Known : (first now : ℕ) → Type 0
@@ -138,7 +138,7 @@ module _ {X : Type 0} {a : Added X} (task : ℕ) (request : Request) (old : RunS
           → Changes o (tree (length old.parts.futures)) old.transports new.transports (reach old.parts wire old.events)
           (reach new.parts after new.events) (Ok it)
           → ((s : State a.Kept) → AreStreamsFutures s
-          → Keeping (KeepsStreams (is_plain s.loop.parts) (next_future s.loop.parts) s.streams) (is_plain s.loop.parts) (next_future s.loop.parts)
+          → Keeping (KeepsStreams (plain_in s) (next_future s.loop.parts) s.streams) (plain_in s) (next_future s.loop.parts)
           (tree (next_future s.loop.parts) s.streams))
           → new ≡ record old { parts = new.parts; events = new.events; transports = new.transports }
           → (value : Value) → ((t : State a.Kept) → next t ≡ plain.Answers value t)
@@ -157,7 +157,7 @@ module _ {X : Type 0} {a : Added X} (task : ℕ) (request : Request) (old : RunS
       (Waits : (ℕ → Type 0) → R → Type 0) (it : R)
       (told : ToldWith (tree (length old.parts.futures)) old.transports new.transports old.parts new.parts it)
       (keeping : (s : State a.Kept) → AreStreamsFutures s
-      → Keeping (AnswersStreams Waits (is_plain s.loop.parts) (next_future s.loop.parts) s.streams) (is_plain s.loop.parts) (next_future s.loop.parts)
+      → Keeping (AnswersStreams Waits (plain_in s) (next_future s.loop.parts) s.streams) (plain_in s) (next_future s.loop.parts)
       (tree (next_future s.loop.parts) s.streams)) where
     abbrev Begins : Context a → State a.Kept → Type 0
     Begins = λ c s. IsAskingFor task request c old s

@@ -4,7 +4,6 @@ use Rattle.std.proofs.Common.{◌≡◌, ℕ, ◌<◌, true, Some, length, slice
 use Rattle.std.proofs.Math.Logic.{∥∥₁_elim}
 use Rattle.model_value.specs.Value.{Exc, Value}
 use Rattle.model_loop.specs.Futures.{is_pending_at, next_future}
-use Rattle.model_loop.specs.Owning.{is_plain}
 use Rattle.model_loop.specs.Parts.{Parts}
 use Rattle.model_stream.specs.Doing.{Doing}
 use Rattle.model_stream.specs.Streams.{Streams}
@@ -13,6 +12,7 @@ use Rattle.model_machine.specs.Replies.{streams_change, streams_do, waits}
 use Rattle.model_machine.specs.Sound.{AreStreamsFutures}
 use Rattle.model_machine.specs.State as state
 use Rattle.model_machine.specs.State.{State, stands}
+use Rattle.law_cases.specs.TreeEnd.{owned_in as plain_in}
 use Rattle.law_cases.specs.Trees.{AnswersStreams, IsMade, Keeping, KeepsStreams}
 use Rattle.aio_task.specs.Keeps.{NameMap}
 use Rattle.aio_task.specs.View.{View}
@@ -49,7 +49,7 @@ module _ {X : Type 0} {a : Added X} (task : ℕ) (old new : RunState X) (from : 
       (Waits : (ℕ → Type 0) → R → Type 0) (it : R)
       (told : ToldWith (tree (length old.parts.futures)) old.transports new.transports old.parts new.parts it)
       (keeping : (s : State a.Kept) → AreStreamsFutures s
-      → Keeping (AnswersStreams Waits (is_plain s.loop.parts) (next_future s.loop.parts) s.streams) (is_plain s.loop.parts) (next_future s.loop.parts)
+      → Keeping (AnswersStreams Waits (plain_in s) (next_future s.loop.parts) s.streams) (plain_in s) (next_future s.loop.parts)
       (tree (next_future s.loop.parts) s.streams)) where
     abbrev Known : (first now : ℕ) → Type 0
     Known = λ first now. Waits (IsMade first now) it
@@ -109,7 +109,7 @@ module _ {X : Type 0} {a : Added X} (task : ℕ) (old new : RunState X) (from : 
       (means : (c : Context a) (s : State a.Kept) → from c s → makes s ≡ streams_change (tree (next_future s.loop.parts) s.streams) next s)
       (told : Told (tree (length old.parts.futures)) old.transports new.transports old.parts new.parts)
       (keeping : (s : State a.Kept) → AreStreamsFutures s
-      → Keeping (KeepsStreams (is_plain s.loop.parts) (next_future s.loop.parts) s.streams) (is_plain s.loop.parts) (next_future s.loop.parts)
+      → Keeping (KeepsStreams (plain_in s) (next_future s.loop.parts) s.streams) (plain_in s) (next_future s.loop.parts)
       (tree (next_future s.loop.parts) s.streams)) where
     pub changes_gone : (c : Context a) (s : State a.Kept) → from c s → HasGone (Some task) (λ first now. Unit {0}) (makes s) next c old new s
     changes_gone = change_tells telling (Some task) old new may has events frame tree next means told keeping

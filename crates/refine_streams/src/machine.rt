@@ -7,7 +7,6 @@ ghost use Rattle.model_wire.specs.Fits.{fits};
 ghost use Rattle.model_wire.specs.Journal.{Entry, Answered, Refused};
 ghost use Rattle.model_wire.specs.Trace.{End as HowItEnds};
 ghost use Rattle.model_loop.specs.Futures.{next_future};
-ghost use Rattle.model_loop.specs.Owning.{is_plain};
 ghost use Rattle.model_stream.specs.Doing.{Asks, Doing, Ends};
 ghost use Rattle.model_stream.specs.Streams.{Streams};
 ghost use Rattle.model_machine.specs.Does.{does};
@@ -15,7 +14,7 @@ ghost use Rattle.model_machine.specs.State.{State};
 ghost use Rattle.model_machine.specs.Went.{answers_in};
 ghost use Rattle.aio_exchange.specs.Exchanged.{AllFit, entries_of};
 ghost use Rattle.aio_exchange.specs.Ways.{Leads, Move, had_on};
-ghost use Rattle.law_cases.specs.TreeEnd.{IsStreamsEnd};
+ghost use Rattle.law_cases.specs.TreeEnd.{IsStreamsEnd, owned_in as plain_in};
 ghost use Rattle.law_cases.specs.Trees.{Keeping, KeepsStreams};
 ghost use Rattle.refine_streams.specs.Along.{along, called_on, heard_on};
 
@@ -55,8 +54,8 @@ pub fn ways_end_as_trees_do<S>()
     ensures { (tree : Doing Streams) (way : List Move) (streams : Streams) (s : State S)
         (left : List Entry)
         → Keeping
-        (KeepsStreams (is_plain s.loop.parts) (next_future s.loop.parts) s.streams)
-        (is_plain s.loop.parts) (next_future s.loop.parts) tree
+        (KeepsStreams (plain_in s) (next_future s.loop.parts) s.streams)
+        (plain_in s) (next_future s.loop.parts) tree
         → Leads tree way (Ends streams) → AllFit (had_on way)
         → s.answers ≡ entries_of (had_on way) ++ left
         → IsStreamsEnd s (along way left s) streams }

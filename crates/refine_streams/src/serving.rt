@@ -5,7 +5,6 @@ ghost use Rattle.std.specs.Prelude.{◌≡◌, ℕ, length, Err, Ok};
 ghost use Rattle.model_value.specs.Request.{Request as AnyRequest};
 ghost use Rattle.model_value.specs.Value.{Value as AnyValue};
 ghost use Rattle.model_loop.specs.Futures.{next_future};
-ghost use Rattle.model_loop.specs.Owning.{is_plain};
 ghost use Rattle.model_stream.specs.Doing.{Doing};
 ghost use Rattle.model_stream.specs.Streams.{Streams};
 ghost use Rattle.model_machine.specs.Replies as plain;
@@ -16,6 +15,7 @@ ghost use Rattle.aio_wire.specs.Port.{ported};
 ghost use Rattle.aio_wire.specs.declared.stop.Stop.{Stop as AnyStop};
 ghost use Rattle.aio_exchange.specs.Follows.{reach};
 ghost use Rattle.law_reach.specs.Reaches.{left_by};
+ghost use Rattle.law_cases.specs.TreeEnd.{owned_in as plain_in};
 ghost use Rattle.law_cases.specs.Trees.{AnswersStreams, Keeping, WaitsNever};
 ghost use Rattle.aio_transports.specs.Standing.{Answers as AnswersTree};
 ghost use Rattle.aio_body.specs.Asked.{IsAskingFor};
@@ -60,9 +60,9 @@ pub fn requests_go_by_their_calls<X: Extra, W: Wire, R>()
         (reach new.parts after new.events) (Ok it)
         → ((s : State X.added.Kept) → AreStreamsFutures s
         → Keeping
-        (AnswersStreams {R = R} WaitsNever (is_plain s.loop.parts) (next_future s.loop.parts)
+        (AnswersStreams {R = R} WaitsNever (plain_in s) (next_future s.loop.parts)
         s.streams)
-        (is_plain s.loop.parts) (next_future s.loop.parts)
+        (plain_in s) (next_future s.loop.parts)
         (tree (next_future s.loop.parts) s.streams))
         → new ≡ record old {
           parts = new.parts;

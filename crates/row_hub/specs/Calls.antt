@@ -1,5 +1,5 @@
 -- Hubs of the rows on the other calls, and what these look at.
-use Rattle.std.specs.Prelude.{ℕ, true, List, [], ◌∷◌, None, map}
+use Rattle.std.specs.Prelude.{ℕ, ℤ, true, List, [], ◌∷◌, None, map}
 use Rattle.model_wire.specs.Call.{Call}
 use Rattle.model_wire.specs.declared.call.Call.TheVariants as call
 use Rattle.model_wire.specs.declared.watch.Watch.{Watch}
@@ -17,7 +17,7 @@ use Rattle.model_hub.specs.declared.pump.Pump.{Pump}
 use Rattle.model_hub.specs.Hub.{Hub}
 use Rattle.model_hub.specs.Others.{Lanes, Launching, Back, Said}
 use Rattle.model_hub.specs.Calls.{ask, commands_to}
-use Rattle.row_hub.specs.Made.{child, over_flow, hub_of, with_posts, with_lanes, out_end, errs_end, say, errs_exit}
+use Rattle.row_hub.specs.Made.{child, over_flow, hub_of, one, with_posts, with_lanes, all_given, out_end, errs_end, say, errs_exit}
 
 abbrev pub select_of : List Watch → Call
 select_of watched = call.Select None watched
@@ -60,6 +60,11 @@ feed_said lanes bytes of = (ask (call.Feed 0 bytes) (with_lanes lanes) (hub_of (
 
 abbrev pub writes_after : Lanes → List ℕ → Child → List ℕ
 writes_after lanes bytes of = map writes_of (ask (call.Feed 0 bytes) (with_lanes lanes) (hub_of (of ∷ []))).0.children
+
+-- ---- added requests
+-- what one of this code is answered, where the poller would answer this
+abbrev pub extra_said : ℤ → Said → Said
+extra_said code net = (ask (call.Extra code []) (record (with_lanes all_given) { net = net }) one).1
 
 -- ---- seats
 abbrev pub stay_of : Child → Stay

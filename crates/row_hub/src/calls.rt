@@ -1,5 +1,5 @@
 //! Lanes, feeding, and the calls that the hub passes on.
-ghost use Rattle.std.specs.Prelude.{◌≡◌, [], ◌∷◌, true, Some, None, pos, codes};
+ghost use Rattle.std.specs.Prelude.{◌≡◌, [], ◌∷◌, true, Some, None, pos, negsuc, codes};
 ghost use Rattle.model_wire.specs.declared.answer.Answer.TheVariants as answer;
 ghost use Rattle.model_wire.specs.declared.call.Call.TheVariants as call;
 ghost use Rattle.model_pump.specs.declared.command.Command.TheVariants as command;
@@ -8,11 +8,11 @@ ghost use Rattle.model_hub.specs.declared.child.Stay.TheVariants.{Gone};
 ghost use Rattle.model_hub.specs.declared.pump.Pump.TheVariants as pump;
 ghost use Rattle.model_hub.specs.Others.{Got, Failed, Memory};
 ghost use Rattle.model_hub.specs.Calls.{ask};
-ghost use Rattle.model_hub.specs.Asked.{polls_of, kills_after, launches_after, faults_in};
+ghost use Rattle.model_hub.specs.Asked.{polls_of, answers_of, kills_after, launches_after, faults_in};
 ghost use Rattle.model_wire.specs.declared.watch.Watch.TheVariants as watch;
 ghost use Rattle.model_pump.specs.declared.post.PostKind.TheVariants as post;
 ghost use Rattle.row_hub.specs.Made.{child, open_flow, over_flow, owing_flow, with_out, with_closing, with_writes, broken_child, hub_of, one, all_one, out_alone, all_given, all_full, all_spent, with_posts, with_lanes, out, broken, broken_item, turn_of, two, both, say, out_item, with_kept, no_kills, no_launches};
-ghost use Rattle.row_hub.specs.Calls.{select_of, out_after, errs_after, out_with, close_after, to_lane, feed_said, writes_after};
+ghost use Rattle.row_hub.specs.Calls.{select_of, out_after, errs_after, out_with, close_after, to_lane, feed_said, writes_after, extra_said};
 
 /// A stream gets one Go for each piece, while it is watched and until its End was taken. What finds
 /// its lane full is given at the next call, whatever that is and whatever it watches.
@@ -108,19 +108,43 @@ pub fn breaks()
         ≡ Got answer.Broken }
 {}
 
-/// A call on a socket is answered as the poller answers it, and an added request is refused. Once
-/// memory was refused it is so for ever.
+/// A call on a socket is answered as the poller answers it. Once memory was refused it is so for
+/// ever.
 pub fn others_answer()
     ensures socket { (ask (call.Accept 3) (record (with_lanes all_given) { net = Got answer.Conn })
         one).1 ≡ Got answer.Conn }
     ensures fails { (ask (call.Accept 3) (with_lanes all_given) one).1 ≡ Failed }
     ensures kill { (ask (call.Kill 7) (with_lanes all_given) one).1 ≡ Got answer.Done }
-    ensures extra { (ask (call.Extra (pos 400) (codes "a")) (with_lanes all_given) one).1
-        ≡ Got answer.Refused }
     ensures no_memory { (ask (call.Accept 3) (record (with_lanes all_given) { net = Memory })
         one).0.starved ≡ true }
     ensures for_ever { (ask (call.Kill 0) (with_lanes all_given) (record one { starved = true })).1
         ≡ Memory }
+{}
+
+/// An added request on datagrams, of a code from 400 to 403, is answered as the poller answers it;
+/// any other is refused, and the poller isn't asked.
+pub fn added_requests_answer()
+    ensures opens { extra_said (pos 400) (Got (answer.Extra (codes "0")))
+        ≡ Got (answer.Extra (codes "0")) }
+    ensures not_opened { extra_said (pos 400) (Got answer.Refused) ≡ Got answer.Refused }
+    ensures fails { extra_said (pos 400) Failed ≡ Failed }
+    ensures sends { extra_said (pos 401) (Got (answer.Extra (codes "sent")))
+        ≡ Got (answer.Extra (codes "sent")) }
+    ensures third { extra_said (pos 402) (Got (answer.Extra [])) ≡ Got (answer.Extra []) }
+    ensures closes { extra_said (pos 403) (Got (answer.Extra [])) ≡ Got (answer.Extra []) }
+    ensures below { extra_said (pos 399) (Got (answer.Extra [])) ≡ Got answer.Refused }
+    ensures above { extra_said (pos 404) (Got (answer.Extra [])) ≡ Got answer.Refused }
+    ensures negative { extra_said (negsuc 399) (Got (answer.Extra [])) ≡ Got answer.Refused }
+    ensures no_memory { (ask (call.Extra (pos 401) (codes "a"))
+        (record (with_lanes all_given) { net = Memory }) one).0.starved ≡ true }
+    ensures asked { polls_of (call.Extra (pos 401) (codes "a")) all_given one
+        ≡ call.Extra (pos 401) (codes "a") ∷ [] }
+    ensures unasked { polls_of (call.Extra (pos 404) (codes "a")) all_given one ≡ [] }
+    ensures told { answers_of (call.Extra (pos 403) [])
+        (record (with_lanes all_given) { net = Got (answer.Extra []) })
+        ≡ answer.Extra [] ∷ [] }
+    ensures untold { answers_of (call.Extra (pos 404) [])
+        (record (with_lanes all_given) { net = Got (answer.Extra []) }) ≡ [] }
 {}
 
 /// What a call asks of the poller and of the launcher, and which posts are failures.

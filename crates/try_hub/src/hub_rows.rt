@@ -6,7 +6,7 @@ use crate::children::{OVER, Posts};
 use crate::play::HubRow;
 
 /// Courses of calls on a hub.
-pub static HUB: [HubRow; 14] = [
+pub static HUB: [HubRow; 15] = [
     HubRow {
         name: "a child that ends while pieces are left",
         children: &[(
@@ -299,6 +299,24 @@ pub static HUB: [HubRow; 14] = [
             (1, Extra(7), "refused"),
         ],
         ends: Some(4),
+    },
+    HubRow {
+        name: "added requests on datagrams, each asked of the poller once, and others",
+        children: &[],
+        times: &[],
+        failed_polls: &[2, 4],
+        failed_launches: &[],
+        steps: &[
+            (1, Extra(399), "refused"),
+            (1, Extra(400), "refused"),
+            (1, Extra(401), "failed"),
+            (1, Extra(404), "refused"),
+            (1, Extra(-401), "refused"),
+            (1, Extra(402), "refused"),
+            (1, Extra(403), "failed"),
+            (1, Select(&[]), "turn 0"),
+        ],
+        ends: Some(0),
     },
     HubRow {
         name: "a child that wasn't launched",

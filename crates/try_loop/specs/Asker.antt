@@ -11,9 +11,8 @@ use Rattle.std.proofs.lemmas.Option.{none-some}
 use Rattle.model_value.specs.Input.{Input}
 use Rattle.model_value.specs.Value.{Value, Bytes, Items, Nothing as no_value, values}
 use Rattle.model_value.specs.declared.input.Input.TheVariants.{Send, Throw}
-use Rattle.model_loop.specs.Tasks.{next_task}
 use Rattle.model_machine.specs.Extra.{Extra, ExtraAnswer, Answers, Raises, Asks, ExtraSaid, Keeping, WakesFall, key_of, unknown_code}
-use Rattle.model_machine.specs.Sound.{all_made, names_made}
+use Rattle.model_machine.specs.Sound.{Ids, all_made, ids_of, names_made}
 use Rattle.model_machine.specs.State.{State}
 use Rattle.law_cancel.proofs.Lookups.{get-set_same}
 use Rattle.law_runs.specs.Allowed.{IsAnswerAllowed, IsCallAllowed, IsSaidAllowed, MakesAllowedSteps}
@@ -110,18 +109,18 @@ first_allowed more code s =
     }
 
 -- the items of a list were made where the list was
-listed_made : (made : ℕ) (items : List Value) → all_made made (values items) ≡ list_all (names_made made) items
-listed_made made [] = refl
-listed_made made (value ∷ items) = ap (λ b. names_made made value && b) (listed_made made items)
+listed_made : (ids : Ids) (items : List Value) → all_made ids (values items) ≡ list_all (names_made ids) items
+listed_made ids [] = refl
+listed_made ids (value ∷ items) = ap (λ b. names_made ids value && b) (listed_made ids items)
 
 asked_allowed : (question : Question) (code : ℤ) (arguments : List Value) (s : State Left)
-    → list_all (names_made (next_task s.loop.parts)) arguments ≡ true
+    → list_all (names_made (ids_of s)) arguments ≡ true
     → IsSaidAllowed asker_means None (asked_for question code arguments s.extra) s
 asked_allowed Once code arguments s made = first_allowed 0 code s
 asked_allowed Twice code arguments s made = first_allowed 1 code s
 asked_allowed Often code arguments s made = first_allowed 5 code s
 asked_allowed Echo code arguments s made =
-    says_allowed None (Answers (Items (values arguments))) s (listed_made (next_task s.loop.parts) arguments ∙ made) refl
+    says_allowed None (Answers (Items (values arguments))) s (listed_made (ids_of s) arguments ∙ made) refl
 asked_allowed Nothing code arguments s made = says_allowed None (Raises (unknown_code code)) s tt refl
 
 module _ (key : ℕ) (s : State Left) (known : nat_lt key (length s.extra) ≡ true) where

@@ -16,10 +16,9 @@ use Rattle.model_loop.specs.Futures.{next_future, outcome_at}
 use Rattle.model_loop.specs.Owning.{owner_at}
 use Rattle.model_loop.specs.Parts as parts
 use Rattle.model_loop.specs.Parts.{Parts, Plain, Many}
-use Rattle.model_loop.specs.Tasks.{next_task}
 use Rattle.model_machine.specs.Extra.{Extra, ExtraAnswer, Answers, Raises, Waits, ExtraCall, ExtraSaid, ExtraStep, MakesPlain, MakesMany, Settles}
 use Rattle.model_machine.specs.Extra.{CallsSoon, WakesFall, Keeping, called, is_woken_at_once, key_of, made_by_all, unknown_code}
-use Rattle.model_machine.specs.Sound.{IsNoneOf, IsOwned, names_made}
+use Rattle.model_machine.specs.Sound.{Ids, IsNoneOf, IsOwned, ids_of, names_made}
 use Rattle.model_machine.specs.State.{State}
 use Rattle.law_cancel.proofs.Lookups.{get-push_last}
 use Rattle.law_runs.specs.Allowed.{AreAllowed, IsAnswerAllowed, IsCallAllowed, IsOwn as IsMine, IsSaidAllowed, MakesAllowedSteps, MayCall, owns_at}
@@ -142,9 +141,9 @@ goes_on t u p q x kept h beside =
     record { made = h.made; left = h.left; there = λ id own. beside.gone id own ∙ h.there id own }
 
 -- ---- its steps are allowed
-told_made : (made : ℕ) (value : Value) → names_made made (told value) ≡ true
-told_made made (Int number) = refl
-told_made made _ = refl
+told_made : (ids : Ids) (value : Value) → names_made ids (told value) ≡ true
+told_made ids (Int number) = refl
+told_made ids _ = refl
 
 -- ---- lists
 each_from : (P : ℕ → Type 0) (xs : List ℕ) → ((place id : ℕ) → slice_get xs place ≡ Some id → P id) → Each P xs
@@ -207,14 +206,14 @@ module _ (running : Option ℕ) (s : State Waiting) (may : MayCall next_turn_mea
 
   -- ---- a new request
   module _ (on again : ℕ) (steps : List ExtraStep) (past : new ≤ on)
-      (ok : AreAllowed (owns_at (made_keeps s.extra) s.loop.parts) steps s.loop) (there : IsOwned (made_by_all steps s.loop).parts on)
+      (ok : AreAllowed (owns_at (ids_of s) (made_keeps s.extra) s.loop.parts) steps s.loop) (there : IsOwned (made_by_all steps s.loop).parts on)
       (within : on < next_future (made_by_all steps s.loop).parts) where
     asks_allowed : IsSaidAllowed next_turn_means None (record {
       call = record { state = grown on again s.extra; steps = steps };
       answer = Waits on (length s.extra.made);
     }) s
     asks_allowed =
-        let old = steps_keep (owns_at (made_keeps s.extra) s.loop.parts) (made_keeps s.extra) s.futures steps s.loop ok may.kept in
+        let old = steps_keep (owns_at (ids_of s) (made_keeps s.extra) s.loop.parts) (made_keeps s.extra) s.futures steps s.loop ok may.kept in
         record {
           call = record {
             steps = ok;
@@ -269,7 +268,7 @@ module _ (running : Option ℕ) (s : State Waiting) (may : MayCall next_turn_mea
   again_allowed : (key left : ℕ) → nat_lt key (length s.extra.made) ≡ true → IsSaidAllowed next_turn_means (Some key) (waits_again key left s) s
   again_allowed key left known =
       let steps = MakesPlain ∷ CallsSoon key ∷ [] in
-      let old = steps_keep (owns_at (made_keeps s.extra) s.loop.parts) (made_keeps s.extra) s.futures steps s.loop (tt, (tt, tt)) may.kept in
+      let old = steps_keep (owns_at (ids_of s) (made_keeps s.extra) s.loop.parts) (made_keeps s.extra) s.futures steps s.loop (tt, (tt, tt)) may.kept in
       let n = length-set s.extra.made key new in
       record {
         call = record {
@@ -296,7 +295,7 @@ module _ (running : Option ℕ) (s : State Waiting) (may : MayCall next_turn_mea
 
   heard_allowed : (left key : ℕ) (value : Value) → nat_lt key (length s.extra.made) ≡ true
       → IsSaidAllowed next_turn_means (Some key) (heard_by left key value s) s
-  heard_allowed zero key value known = says_allowed (Some key) (Answers (told value)) (told_made (next_task s.loop.parts) value) refl
+  heard_allowed zero key value known = says_allowed (Some key) (Answers (told value)) (told_made (ids_of s) value) refl
   heard_allowed (suc left) key value known = again_allowed key left known
 
   woken_said : (key : ℕ) (input : Input) → nat_lt key (length s.extra.made) ≡ true
@@ -309,13 +308,13 @@ module _ (running : Option ℕ) (s : State Waiting) (may : MayCall next_turn_mea
   resolved_allowed key None e = stays_allowed None
   resolved_allowed key (Some future) e =
       let steps = resolved_at (Some future) key in
-      let ok : AreAllowed (owns_at (made_keeps s.extra) s.loop.parts) steps s.loop = (
+      let ok : AreAllowed (owns_at (ids_of s) (made_keeps s.extra) s.loop.parts) steps s.loop = (
         (inl (key, e), each_at (IsOwned s.loop.parts) s.extra.made may.kept.own key future e, refl),
         tt,
       ) in
       record {
         steps = ok;
-        kept = steps_keep (owns_at (made_keeps s.extra) s.loop.parts) (made_keeps s.extra) s.futures steps s.loop ok may.kept;
+        kept = steps_keep (owns_at (ids_of s) (made_keeps s.extra) s.loop.parts) (made_keeps s.extra) s.futures steps s.loop ok may.kept;
         own = still_own;
         tags = tt;
         keys = λ other differs known. known;

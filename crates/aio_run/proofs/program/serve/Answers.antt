@@ -1,4 +1,4 @@
-use Rattle.std.proofs.Common.{Option, Some, map, string_bytes, refl, subst}
+use Rattle.std.proofs.Common.{◌≡◌, Option, Some, map, string_bytes, refl, subst}
 use Rattle.model_wire.specs.Told.{NoneFailed}
 use Rattle.model_words.specs.Words.{Command, Work, command_of}
 use Rattle.model_program.specs.Program.{words_refused}
@@ -13,7 +13,7 @@ pub returns-in-None-clause-written : goal.returns-in-None-clause-written
 returns-in-None-clause-written g c =
     let shelf = g.F.Shelf.seen c.args.shelf.now in
     let wire = g.W.Wire.outside.seen c.args.wire.now in
-    let it = told_by c.say.result (between shelf shelf wire wire) (g.W.Wire.outside.fails c.args.wire.now) in
+    let it = told_by c.say.result (between shelf shelf wire wire) (c.args.wire.now ≡ c.args.wire.now) (g.W.Wire.outside.fails c.args.wire.now) in
     let asked = command_of (map string_bytes c.args.words.now) in
     line_written (MayWrite it asked) (IsUnbegun it asked) words_refused
     (subst (λ (o : Option Command). MayWrite it o words_refused) c.in-None.ensures.command (refl, refl)) _ refl
@@ -26,14 +26,14 @@ returns-in-None-clause-files g c =
 
 pub returns-in-None-clause-wire : goal.returns-in-None-clause-wire
 returns-in-None-clause-wire g c =
-    subst (λ (o : Option Command). KeepsWire o c.args.wire.now c.args.wire.now) c.in-None.ensures.command refl
+    subst (λ (o : Option Command). KeepsWire o (g.F.Shelf.seen c.args.shelf.now) c.args.wire.now c.args.wire.now) c.in-None.ensures.command refl
 
 -- ---- works
 pub returns-in-Some-Work-clause-written : goal.returns-in-Some-Work-clause-written
 returns-in-Some-Work-clause-written g c =
     let shelf = g.F.Shelf.seen c.args.shelf.now in
     let wire = g.W.Wire.outside.seen c.args.wire.now in
-    let it = told_by c.work.result (between shelf shelf wire wire) (g.W.Wire.outside.fails c.args.wire.now) in
+    let it = told_by c.work.result (between shelf shelf wire wire) (c.args.wire.now ≡ c.args.wire.now) (g.W.Wire.outside.fails c.args.wire.now) in
     let found = rw c.in-Some-Work.field-0-is at c.in-Some-Work.ensures.command in
     let seed = c.in-Some-Work.seed in
     let old = g.K.Sink.seen c.args.out.now in
@@ -51,7 +51,7 @@ returns-in-Some-Work-clause-files g c =
 pub returns-in-Some-Work-clause-wire : goal.returns-in-Some-Work-clause-wire
 returns-in-Some-Work-clause-wire g c =
     let found = rw c.in-Some-Work.field-0-is at c.in-Some-Work.ensures.command in
-    subst (λ (o : Option Command). KeepsWire o c.args.wire.now c.args.wire.now) found refl
+    subst (λ (o : Option Command). KeepsWire o (g.F.Shelf.seen c.args.shelf.now) c.args.wire.now c.args.wire.now) found refl
 
 -- ---- checks
 pub returns-in-Some-Check-clause-written : goal.returns-in-Some-Check-clause-written
@@ -59,7 +59,7 @@ returns-in-Some-Check-clause-written g c =
     let wire = g.W.Wire.outside.seen c.args.wire.now in
     let seen = between (g.F.Shelf.seen c.args.shelf.now) (g.F.Shelf.seen c.check.new.shelf) wire wire in
     let found = rw c.in-Some-Check.field-0-is at c.in-Some-Check.ensures.command in
-    writes_for (told_by c.check.result seen (g.W.Wire.outside.fails c.args.wire.now)) _ _ found
+    writes_for (told_by c.check.result seen (c.args.wire.now ≡ c.args.wire.now) (g.W.Wire.outside.fails c.args.wire.now)) _ _ found
     (g.K.Sink.seen c.args.out.now) (g.K.Sink.seen c.check.new.out) c.check.result c.check.ensures.written
 
 pub returns-in-Some-Check-clause-files : goal.returns-in-Some-Check-clause-files
@@ -70,7 +70,7 @@ returns-in-Some-Check-clause-files g c =
 pub returns-in-Some-Check-clause-wire : goal.returns-in-Some-Check-clause-wire
 returns-in-Some-Check-clause-wire g c =
     let found = rw c.in-Some-Check.field-0-is at c.in-Some-Check.ensures.command in
-    subst (λ (o : Option Command). KeepsWire o c.args.wire.now c.args.wire.now) found refl
+    subst (λ (o : Option Command). KeepsWire o (g.F.Shelf.seen c.args.shelf.now) c.args.wire.now c.args.wire.now) found refl
 
 -- ---- replays
 pub returns-in-Some-Replay-clause-written : goal.returns-in-Some-Replay-clause-written
@@ -78,7 +78,7 @@ returns-in-Some-Replay-clause-written g c =
     let wire = g.W.Wire.outside.seen c.args.wire.now in
     let seen = between (g.F.Shelf.seen c.args.shelf.now) (g.F.Shelf.seen c.replay.new.shelf) wire wire in
     let found = rw c.in-Some-Replay.field-0-is at c.in-Some-Replay.ensures.command in
-    writes_for (told_by c.replay.result seen (g.W.Wire.outside.fails c.args.wire.now)) _ _ found
+    writes_for (told_by c.replay.result seen (c.args.wire.now ≡ c.args.wire.now) (g.W.Wire.outside.fails c.args.wire.now)) _ _ found
     (g.K.Sink.seen c.args.out.now) (g.K.Sink.seen c.replay.new.out) c.replay.result c.replay.ensures.written
 
 pub returns-in-Some-Replay-clause-files : goal.returns-in-Some-Replay-clause-files
@@ -89,7 +89,7 @@ returns-in-Some-Replay-clause-files g c =
 pub returns-in-Some-Replay-clause-wire : goal.returns-in-Some-Replay-clause-wire
 returns-in-Some-Replay-clause-wire g c =
     let found = rw c.in-Some-Replay.field-0-is at c.in-Some-Replay.ensures.command in
-    subst (λ (o : Option Command). KeepsWire o c.args.wire.now c.args.wire.now) found refl
+    subst (λ (o : Option Command). KeepsWire o (g.F.Shelf.seen c.args.shelf.now) c.args.wire.now c.args.wire.now) found refl
 
 -- ---- runs
 pub returns-in-Some-Run-clause-written : goal.returns-in-Some-Run-clause-written
@@ -98,7 +98,7 @@ returns-in-Some-Run-clause-written g c =
     let after = g.W.Wire.outside.seen c.run.new.wire in
     let seen = between (g.F.Shelf.seen c.args.shelf.now) (g.F.Shelf.seen c.run.new.shelf) before after in
     let found = rw c.in-Some-Run.field-0-is at c.in-Some-Run.ensures.command in
-    writes_for (told_by c.run.result seen (g.W.Wire.outside.fails c.args.wire.now)) _ _ found
+    writes_for (told_by c.run.result seen (c.run.new.wire ≡ c.args.wire.now) (g.W.Wire.outside.fails c.args.wire.now)) _ _ found
     (g.K.Sink.seen c.args.out.now) (g.K.Sink.seen c.run.new.out) c.run.result c.run.ensures.written
 
 pub returns-in-Some-Run-clause-files : goal.returns-in-Some-Run-clause-files
@@ -110,4 +110,4 @@ returns-in-Some-Run-clause-files g c =
 pub returns-in-Some-Run-clause-wire : goal.returns-in-Some-Run-clause-wire
 returns-in-Some-Run-clause-wire g c =
     let found = rw c.in-Some-Run.field-0-is at c.in-Some-Run.ensures.command in
-    subst (λ (o : Option Command). KeepsWire o c.args.wire.now c.run.new.wire) found tt
+    subst (λ (o : Option Command). KeepsWire o (g.F.Shelf.seen c.args.shelf.now) c.args.wire.now c.run.new.wire) found c.run.ensures.wire

@@ -2,9 +2,9 @@ use Rattle.std.proofs.Common.{sym, subst, ◌∙◌}
 use Rattle.model_value.specs.declared.request.Request.TheVariants as request
 use Rattle.model_says.specs.Requests.{bad_argument}
 use Rattle.model_loop.specs.Futures.{next_future}
-use Rattle.model_loop.specs.Owning.{is_plain}
 use Rattle.model_stream.specs.Requests.{kill}
 use Rattle.aio_wire.specs.Port.{ported}
+use Rattle.law_cases.specs.TreeEnd.{owned_in as plain_in}
 use Rattle.law_cases.proofs.Asking.{kills}
 use Rattle.aio_body.specs.Asking.{Comes, serving}
 use Rattle.aio_body.proofs.Alone.{refused_alone}
@@ -40,6 +40,6 @@ returns g c =
           kill_means g.X.Extra.added.meaning c.args.task s c.args.child.now c.in-Some.id
           (sym (c.as_child.ensures s h.going.in_step.stands.transports) ∙ c.in-Some.is))
           (kill_forgets c.in-Some.id)
-          (λ s kept. kills (is_plain s.loop.parts) (next_future s.loop.parts) c.in-Some.id s.streams kept)
+          (λ s kept. kills (plain_in s) (next_future s.loop.parts) c.in-Some.id s.streams kept)
           (events_beside c.args.body.now c.kill_child.new.body c.kill_child.ensures.frame) c.kill_child.result c.kill_child.ensures.comes);
     }

@@ -4,11 +4,11 @@ use Rattle.model_value.specs.declared.request.Request.TheVariants as request
 use Rattle.model_says.specs.Operations.{out_of_range}
 use Rattle.model_says.specs.Requests.{bad_argument}
 use Rattle.model_loop.specs.Futures.{next_future}
-use Rattle.model_loop.specs.Owning.{is_plain}
 use Rattle.model_stream.specs.Streams.{launch}
 use Rattle.model_machine.specs.Replies.{launches_as}
 use Rattle.model_machine.specs.State.{State}
 use Rattle.aio_wire.specs.Port.{ported}
+use Rattle.law_cases.specs.TreeEnd.{owned_in as plain_in}
 use Rattle.law_cases.specs.Trees.{WaitsNever}
 use Rattle.law_cases.proofs.Opening.{launches}
 use Rattle.aio_body.specs.Asking.{Comes, serving}
@@ -75,6 +75,6 @@ returns g c =
           launch_means g.X.Extra.added.meaning c.args.task s c.args.words.now c.in-Some.words (sym c.in_ok-words.ensures ∙ c.in-Some.is)
           (sym (c.may_launch.ensures.is s.streams h.going.in_step.stands.transports) ∙ c.if-not-may_launch.false))
           (launch_forgets c.in-Some.words _) WaitsNever
-          (λ s kept. launches (is_plain s.loop.parts) (next_future s.loop.parts) c.in-Some.words s.streams kept)
+          (λ s kept. launches (plain_in s) (next_future s.loop.parts) c.in-Some.words s.streams kept)
           c.launch_child.ensures.frame c.launch_child.result c.launched.result c.launch_child.ensures.comes c.launched.ensures;
     }

@@ -4,9 +4,9 @@ use Rattle.model_value.specs.declared.request.Request.TheVariants as request
 use Rattle.model_value.specs.Value.{Int}
 use Rattle.model_says.specs.Requests.{bad_argument}
 use Rattle.model_loop.specs.Futures.{next_future}
-use Rattle.model_loop.specs.Owning.{is_plain}
 use Rattle.model_stream.specs.Requests.{wait}
 use Rattle.model_machine.specs.Replies.{awaits_exit_as}
+use Rattle.law_cases.specs.TreeEnd.{owned_in as plain_in}
 use Rattle.law_cases.specs.Trees.{ExitWaits, IsMade}
 use Rattle.law_cases.proofs.Asking.{waits}
 use Rattle.aio_body.specs.declared.reply.RequestReply.TheVariants as said
@@ -38,7 +38,7 @@ suspend-suspension-requires-clause-running g c =
     wait_means g.X.Extra.added.meaning c.args.task s c.args.child.now c.in-Some.id
     (sym (c.as_child.ensures s h.going.in_step.stands.transports) ∙ c.in-Some.is))
     ExitWaits c.in-Ok-Waits.field-0 c.in-Ok-Waits.ensures.told
-    (λ s kept. waits (is_plain s.loop.parts) (next_future s.loop.parts) c.in-Some.id s.streams kept)
+    (λ s kept. waits (plain_in s) (next_future s.loop.parts) c.in-Some.id s.streams kept)
     c.in-Ok-Waits.on (λ first now made. subst (ExitWaits (IsMade first now)) c.in-Ok-Waits.field-0-is made)
 
 pub suspend-suspension-requires-clause-pending : goal.suspend-suspension-requires-clause-pending
@@ -49,7 +49,7 @@ suspend-suspension-requires-clause-pending g c =
     wait_means g.X.Extra.added.meaning c.args.task s c.args.child.now c.in-Some.id
     (sym (c.as_child.ensures s h.going.in_step.stands.transports) ∙ c.in-Some.is))
     ExitWaits c.in-Ok-Waits.field-0 c.in-Ok-Waits.ensures.told
-    (λ s kept. waits (is_plain s.loop.parts) (next_future s.loop.parts) c.in-Some.id s.streams kept)
+    (λ s kept. waits (plain_in s) (next_future s.loop.parts) c.in-Some.id s.streams kept)
     c.in-Ok-Waits.on (λ first now made. subst (ExitWaits (IsMade first now)) c.in-Ok-Waits.field-0-is made)
 
 pub returns-in-Ok-Code : goal.returns-in-Ok-Code
@@ -64,7 +64,7 @@ returns-in-Ok-Code g c =
     wait_means g.X.Extra.added.meaning c.args.task s c.args.child.now c.in-Some.id
     (sym (c.as_child.ensures s h.going.in_step.stands.transports) ∙ c.in-Some.is))
     ExitWaits c.in-Ok-Code.field-0 c.in-Ok-Code.ensures.told
-    (λ s kept. waits (is_plain s.loop.parts) (next_future s.loop.parts) c.in-Some.id s.streams kept)
+    (λ s kept. waits (plain_in s) (next_future s.loop.parts) c.in-Some.id s.streams kept)
     (Int c.in-Ok-Code.code) (λ t. ap (λ w. awaits_exit_as c.args.task w t) c.in-Ok-Code.field-0-is))
 
 pub returns-in-Ok-Waits : goal.returns-in-Ok-Waits
@@ -76,7 +76,7 @@ returns-in-Ok-Waits g c =
     wait_means g.X.Extra.added.meaning c.args.task s c.args.child.now c.in-Some.id
     (sym (c.as_child.ensures s h.going.in_step.stands.transports) ∙ c.in-Some.is))
     ExitWaits c.in-Ok-Waits.field-0 c.in-Ok-Waits.ensures.told
-    (λ s kept. waits (is_plain s.loop.parts) (next_future s.loop.parts) c.in-Some.id s.streams kept)
+    (λ s kept. waits (plain_in s) (next_future s.loop.parts) c.in-Some.id s.streams kept)
     c.in-Ok-Waits.on (λ first now made. subst (ExitWaits (IsMade first now)) c.in-Ok-Waits.field-0-is made) c.suspend-suspension.new.self
     (record {
       after = c.suspend-suspension.ensures.after;

@@ -4,11 +4,11 @@ use Rattle.model_value.specs.declared.request.Request.TheVariants as request
 use Rattle.model_says.specs.Operations.{out_of_range}
 use Rattle.model_says.specs.Requests.{bad_argument}
 use Rattle.model_loop.specs.Futures.{next_future}
-use Rattle.model_loop.specs.Owning.{is_plain}
 use Rattle.model_stream.specs.Streams.{listen}
 use Rattle.model_machine.specs.Replies.{bad_port, listens_as}
 use Rattle.model_machine.specs.State.{State}
 use Rattle.aio_wire.specs.Port.{ported}
+use Rattle.law_cases.specs.TreeEnd.{owned_in as plain_in}
 use Rattle.law_cases.specs.Trees.{WaitsNever}
 use Rattle.law_cases.proofs.Opening.{listens}
 use Rattle.aio_body.specs.Asking.{Comes, serving}
@@ -84,7 +84,7 @@ returns g c =
           (sym (c.may_listen.ensures.is s.streams h.going.in_step.stands.transports) ∙ c.if-not-may_listen.false)
           (ap port_in (sym (to_z-of_z w64 c.in-Some.number fits)) ∙ sym c.as_port.ensures ∙ c.in-Some-as_port.is))
           (listen_forgets c.in-Some-as_port.number c.args.handler) WaitsNever
-          (λ s kept. listens (is_plain s.loop.parts) (next_future s.loop.parts) c.in-Some-as_port.number c.args.handler s.streams kept)
+          (λ s kept. listens (plain_in s) (next_future s.loop.parts) c.in-Some-as_port.number c.args.handler s.streams kept)
           (told_beside c.args.body.now c.listen_at.new.body c.listen_at.ensures.frame) c.listen_at.result c.listened.result
           c.listen_at.ensures.comes c.listened.ensures;
     }

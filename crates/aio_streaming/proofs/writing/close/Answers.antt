@@ -3,11 +3,11 @@ use Rattle.std.specs.Option.{option_map}
 use Rattle.model_value.specs.declared.request.Request.TheVariants as request
 use Rattle.model_says.specs.Requests.{bad_argument}
 use Rattle.model_loop.specs.Futures.{next_future}
-use Rattle.model_loop.specs.Owning.{is_plain}
 use Rattle.model_stream.specs.Requests.{close}
 use Rattle.model_stream.specs.Streams.{close_server}
 use Rattle.model_machine.specs.Arguments.{AServer, AWriter}
 use Rattle.aio_wire.specs.Port.{ported}
+use Rattle.law_cases.specs.TreeEnd.{owned_in as plain_in}
 use Rattle.law_cases.proofs.Asking.{closes}
 use Rattle.law_cases.proofs.Opening.{closes_server}
 use Rattle.aio_opened.specs.Closing.{closable_as}
@@ -51,7 +51,7 @@ returns-in-Some-Server g c =
           (sym (c.as_closable.ensures s h.going.in_step.stands.transports) ∙ ap (option_map closable_as) c.in-Some-Server.is
           ∙ ap (λ k. Some (closable_as k)) c.in-Some-Server.field-0-is))
           (close_server_forgets c.in-Some-Server.id)
-          (λ s kept. closes_server (is_plain s.loop.parts) (next_future s.loop.parts) c.in-Some-Server.id s.streams kept)
+          (λ s kept. closes_server (plain_in s) (next_future s.loop.parts) c.in-Some-Server.id s.streams kept)
           (told_beside c.args.body.now c.close_listener.new.body c.close_listener.ensures.frame) c.close_listener.result
           c.close_listener.ensures.comes);
     }
@@ -78,6 +78,6 @@ returns-in-Some-Writer g c =
           (sym (c.as_closable.ensures s h.going.in_step.stands.transports) ∙ ap (option_map closable_as) c.in-Some-Writer.is
           ∙ ap (λ k. Some (closable_as k)) c.in-Some-Writer.field-0-is))
           (close_forgets c.in-Some-Writer.whom)
-          (λ s kept. closes (is_plain s.loop.parts) (next_future s.loop.parts) c.in-Some-Writer.whom s.streams kept)
+          (λ s kept. closes (plain_in s) (next_future s.loop.parts) c.in-Some-Writer.whom s.streams kept)
           refl refl c.close.result c.close.ensures.told);
     }

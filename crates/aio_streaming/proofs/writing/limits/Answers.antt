@@ -3,8 +3,8 @@ use Rattle.std.specs.Option.{option_map}
 use Rattle.model_value.specs.declared.request.Request.TheVariants as request
 use Rattle.model_says.specs.Requests.{bad_argument}
 use Rattle.model_loop.specs.Futures.{next_future}
-use Rattle.model_loop.specs.Owning.{is_plain}
 use Rattle.model_stream.specs.Requests.{limits}
+use Rattle.law_cases.specs.TreeEnd.{owned_in as plain_in}
 use Rattle.law_cases.proofs.Asking.{limits_keep}
 use Rattle.aio_body.specs.Delay.{number_of}
 use Rattle.aio_body.proofs.Alone.{serves_raise}
@@ -56,5 +56,5 @@ returns g c =
     (sym c.as_delay.ensures ∙ ap (option_map number_of) c.in-Some-as_delay.is ∙ ap Some (sym c.number.ensures))
     (sym c.as_delay-2.ensures ∙ ap (option_map number_of) c.in-Some-as_delay-2.is ∙ ap Some (sym c.number-2.ensures)))
     c.limits.result (c.limits.ensures.told c.args.body.now.parts)
-    (λ s kept. limits_keep (is_plain s.loop.parts) (next_future s.loop.parts) most least c.in-Some.whom s.streams kept)
+    (λ s kept. limits_keep (plain_in s) (next_future s.loop.parts) most least c.in-Some.whom s.streams kept)
     c.limited.result c.limited.ensures

@@ -3,13 +3,13 @@ use Rattle.std.specs.Option.{option_map}
 use Rattle.model_value.specs.declared.request.Request.TheVariants as request
 use Rattle.model_says.specs.Requests.{bad_argument}
 use Rattle.model_loop.specs.Futures.{next_future}
-use Rattle.model_loop.specs.Owning.{is_plain}
 use Rattle.model_stream.specs.declared.answers.Wrote.{Wrote}
 use Rattle.model_stream.specs.declared.answers.Wrote.TheVariants as wrote
 use Rattle.model_stream.specs.Requests.{write}
 use Rattle.model_machine.specs.Replies.{writes_as}
 use Rattle.model_machine.specs.State.{State}
 use Rattle.aio_wire.specs.Port.{ported}
+use Rattle.law_cases.specs.TreeEnd.{owned_in as plain_in}
 use Rattle.law_cases.specs.Trees.{WaitsNever}
 use Rattle.law_cases.proofs.Asking.{writes}
 use Rattle.aio_body.specs.Asking.{Comes, serving}
@@ -78,6 +78,6 @@ returns g c =
           (sym (c.as_writer.ensures s h.going.in_step.stands.transports) ∙ c.in-Some.is)
           (sym c.as_bytes.ensures ∙ ap (option_map _) c.in-Some-as_bytes.is ∙ ap Some (sym c.as_slice.ensures.value)))
           (write_forgets c.in-Some.whom piece) WaitsNever
-          (λ s kept. writes (is_plain s.loop.parts) (next_future s.loop.parts) c.in-Some.whom piece s.streams kept)
+          (λ s kept. writes (plain_in s) (next_future s.loop.parts) c.in-Some.whom piece s.streams kept)
           c.write_piece.ensures.frame c.write_piece.result c.wrote.result c.write_piece.ensures.comes c.wrote.ensures;
     }

@@ -2,9 +2,9 @@ use Rattle.std.proofs.Common.{sym, subst, ◌∙◌}
 use Rattle.model_value.specs.declared.request.Request.TheVariants as request
 use Rattle.model_says.specs.Requests.{bad_argument}
 use Rattle.model_loop.specs.Futures.{next_future}
-use Rattle.model_loop.specs.Owning.{is_plain}
 use Rattle.model_stream.specs.Requests.{write_eof}
 use Rattle.aio_wire.specs.Port.{ported}
+use Rattle.law_cases.specs.TreeEnd.{owned_in as plain_in}
 use Rattle.law_cases.proofs.Asking.{ends}
 use Rattle.aio_body.specs.Asking.{Comes, serving}
 use Rattle.aio_body.proofs.Alone.{refused_alone}
@@ -47,6 +47,6 @@ returns g c =
           eof_means g.X.Extra.added.meaning c.args.task s c.args.stream.now c.in-Some.conn
           (sym (c.as_conn.ensures s h.going.in_step.stands.transports) ∙ c.in-Some.is))
           (write_eof_forgets c.in-Some.conn)
-          (λ s kept. ends (is_plain s.loop.parts) (next_future s.loop.parts) c.in-Some.conn s.streams kept)
+          (λ s kept. ends (plain_in s) (next_future s.loop.parts) c.in-Some.conn s.streams kept)
           c.write_end.ensures.frame c.write_end.result c.write_end.ensures.comes);
     }

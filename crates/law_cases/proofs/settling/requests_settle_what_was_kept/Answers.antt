@@ -1,15 +1,15 @@
 use Rattle.law_cases.proofs.Asking.{closes, drains, drops, ends, gives_up, gives_up_own, kills, limits_keep, reads, reads_all, waits, writes}
-use Rattle.law_cases.proofs.Opening.{closes_server, connects, launches, listens}
+use Rattle.law_cases.proofs.Opening.{closes_server, connects, opens_child, opens_server}
 use Rattle.law_cases.proofs.settling.requests_settle_what_was_kept.Goals as goal
 
 pub returns-clause-listens : goal.returns-clause-listens
-returns-clause-listens g = λ own next port handler s kept. listens own next port handler s kept
+returns-clause-listens g = λ own next port handler s kept. opens_server own next port handler s kept
 
 pub returns-clause-connects : goal.returns-clause-connects
 returns-clause-connects g = λ own next port s kept. connects own next port s kept
 
 pub returns-clause-launches : goal.returns-clause-launches
-returns-clause-launches g = λ own next words s kept. launches own next words s kept
+returns-clause-launches g = λ own next words s kept. opens_child own next words s kept
 
 pub returns-clause-writes : goal.returns-clause-writes
 returns-clause-writes g = λ own next whom piece s kept. writes own next whom piece s kept

@@ -7,7 +7,13 @@ use Rattle.law_runs.specs.Allowed.{Owns}
 use Rattle.law_runs.proofs.extras.each_step_keeps_the_loop_sound.Goals as goal
 
 nothing_own : Owns
-nothing_own = record { futures = []; tags = []; next_future = 0; next_tag = 0 }
+nothing_own = record {
+  futures = [];
+  tags = [];
+  next_future = 0;
+  next_tag = 0;
+  ids = record { tasks = 0; futures = 0; timeouts = 0; groups = 0; servers = 0; connections = 0; children = 0 };
+}
 
 pub returns-clause-plain : goal.returns-clause-plain
 returns-clause-plain c = λ running told l s. plain_step_sound running told l s

@@ -7,4 +7,4 @@ pub returns-clause-posts : goal.returns-clause-posts
 returns-clause-posts g c = plainly_posts [] c.args.self.now c.serve.new.self c.serve.ensures
 
 pub returns-clause-asks : goal.returns-clause-asks
-returns-clause-asks g c code bytes = extra_asks c.args.self.now c.serve.new.self code bytes c.serve.ensures
+returns-clause-asks g c code bytes other = extra_asks c.args.self.now c.serve.new.self code bytes other c.serve.ensures

@@ -1,5 +1,0 @@
-use Rattle.aio_reach.proofs.Beginning.{begins}
-use Rattle.aio_reach.proofs.reach.Four+Gather+Sync+Exec+NoExtra.new.Goals as goal
-
-pub returns : goal.returns
-returns c = begins _ c.new.ensures c.new-2.ensures c.new-3.ensures

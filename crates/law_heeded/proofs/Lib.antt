@@ -1,0 +1,13 @@
+pub mod Still
+pub mod Owning
+pub mod Quiet
+pub mod Going
+pub mod Serving
+pub mod Turning
+pub mod Sharing
+pub mod Along
+pub mod Synced
+pub mod Jobs
+pub mod Datagrams
+pub mod Gathered
+pub mod Starting

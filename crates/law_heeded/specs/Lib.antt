@@ -1,0 +1,4 @@
+pub mod Owned
+pub mod Walks
+pub mod Runs
+pub mod Between

@@ -1,0 +1,6 @@
+mod Entries
+mod Courses
+mod Keeping
+mod Stepping
+mod Runs
+mod Own

@@ -1,0 +1,3 @@
+pub mod Tries
+pub mod Notes
+pub mod Runs

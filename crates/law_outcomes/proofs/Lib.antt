@@ -1,0 +1,11 @@
+mod Lists
+mod Handles
+mod Right
+mod Drawing
+mod Counting
+mod Entering
+mod Asking
+mod Waking
+mod Acting
+mod Walking
+mod Ending
