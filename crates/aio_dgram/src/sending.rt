@@ -25,8 +25,8 @@ use crate::said::{closed, send_failed};
 use crate::waiting::Waiting;
 use aio_base::{Blob, Input, Kind, Memory, Value, ValueCase};
 use aio_extra::Asked;
-use aio_text::number;
 use aio_task::Parts;
+use aio_text::number;
 use std::alloc::Global;
 use std::rc::RcSlice;
 
