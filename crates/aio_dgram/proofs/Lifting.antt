@@ -12,12 +12,11 @@ use Rattle.model_value.specs.declared.input.Input.TheVariants.{Send, Throw}
 use Rattle.model_loop.specs.Futures.{next_future}
 use Rattle.model_loop.specs.Owning.{owner_at}
 use Rattle.model_loop.specs.Parts.{Parts}
-use Rattle.model_loop.specs.Tasks.{next_task}
 use Rattle.model_says.specs.Operations.{out_of_range}
 use Rattle.model_machine.specs.Arguments.{as_list}
 use Rattle.model_machine.specs.Extra as extra
 use Rattle.model_machine.specs.Extra.{Answers, ExtraAnswer, ExtraCall, ExtraSaid, ExtraStep, Raises, Settles, called}
-use Rattle.model_machine.specs.Sound.{IsOwned, sends_made}
+use Rattle.model_machine.specs.Sound.{IsOwned, ids_of, sends_made}
 use Rattle.model_machine.specs.State.{State}
 use Rattle.model_reach.specs.Part.{can_draw, only_says, passes, place_of, refuses, stays}
 use Rattle.model_dgram.specs.Endpoints.{Closes, Endpoint, Endpoints, Offers, Opens, Receives, Sends, Waiting, dgram_keeps, dgram_part, next_key, waiting_at}
@@ -140,7 +139,7 @@ module _ (running : Option ℕ) (t : NameMap) (s : State Endpoints) (x : Dgram) 
   module _ (woken_ : Option ℕ) (y : Dgram) (w : View) (call : ExtraCall Endpoints) (seen : CallsSeen (kept_of y) v w call)
       (may : IsCallAllowed dgram_means woken_ call s) (tidy : IsTidy call.state) (older : AreOlder p.next_tag call.steps) where
     goes : Goes t p v w (called call s).loop.parts
-    goes = steps_go t v w (owns_at (dgram_keeps s.extra) p) s.loop call.steps h.keeps h.rules may.steps older (seen.steps t.known)
+    goes = steps_go t v w (owns_at (ids_of s) (dgram_keeps s.extra) p) s.loop call.steps h.keeps h.rules may.steps older (seen.steps t.known)
 
     stays_there : (id : ℕ) → IsAmong (dgram_keeps s.extra).own id ⊎ (next_future p ≤ id) → t.gone id ≡ false
     stays_there id (inl old) = h.stands.there id old
@@ -291,7 +290,7 @@ hears_by t s x v h code bytes y w seen = hears_so None t s x v h code bytes (dgr
 
 pub wakes_at : (running : Option ℕ) → is_some running ≡ true → (t : NameMap) (s : State Endpoints) (x : Dgram) (v : View)
     → IsServed dgram_added running t s x v → (key : ℕ) (input : Input) → (dgram_keeps s.extra).has_key key ≡ true
-    → sends_made (next_task s.loop.parts) input ≡ true → (place : ℕ) → place ≡ place_of dgram_part key → (y : Dgram) (w : View) (asked : Asked)
+    → sends_made (ids_of s) input ≡ true → (place : ℕ) → place ≡ place_of dgram_part key → (y : Dgram) (w : View) (asked : Asked)
     → SaysSeen (kept_of y) v w asked (woken (waiting_at place (kept_of x)) key place input (parts v) (kept_of x))
     → SaysAs dgram_added t s v w y asked (dgram_means.wake key input s)
 wakes_at None e t s x v h key input known made place at y w asked seen = absurd (cc)
