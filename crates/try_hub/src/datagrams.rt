@@ -64,18 +64,30 @@ static CASES: [(&str, Does); 28] = [
     ("two come in order", Does::Come(1, A, &[b"one", b"two"])),
     ("the other way", Does::Send(1, A, b"a b", "extra sent")),
     ("a space comes", Does::Come(0, B, &[b"a b"])),
-    ("what comes isn't asked for", Does::Ask(402, b"0", "refused")),
+    (
+        "what comes isn't asked for",
+        Does::Ask(402, b"0", "refused"),
+    ),
     ("a number of none", Does::Ask(401, b"9 10 ab", "refused")),
     ("a text of none", Does::Ask(401, b"0 ab", "refused")),
     ("the greatest", Does::SendLong(0, B, 65_507, "extra sent")),
-    ("the greatest again", Does::SendLong(0, B, 65_507, "extra sent")),
+    (
+        "the greatest again",
+        Does::SendLong(0, B, 65_507, "extra sent"),
+    ),
     ("behind them", Does::Send(0, B, b"end", "extra sent")),
-    ("one byte more", Does::SendLong(0, B, 65_508, "extra failed")),
+    (
+        "one byte more",
+        Does::SendLong(0, B, 65_508, "extra failed"),
+    ),
     ("two fill a poll's share", Does::Share(2, 0)),
     ("the last", Does::Come(1, A, &[b"end"])),
     ("an endpoint closes", Does::Ask(403, b"0", "extra ")),
     ("it is closed", Does::Ask(403, b"0", "refused")),
-    ("its port is free, its number isn't", Does::Open(A, "extra 2")),
+    (
+        "its port is free, its number isn't",
+        Does::Open(A, "extra 2"),
+    ),
     ("a flood", Does::Flood(1, 150)),
     ("each in its turn", Does::Share(128, 128)),
     ("what is left", Does::Share(22, 22)),
@@ -201,24 +213,24 @@ impl<R: Net + Clock> Endpoints<R> {
 
     fn come(&mut self, alloc: Global, to: u32, from: usize, wanted: &[&[u8]]) -> bool {
         let port = self.port(from);
-        let mut left = wanted;
+        let mut came = 0;
         for _ in 0..POLLS {
-            if left.is_empty() {
+            if came >= wanted.len() {
                 return true;
             }
             match self.poll(alloc, WAIT, &[Watch::Extra]) {
                 Some(items) => {
-                    let rest = left_after(alloc, items.items(), to, port, left);
+                    let more = came_after(alloc, items.items(), to, port, wanted, came);
                     drop(items);
-                    match rest {
-                        Some(rest) => left = rest,
+                    match more {
+                        Some(more) => came = more,
                         None => return false,
                     }
                 }
                 None => return false,
             }
         }
-        left.is_empty()
+        came >= wanted.len()
     }
 
     fn shares(&mut self, alloc: Global, one: usize, other: usize) -> bool {
@@ -291,23 +303,24 @@ fn datagram_text(alloc: Global, number: u32, port: u16, bytes: &[u8]) -> Blob {
     }
 }
 
-// What of these is still to come, where the items tell of the first of them, to this endpoint from this port.
-fn left_after<'a, 'b>(
+// How many of these came by now, where so many had come before and the items tell of the next, to this endpoint from this port;
+// nothing where they tell of others.
+fn came_after(
     alloc: Global,
     items: &[Item],
     to: u32,
     from: u16,
-    wanted: &'a [&'b [u8]],
-) -> Option<&'a [&'b [u8]]> {
-    let mut left = wanted;
+    wanted: &[&[u8]],
+    before: usize,
+) -> Option<usize> {
+    let mut came = before;
     for item in items {
-        let (first, rest) = left.split_first()?;
-        if !tells(alloc, item, to, from, first) {
-            return None;
+        match wanted.get(came) {
+            Some(next) if tells(alloc, item, to, from, next) => came = came.saturating_add(1),
+            _ => return None,
         }
-        left = rest;
     }
-    Some(left)
+    Some(came)
 }
 
 fn tells(alloc: Global, item: &Item, to: u32, from: u16, bytes: &[u8]) -> bool {
