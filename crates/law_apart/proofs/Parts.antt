@@ -52,7 +52,7 @@ cancel_stays id p = at (slice_get p.futures id) refl
     at (Some future) e = until future e future.outcome refl
 
 -- two things, one after the other
-stays_then : (p q r : Parts) (on : ℕ) → StaysOrIsCancelled p q on → StaysOrIsCancelled q r on → StaysOrIsCancelled p r on
+pub stays_then : (p q r : Parts) (on : ℕ) → StaysOrIsCancelled p q on → StaysOrIsCancelled q r on → StaysOrIsCancelled p r on
 stays_then p q r on (inl a) (inl b) = inl (b ∙ a)
 stays_then p q r on (inl a) (inr b) = inr (sym a ∙ b.0, b.1)
 stays_then p q r on (inr a) (inl b) = inr (a.0, b ∙ a.1)

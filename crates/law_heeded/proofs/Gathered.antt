@@ -1,5 +1,6 @@
 -- `gather`, `wait`, `shield` and `wait_for` keep to their own futures.
-use Rattle.std.proofs.Common.{◌≡◌, inl, inr, ℕ, zero, suc, ◌+◌, ℤ, Bool, true, false, List, [], ◌∷◌, ◌++◌, Option, Some, None, length, map, refl, sym, ap, subst, ◌∙◌}
+use Rattle.std.proofs.Common.{◌≡◌, inl, inr, ℕ, zero, suc, ◌+◌, ℤ, Bool, true, false, List, [], ◌∷◌, ◌++◌, Option, Some, None, length, map, refl, sym, ap}
+use Rattle.std.proofs.Common.{subst, ◌∙◌}
 use Rattle.std.proofs.Common.{append-nil, append_assoc, slice_get, slice_set, arith, le_refl, length-append}
 use Rattle.std.specs.Prelude.{if◌then◌else◌, filter, not}
 use Rattle.std.specs.List.{AllByRecursion as Each, flat_map}
@@ -13,7 +14,8 @@ use Rattle.model_machine.specs.Extra.{ExtraAnswer, ExtraCall, ExtraSaid, ExtraSt
 use Rattle.model_machine.specs.State.{State}
 use Rattle.model_machine.specs.Outcomes.{input_of}
 use Rattle.model_reach.specs.Part.{can_draw, key_at, passes, place_of, refuses, stays}
-use Rattle.model_gather.specs.Gathered.{Answered, Argument, Drawn, Expired, Expiring, Finished, Gathered, Gathering, Gathers, Rings, Shields, Tells, Timed, TimedState}
+use Rattle.model_gather.specs.Gathered.{Answered, Argument, Drawn, Expired, Expiring, Finished, Gathered, Gathering, Gathers, Rings, Shields, Tells, Timed}
+use Rattle.model_gather.specs.Gathered.{TimedState}
 use Rattle.model_gather.specs.Gathered.{TimedWait, WaitMode, Waits, WaitsFor, at_once, distinct, distinct_arguments, drawn_after, drawn_at, draws}
 use Rattle.model_gather.specs.Gathered.{futures_of, gather_part, own_in, registered_from, resolved, settled_as}
 use Rattle.model_gather.specs.Gather.{count, count_all, gather, gather_all}
@@ -286,7 +288,9 @@ module _ (s : State Gathered) where
   told_kept (Some (Rings other)) place future e = still_kept
 
   rung_kept : (o : Option Drawn) (place : ℕ) → slice_get s.extra.drawn place ≡ o → IsCallKept gather_means (rung o place s.loop.parts s.extra) s
-  rung_kept (Some (Waits it)) place e = same_kept s.extra.drawn (settled_as (Some resolved) it.on) refl (settled_fine (Some resolved) it.on (is_own_at place (Waits it) it.on e refl))
+  rung_kept (Some (Waits it)) place e =
+      same_kept s.extra.drawn (settled_as (Some resolved) it.on) refl
+      (settled_fine (Some resolved) it.on (is_own_at place (Waits it) it.on e refl))
   rung_kept (Some (WaitsFor it)) place e = set_kept place (WaitsFor it) _ _ e refl (tt, tt)
   rung_kept None place e = still_kept
   rung_kept (Some Answered) place e = still_kept

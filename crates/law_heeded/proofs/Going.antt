@@ -166,7 +166,8 @@ module _ {S : Type 0} (added : Extra S) where
     pub finish_goes : (end : Result Value Exc) (s : State S) → Nowhere (Some task) s → Goes s (unbooked_in (finish task end) s)
     finish_goes end s nowhere =
         loop_goes (Some task) s (in_parts (finish task end) s.loop) (kept_rows.finish_row task end s.loop)
-        (row_still (Some task) (in_parts_row s.loop (parts_rows.finish_row task end s.loop.parts))) (λ ours made below. finish_safe ours made below task end s.loop) nowhere
+        (row_still (Some task) (in_parts_row s.loop (parts_rows.finish_row task end s.loop.parts)))
+        (λ ours made below. finish_safe ours made below task end s.loop) nowhere
 
     -- ---- its step begins
     module _ (input : Input) (handle : Handle) (rest : List Handle) (s : State S) (first : s.loop.parts.pending ≡ handle ∷ rest)

@@ -15,7 +15,8 @@ use Rattle.model_reach.specs.Part.{can_draw, place_of, refuses, stays}
 use Rattle.model_sync.specs.Events.{waited}
 use Rattle.model_sync.specs.Locks.{acquired}
 use Rattle.model_sync.specs.Queues.{getting, putting}
-use Rattle.model_sync.specs.Serving.{Acquire, Clear, Get, IsLocked, IsSet, MakesEvent, MakesLock, MakesQueue, Put, Release, Set, Size, Wait, Wanted, asked_for, named}
+use Rattle.model_sync.specs.Serving.{Acquire, Clear, Get, IsLocked, IsSet, MakesEvent, MakesLock, MakesQueue, Put, Release, Set, Size, Wait, Wanted}
+use Rattle.model_sync.specs.Serving.{asked_for, named}
 use Rattle.model_sync.specs.Serving.{served, sync_means, wanted_of, woken}
 use Rattle.model_sync.specs.Synced.{Acquires, Awaits, Gets, Puts, Synced, Waiting, sync_keeps, sync_part, waiting_at}
 use Rattle.law_runs.specs.Allowed.{IsAmong}
@@ -35,14 +36,14 @@ missing_keeps = record {
 
 -- ---- locks, events and queues
 -- values are any
-abbrev Any : Value → Type 0
+abbrev pub Any : Value → Type 0
 Any value = Unit {0}
 
 any_values : (xs : List Value) → Each Any xs
 any_values [] = tt
 any_values (x ∷ xs) = (tt, any_values xs)
 
-any_puts : (wanted : Wanted) → PutsHold Any wanted
+pub any_puts : (wanted : Wanted) → PutsHold Any wanted
 any_puts (Put queue value) = tt
 any_puts MakesLock = tt
 any_puts (Acquire lock) = tt
@@ -58,13 +59,13 @@ any_puts (Get queue) = tt
 any_puts (Size queue) = tt
 
 module _ (s : State Synced) where
-  abbrev Old : ℕ → Type 0
+  abbrev pub Old : ℕ → Type 0
   Old id = IsAmong (sync_keeps s.extra).own id
 
   abbrev first : ℕ
   first = next_future s.loop.parts
 
-  holds : Holds Old Any s.extra
+  pub holds : Holds Old Any s.extra
   holds =
       holds_from Old Any s.extra (each_from Old (sync_keeps s.extra).own (λ id among. among)) (any_values (sync_keeps s.extra).values)
 

@@ -1,5 +1,6 @@
 -- What goes on holds after a step, a callback and a turn, after each callback of a turn, and of every state of a run.
-use Rattle.std.proofs.Common.{◌≡◌, ◌⊎◌, inl, inr, ℕ, ◌<◌, zero, suc, Bool, true, false, cond, not, ◌&&◌, List, [], ◌∷◌, Option, Some, None, Result, Ok, Err, length, slice_get}
+use Rattle.std.proofs.Common.{◌≡◌, ◌⊎◌, inl, inr, ℕ, ◌<◌, zero, suc, Bool, true, false, cond, not, ◌&&◌, List, [], ◌∷◌, Option, Some, None, Result, Ok, Err}
+use Rattle.std.proofs.Common.{length, slice_get}
 use Rattle.std.proofs.Common.{nat_lt, refl, sym, ap, subst, ◌∙◌, arith, if◌then◌else◌}
 use Rattle.std.proofs.lemmas.Bool.{eq-eqb, false≢true}
 use Rattle.std.proofs.lemmas.Option.{none-some}
@@ -49,7 +50,8 @@ use Rattle.law_walk.proofs.Trees.{asked_comes}
 use Rattle.law_heeded.specs.Owned.{AreApart, KeepsToItsFutures}
 use Rattle.law_heeded.specs.Runs.{AfterTurn, IsRunOf}
 use Rattle.law_heeded.specs.Walks.{Cancels, IsResumed, Walks, heard, hears, runs, waits_for_none}
-use Rattle.law_heeded.proofs.Going.{Both, awake, awake_nowhere, begin_goes, end_goes, finish_goes, first_goes, out_goes, point, ran_apart, resumed_goes, selected_goes}
+use Rattle.law_heeded.proofs.Going.{Both, awake, awake_nowhere, begin_goes, end_goes, finish_goes, first_goes, out_goes, point, ran_apart, resumed_goes}
+use Rattle.law_heeded.proofs.Going.{selected_goes}
 use Rattle.law_heeded.proofs.Going.{woken_goes}
 use Rattle.law_heeded.proofs.Owning.{call_apart}
 use Rattle.law_heeded.proofs.Serving.{Inside, LeavesBy, Outside, decides_in, inside_on, nobody, reply_in}
@@ -247,7 +249,8 @@ module _ {S : Type 0} {added : Extra S} {Holds : State S → Type 0} {Called : (
         let gone = runs (action.ExtraItem code bytes) rest s in
         record {
           holds = walks.news code bytes handle rest s first live is it.apart it.holds;
-          apart = call_apart added (added.item code bytes gone) gone (owns.item code bytes gone) (ran_apart added (action.ExtraItem code bytes) handle rest s first it.apart);
+          apart = call_apart added (added.item code bytes gone) gone (owns.item code bytes gone)
+              (ran_apart added (action.ExtraItem code bytes) handle rest s first it.apart);
         }
     live_in _ is live steps_it = absurd (false≢true steps_it)
 

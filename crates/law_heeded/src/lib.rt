@@ -34,8 +34,8 @@ pub fn the_router_keeps_to_its_futures<A, B, C, D>()
 /// In each state of each run the futures of what is added are held by nothing else: by no sleep, no
 /// group, no connection and no child, no script and no task.
 pub fn nothing_else_holds_them<S>()
-    ensures runs { (added : Extra S) → KeepsToItsFutures added → KeepsSound added → (most : ℕ)
-        (state : S) (program : Program) (answers : List Entry) (turns : ℕ)
+    ensures runs { (added : Extra S) → KeepsToItsFutures added → KeepsSound added
+        → (most : ℕ) (state : S) (program : Program) (answers : List Entry) (turns : ℕ)
         → NamesNothing (added.keeps state)
         → IsRunOf (AreApart added) step_limit added turns (start most state program answers) }
 {}

@@ -11,7 +11,8 @@ use Rattle.model_says.specs.Operations.{out_of_range}
 use Rattle.model_reach.specs.Part.{can_draw, place_of, refuses}
 use Rattle.model_sync.specs.Serving.{Wanted, asked_for, served, wanted_of, woken}
 use Rattle.model_sync.specs.Synced.{Lock, Synced, Waiting, none_synced, sync_part, waiting_at}
-use Rattle.law_locks.specs.Locks.{Hears, IsHeeded, LeavesWaiters, LocksKeep, StaysOrIsCancelled}
+use Rattle.law_apart.specs.Apart.{StaysOrIsCancelled}
+use Rattle.law_locks.specs.Locks.{Hears, IsHeeded, LeavesWaiters, LocksKeep}
 use Rattle.law_locks.specs.Tries.{Asks, GoesOn, Reply, Try, asked_reply, kept_after, loop_of, replies, reply_to, said_of, wanted_by, woken_reply}
 use Rattle.law_locks.proofs.Served.{serves_is}
 use Rattle.law_locks.proofs.Named.{AreMade, resumes_is, try_made, waiting_made}

@@ -1,4 +1,4 @@
-mod Served
+pub mod Served
 mod Named
 mod Values
 mod Sizes

@@ -20,7 +20,7 @@ use Rattle.law_cancel.proofs.Effects.{done_as, settle-futures}
 use Rattle.law_cancel.proofs.Lookups.{get-set_same}
 use Rattle.law_steps.proofs.Settling.{settle_cases}
 use Rattle.law_sync.proofs.Lists.{all_each, each_append, each_both, each_found, each_on, each_removed}
-use Rattle.law_locks.specs.Locks.{StaysOrIsCancelled}
+use Rattle.law_apart.specs.Apart.{StaysOrIsCancelled}
 use Rattle.law_locks.proofs.Named.{found_within, none_some}
 
 -- ---- outcomes

@@ -25,7 +25,7 @@ use Rattle.law_calls.proofs.Turning.{run_in}
 use Rattle.law_locks.specs.Runs.{ComesByTries, is_of_sync, is_sync_code, served_in, tries_in, tries_of}
 use Rattle.law_locks.specs.Tries.{Asks, GoesOn, Reply, Try, kept_after, replies, said_of}
 
-after-append : (first next : List Try) (kept : Synced) → kept_after (first ++ next) kept ≡ kept_after next (kept_after first kept)
+pub after-append : (first next : List Try) (kept : Synced) → kept_after (first ++ next) kept ≡ kept_after next (kept_after first kept)
 after-append [] next kept = refl
 after-append (it ∷ first) next kept = after-append first next (said_of it kept).call.state
 
@@ -106,7 +106,7 @@ module _ {A C D : Type 0} (limit : ℕ) (gather : Extra A) (exec : Extra C) (dgr
   woken_by key input s is = ap (λ part. (part_as gather sync_means exec dgram part).wake key input s) is
 
   -- ---- of all
-  tried : {first last : Told S} → (history : IsHistory limit added first last) → kept_after (tries_of history) first.extra.sync ≡ last.extra.sync
+  pub tried : {first last : Told S} → (history : IsHistory limit added first last) → kept_after (tries_of history) first.extra.sync ≡ last.extra.sync
   tried stays = refl
   tried {first = first} (goes history it may) =
       after-append (tries_of history) (tries_in it) first.extra.sync ∙ ap (kept_after (tries_in it)) (tried history) ∙ call_tried it _ may

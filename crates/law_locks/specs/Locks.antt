@@ -14,6 +14,7 @@ use Rattle.model_reach.specs.Part.{place_of}
 use Rattle.model_sync.specs.Queues.{got_value}
 use Rattle.model_sync.specs.Serving.{Acquire, Release, Wanted}
 use Rattle.model_sync.specs.Synced.{Acquires, Lock, Synced, sync_part, waiting_at}
+use Rattle.law_apart.specs.Apart.{StaysOrIsCancelled}
 use Rattle.law_locks.specs.Queues.{is_number}
 use Rattle.law_locks.specs.Tries.{Asks, GoesOn, Reply, Try, loop_of, said_of}
 
@@ -73,11 +74,6 @@ pub record LocksKeep (replies : List Reply) (p : Parts) (kept : Synced) : Type 0
   pub wakeups : IsWakeupKept p kept
 
 -- ---- what that needs of the loop
--- a future that stays as it is, or was pending and is cancelled
-abbrev pub StaysOrIsCancelled : (p q : Parts) → ℕ → Type 0
-StaysOrIsCancelled p q on =
-    (future_outcome q on ≡ future_outcome p on) ⊎ ((future_outcome p on ≡ None) × (future_outcome q on ≡ Some Cancelled))
-
 -- Between two tries nobody settles the future of one who waits for a lock, but by a cancel.
 pub record LeavesWaiters (kept : Synced) (p q : Parts) : Type 0 where
   pub made : next_future p ≤ next_future q
