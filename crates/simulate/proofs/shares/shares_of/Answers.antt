@@ -1,4 +1,4 @@
-use Rattle.std.proofs.Common.{◌≡◌, ◌≤◌, ◌+◌, ◌-◌, refl, arith}
+use Rattle.std.proofs.Common.{◌+◌, ◌-◌, refl, arith}
 use Rattle.std.proofs.Math.Nat.{div-le_self}
 use Rattle.simulate.proofs.Ends.{Covers-none, Covers-snoc}
 use Rattle.simulate.proofs.shares.shares_of.Goals as goal
