@@ -21,6 +21,9 @@ MANY = 100_000
 def running(program, name, folder):
     """A run that is recorded, while its endpoint is open. At the end it must end by itself, and its replay must write the same."""
     journal = os.path.join(folder, f"{name}.journal")
+    # (a record is appended to what another part left)
+    with contextlib.suppress(FileNotFoundError):
+        os.remove(journal)
     run = subprocess.Popen([program, "run", edges.script(name), "--record", journal], stdout=subprocess.PIPE)
     said = []
     try:
