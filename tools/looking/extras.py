@@ -1,7 +1,7 @@
-"""What is added to the loop's requests, of a run that is followed: waiting for several; locks, events and queues; jobs.
+"""What is added to the loop's requests, of a run that is followed: waiting for several; locks, events and queues; jobs; datagrams.
 
-docs/LANGUAGE.md has the tables; `crates/model_gather`, `crates/model_sync` and `crates/model_exec` define them. Each request draws
-a key of its part, and each handle of it a further one.
+docs/LANGUAGE.md has the tables; `crates/model_gather`, `model_sync`, `model_exec` and `model_dgram` define them. Each request
+draws a key of its part, and each handle of it a further one.
 """
 
 from collections import deque
@@ -422,11 +422,158 @@ class Jobs(Part):
         return bool(self.going)
 
 
+MOST_SENT, MOST_HELD = 65507, 1024
+SHAPES = {400: (int,), 401: (int, int, bytes), 402: (int,), 403: (int,)}
+
+
+def number_in(told):
+    return int(told) if told.isdigit() else None
+
+
+class Endpoint:
+    """What came and wasn't received, who sends in order of asking, and on what a receiver waits."""
+
+    def __init__(self):
+        self.held, self.senders, self.receiver = deque(), [], None
+
+
+class Sender:
+    def __init__(self, number, port, sent):
+        self.number, self.port, self.sent, self.on = number, port, sent, Future()
+
+
+class Datagrams(Part):
+    """Datagram endpoints, those that are open by their numbers."""
+
+    def __init__(self, run, number):
+        super().__init__(run, number)
+        self.opened, self.endpoints = 0, {}
+
+    def ask(self, task, code, arguments):
+        if code in SHAPES:
+            if tuple(map(type, arguments)) != SHAPES[code]:
+                raise failure("TypeError", "bad argument")
+            self.may_draw()
+            self.draw()
+        return super().ask(task, code, arguments)
+
+    def at(self, number):
+        if number in self.endpoints:
+            return self.endpoints[number]
+        raise failure("RuntimeError", "closed") if 0 <= number < self.opened else failure("ValueError", "no such endpoint")
+
+    def wakes(self, on):
+        if on:
+            self.run.loop.settle(on, "value", None)
+
+    def ask_400(self, task, arguments):
+        port = may_be_port(arguments[0])
+        answer = self.run.ask("extra", 400, b"%d" % port)
+        if answer[0] == "refused":
+            raise failure("OSError", "extra refused")
+        if number_in(answer[1]) != self.opened:
+            raise failure("OSError", "extra answer")
+        self.endpoints[self.opened] = Endpoint()
+        self.opened += 1
+        return self.opened - 1
+
+    # ---- send
+    def ask_401(self, task, arguments):
+        number, port, sent = arguments
+        endpoint = self.at(number)
+        may_be_port(port)
+        if len(sent) > MOST_SENT:
+            raise failure("ValueError", "datagram")
+        if not sent:
+            return None
+        sender = Sender(number, port, sent)
+        endpoint.senders.append(sender)
+        return self.offers(sender) if endpoint.senders[0] is sender else self.waits(sender)
+
+    def offers(self, it):
+        answer = self.run.ask("extra", 401, b"%d %d %s" % (it.number, it.port, it.sent))
+        if answer[1:] == (b"again",):
+            return self.waits(it)
+        self.leaves(it)
+        if answer[1:] != (b"sent",):
+            raise failure("OSError", "extra refused" if answer[0] == "refused" else "send failed")
+
+    def waits(self, it):
+        it.on = Future()
+
+        def woken(value, thrown):
+            if thrown is not None:
+                self.leaves(it)
+                raise Raised(thrown)
+            self.at(it.number)
+            return self.offers(it)
+        raise Waits(it.on, f"sends from endpoint {it.number}", woken)
+
+    def leaves(self, it):
+        endpoint = self.endpoints.get(it.number)
+        if endpoint and it in endpoint.senders:
+            was_first = endpoint.senders[0] is it
+            endpoint.senders.remove(it)
+            if was_first and endpoint.senders:
+                self.wakes(endpoint.senders[0].on)
+
+    # ---- receive and close
+    def ask_402(self, task, arguments):
+        number, = arguments
+        endpoint = self.at(number)
+        if endpoint.held:
+            return endpoint.held.popleft()
+        if endpoint.receiver:
+            raise failure("RuntimeError", "receive is already waited for")
+        return self.receives(number)
+
+    def receives(self, number):
+        on = self.endpoints[number].receiver = Future()
+
+        def woken(value, thrown):
+            endpoint = self.endpoints.get(number)
+            if endpoint and (thrown is not None or endpoint.held):
+                endpoint.receiver = None
+            if thrown is not None:
+                raise Raised(thrown)
+            held = self.at(number).held
+            return held.popleft() if held else self.receives(number)
+        raise Waits(on, f"receives at endpoint {number}", woken)
+
+    def ask_403(self, task, arguments):
+        number, = arguments
+        endpoint = self.at(number)
+        del self.endpoints[number]
+        for on in [*(it.on for it in endpoint.senders), endpoint.receiver]:
+            self.wakes(on)
+        self.run.ask("extra", 403, b"%d" % number)
+
+    def news(self, code, told):
+        number, _, rest = told.partition(b" ")
+        endpoint = self.endpoints.get(number_in(number))
+        if code == 401 and endpoint and number == told and endpoint.senders:
+            self.wakes(endpoint.senders[0].on)
+        port, space, came = rest.partition(b" ")
+        if code == 402 and endpoint and space and number_in(port) in range(1, 65536):
+            if len(endpoint.held) < MOST_HELD:
+                endpoint.held.append((int(port), came))
+            self.wakes(endpoint.receiver)
+
+    def watches(self):
+        return bool(self.endpoints)
+
+
+def may_be_port(port):
+    if not 1 <= port <= 65535:
+        raise failure("ValueError", "port")
+    return port
+
+
 class Extras:
     """What serves added requests, by the hundreds of their codes."""
 
     def __init__(self, run):
-        self.parts = (Gathering(run, 0), Syncing(run, 1), Jobs(run, 2))
+        self.parts = (Gathering(run, 0), Syncing(run, 1), Jobs(run, 2), Datagrams(run, 3))
 
     def serves(self, code):
         return 1 <= code // 100 <= len(self.parts)
