@@ -120,12 +120,7 @@ impl Endpoint {
     }
 
     /// One leaves the line, and where it stood first the next is woken. It takes no memory.
-    pub fn leave_line(
-        &mut self,
-        place: u64,
-        waiting: &BTreeMap<u64, Waiting>,
-        parts: &mut Parts,
-    )
+    pub fn leave_line(&mut self, place: u64, waiting: &BTreeMap<u64, Waiting>, parts: &mut Parts)
         requires idle { parts.old.called ≡ None }
         requires free { are_free parts.old.futures (own_in waiting.now.entries) ≡ true }
         ensures after { self.new ≡ record self.old { senders = without place self.old.senders } }

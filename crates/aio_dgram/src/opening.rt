@@ -158,12 +158,7 @@ impl Dgram {
 
     /// The endpoint is closed, what it holds is dropped, and all who wait are woken. The outside is
     /// asked to close it.
-    pub fn close(
-        &mut self,
-        alloc: Global,
-        number: i64,
-        parts: &mut Parts,
-    ) -> Result<Asked, Memory>
+    pub fn close(&mut self, alloc: Global, number: i64, parts: &mut Parts) -> Result<Asked, Memory>
         requires idle { parts.old.called ≡ None }
         requires free { are_free parts.old.futures (own_of self.old) ≡ true }
         requires room { key_at dgram_part self.old.drawn < no_key }

@@ -25,8 +25,8 @@ use crate::said::{closed, send_failed};
 use crate::waiting::Waiting;
 use aio_base::{Blob, Input, Kind, Memory, Value, ValueCase};
 use aio_extra::Asked;
-use aio_text::number;
 use aio_task::Parts;
+use aio_text::number;
 use std::alloc::Global;
 use std::rc::RcSlice;
 
@@ -235,7 +235,13 @@ impl Dgram {
     }
 
     // One that doesn't stand first waits on.
-    fn wait_again(&mut self, alloc: Global, key: u64, place: u64, parts: &mut Parts) -> Result<Asked, Memory>
+    fn wait_again(
+        &mut self,
+        alloc: Global,
+        key: u64,
+        place: u64,
+        parts: &mut Parts,
+    ) -> Result<Asked, Memory>
         requires idle { parts.old.called ≡ None }
         ensures { IfOk result (λ asked. (id : ℕ) (it : texts.Datagram) (on : ℕ)
             → waiting_at place (kept_of self.old) ≡ Some (plain.Sends id it on)
