@@ -1,6 +1,5 @@
 -- What is kept of datagrams is what their notes tell, whatever happens.
-use Rattle.std.proofs.Common.{◌≡◌, ℕ, List, [], ◌∷◌, ◌++◌, map, sym, subst}
-use Rattle.model_dgram.specs.Receiving.{told_as}
+use Rattle.std.proofs.Common.{List, [], ◌∷◌, ◌++◌, sym, subst}
 use Rattle.model_dgram.specs.Endpoints.{Endpoints, endpoint_at, none_opened}
 use Rattle.law_datagrams.specs.Notes.{DatagramsKeep, Note, sent_on, wanted_on}
 use Rattle.law_datagrams.specs.Tries.{Try, kept_after, noted, notes, now_of}

@@ -1,14 +1,13 @@
 -- Whatever happens, what receives gave, and then what is held, is part of what came.
-use Rattle.std.proofs.Common.{◌≡◌, ℕ, ℤ, pos, negsuc, ◌+◌, ◌<◌, ◌⊎◌, inl, inr, Bool, true, false, cond, List, [], ◌∷◌, ◌++◌, Option, Some, None, length, map}
-use Rattle.std.proofs.Common.{refl, sym, ap, subst, ◌∙◌, arith}
+use Rattle.std.proofs.Common.{◌≡◌, ℕ, ℤ, pos, negsuc, ◌+◌, Bool, true, false, List, [], ◌∷◌, ◌++◌, Option, Some, None, length}
+use Rattle.std.proofs.Common.{refl, sym, ap, subst}
 use Rattle.std.specs.Prelude.{◌==◌, codes, nat_lt, if◌then◌else◌}
 use Rattle.std.specs.Fmt.{decimal}
-use Rattle.std.specs.List.{AllByRecursion as Each, flat_map}
-use Rattle.std.specs.Map.{lookup, remove_entry, set_value}
-use Rattle.std.proofs.lemmas.Bool.{cases_eq, eq-eqb, ne_eqb}
+use Rattle.std.specs.List.{AllByRecursion as Each}
+use Rattle.std.specs.Map.{remove_entry}
 use Rattle.model_value.specs.Input.{Input}
 use Rattle.model_value.specs.Number.{number_of}
-use Rattle.model_value.specs.Value.{Exc, Int, Nothing, Value}
+use Rattle.model_value.specs.Value.{Exc, Int, Nothing}
 use Rattle.model_value.specs.declared.input.Input.TheVariants.{Send, Throw}
 use Rattle.model_loop.specs.Futures.{next_future}
 use Rattle.model_loop.specs.Parts.{Parts}
@@ -21,17 +20,14 @@ use Rattle.model_dgram.specs.Texts.{Came, Datagram, came_in, most_sent, offer_te
 use Rattle.model_dgram.specs.Endpoints as endpoints
 use Rattle.model_dgram.specs.Endpoints.{Endpoint, Endpoints, Waiting, answers, dgram_part, endpoint_at, fresh, is_closed, next_key, no_endpoint, none_opened}
 use Rattle.model_dgram.specs.Endpoints.{on_endpoint, raises, says, set_endpoint, wait_again, wait_last, wait_over, waiting_at, wakes_at, wakes_first, wakes_receiver}
-use Rattle.model_dgram.specs.Opening.{close, closed, is_next, no_port, open_on, opened, other_answer}
+use Rattle.model_dgram.specs.Opening.{close, is_next, no_port, open_on, opened, other_answer}
 use Rattle.model_dgram.specs.Sending.{asks_again, has_room, is_answer, leaves, offer, offered, send, send_failed, sends_again, stand_last, stands_first, too_long}
 use Rattle.model_dgram.specs.Receiving.{came, gives_up, hold, receive, received, receives_again, told_as, waited_for, waits_for}
 use Rattle.model_dgram.specs.Serving.{Close, Open, Receive, SendTo, Wanted, asked_for, served, told, wanted_of, woken}
-use Rattle.law_sync.proofs.Lists.{each_append, each_on, each_removed, each_replaced}
-use Rattle.law_jobs.proofs.Entries.{Distinct, at, last_distinct, last_none, last_some, removed_distinct, removed_here, removed_other, set_distinct, set_here, set_other}
-use Rattle.law_dgram.proofs.Tidying.{each_changed}
-use Rattle.law_datagrams.specs.Notes.{Comes, Gives, Note, Sent, IsPartOf, come_by, come_on, gathered, given_by, given_on, held_of, held_on}
-use Rattle.law_datagrams.specs.Tries.{Asks, GoesOn, HasNews, Try, asked_note, came_note, gives_note, gone_note, line_note, news_note, noted, now_of, sent_note}
+use Rattle.law_sync.proofs.Lists.{each_append}
+use Rattle.law_datagrams.specs.Notes.{Comes, Gives, Note, Sent}
+use Rattle.law_datagrams.specs.Tries.{Asks, GoesOn, HasNews, Try, asked_note, came_note, gone_note, line_note, news_note, noted, now_of, sent_note}
 use Rattle.law_datagrams.specs.Tries.{wanted_note, woken_note}
-use Rattle.law_datagrams.proofs.Noting.{gathered_last}
 use Rattle.law_datagrams.proofs.Parts.{no_more}
 use Rattle.law_datagrams.proofs.Receives.{IsQuiet, KeepsReceives, closed_one, gave, held_one, kept_same, noted_quietly, opened_one, passed_over, set_quiet}
 

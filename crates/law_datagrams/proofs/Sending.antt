@@ -1,11 +1,11 @@
 -- Whatever happens, what was sent is in order of asking, whole and once.
-use Rattle.std.proofs.Common.{◌≡◌, ℕ, ℤ, pos, negsuc, ◌+◌, ◌<◌, ◌⊎◌, inl, inr, Bool, true, false, cond, List, [], ◌∷◌, ◌++◌, Option, Some, None, length, map}
+use Rattle.std.proofs.Common.{◌≡◌, ℕ, ℤ, pos, negsuc, ◌+◌, ◌<◌, Bool, true, false, cond, List, [], ◌∷◌, ◌++◌, Option, Some, None, length}
 use Rattle.std.proofs.Common.{refl, sym, ap, subst, ◌∙◌, arith}
 use Rattle.std.specs.Prelude.{◌==◌, ◌&&◌, ◌||◌, codes, nat_le, nat_lt, not, if◌then◌else◌}
 use Rattle.std.specs.Fmt.{decimal}
-use Rattle.std.specs.List.{AllByRecursion as Each, flat_map}
-use Rattle.std.specs.Map.{lookup, remove_entry, set_value}
-use Rattle.std.proofs.lemmas.Bool.{cases_eq, eq-eqb, ne_eqb}
+use Rattle.std.specs.List.{AllByRecursion as Each}
+use Rattle.std.specs.Map.{remove_entry, set_value}
+use Rattle.std.proofs.lemmas.Bool.{eq-eqb, ne_eqb}
 use Rattle.model_value.specs.Input.{Input}
 use Rattle.model_value.specs.Number.{number_of}
 use Rattle.model_value.specs.Value.{Exc, Int, Nothing, Value}
@@ -21,22 +21,21 @@ use Rattle.model_dgram.specs.Texts.{Came, Datagram, came_in, most_sent, offer_te
 use Rattle.model_dgram.specs.Endpoints as endpoints
 use Rattle.model_dgram.specs.Endpoints.{Endpoint, Endpoints, Waiting, answers, dgram_part, endpoint_at, fresh, is_closed, next_key, no_endpoint, none_opened}
 use Rattle.model_dgram.specs.Endpoints.{on_endpoint, raises, says, set_endpoint, wait_again, wait_last, wait_over, waiting_at, wakes_at, wakes_first, wakes_receiver}
-use Rattle.model_dgram.specs.Opening.{close, closed, is_next, no_port, open_on, opened, other_answer}
+use Rattle.model_dgram.specs.Opening.{close, is_next, no_port, open_on, opened, other_answer}
 use Rattle.model_dgram.specs.Sending.{asks_again, has_room, is_answer, leaves, offer, offered, send, send_failed, sends_again, stand_last, stands_first, too_long}
 use Rattle.model_dgram.specs.Receiving.{came, gives_up, hold, receive, received, receives_again, told_as, waited_for, waits_for}
 use Rattle.model_dgram.specs.Serving.{Close, Open, Receive, SendTo, Wanted, asked_for, served, told, wanted_of, woken}
-use Rattle.law_sync.proofs.Lists.{each_append, each_on, each_removed, each_replaced}
 
 use Rattle.law_jobs.proofs.Entries.{at, last_here, removed_found, removed_here, set_here}
 use Rattle.law_datagrams.specs.Notes.{AreBorneOut, IsBorneOut, IsPartOf, Note, is_answered_in, is_any, is_offered_in, is_sent_in, sent_on, was_answered, was_offered, was_sent}
 use Rattle.law_datagrams.specs.Notes.{wanted_on}
 use Rattle.law_datagrams.specs.Notes as said
-use Rattle.law_datagrams.specs.Tries.{Asks, GoesOn, HasNews, Try, asked_note, came_note, gives_note, gone_note, line_note, news_note, noted, now_of, sent_note}
+use Rattle.law_datagrams.specs.Tries.{Asks, GoesOn, HasNews, Try, asked_note, came_note, gone_note, line_note, news_note, noted, now_of}
 use Rattle.law_datagrams.specs.Tries.{wanted_note, woken_note}
 use Rattle.law_datagrams.proofs.Noting.{any_last, borne_last}
 use Rattle.law_datagrams.proofs.Parts.{appended, fewer, no_more, within}
-use Rattle.law_datagrams.proofs.Sends.{IsNoSender, IsOffered, IsStill, KeepsSends, StandsBy, any_still, below_at, closes_one, draws, head_of, line_left, line_of, noted_still}
-use Rattle.law_datagrams.proofs.Sends.{nothing_sent, offers_now, opens_one, set_still, stands_now, waits_again, waits_changed, waits_in_line, waits_last, waits_over}
+use Rattle.law_datagrams.proofs.Sends.{IsOffered, IsStill, KeepsSends, StandsBy, any_still, below_at, closes_one, draws, head_of, line_left, line_of, noted_still}
+use Rattle.law_datagrams.proofs.Sends.{nothing_sent, offers_now, opens_one, set_still, stands_now, waits_again, waits_in_line, waits_last, waits_over}
 use Rattle.law_datagrams.proofs.Sends.{was_line, was_sent_now, without_part}
 
 pub record Keeps (before : List Note) (kept : Endpoints) : Type 0 where
@@ -173,7 +172,7 @@ module _ (before : List Note) (kept : Endpoints) (k : Keeps before kept) where
               (ap (λ senders. stands_first kept.drawn (senders ++ kept.drawn ∷ [])) none ∙ eq-eqb kept.drawn kept.drawn refl);
           borne_out =
               borne_last [] (before ++ wants ∷ []) (said.Offers kept.drawn (offer_text id it)) first.borne_out
-              (record { endpoint = id; it = it }, (by.0, (refl, by.1)));
+              (record { endpoint = id; it = it }, (by.0, refl, by.1));
           alike = λ request.
               any_still (before ++ wants ∷ []) (said.Offers kept.drawn (offer_text id it)) (is_sent_in request) refl ∙ first.alike request
               ∙ sym (any_still (before ++ wants ∷ []) (said.Offers kept.drawn (offer_text id it)) (is_answered_in request) refl);
@@ -359,7 +358,7 @@ module _ (before : List Note) (kept : Endpoints) (k : Keeps before kept) where
         asks endpoint e true first = record {
           sends = offers_now before kept k.sends place id it on endpoint (offer_text id it) waits e first;
           borne_out =
-              borne_last [] before (said.Offers place (offer_text id it)) k.borne_out (record { endpoint = id; it = it }, (stands.0, (refl, stands.1)));
+              borne_last [] before (said.Offers place (offer_text id it)) k.borne_out (record { endpoint = id; it = it }, (stands.0, refl, stands.1));
           alike = λ request.
               any_still before (said.Offers place (offer_text id it)) (is_sent_in request) refl ∙ k.alike request
               ∙ sym (any_still before (said.Offers place (offer_text id it)) (is_answered_in request) refl);
@@ -399,8 +398,8 @@ module _ (before : List Note) (kept : Endpoints) (k : Keeps before kept) where
             sends = noted_still (before ++ sent ∷ []) now h (said.Answers place Nothing) (still_answers place Nothing);
             borne_out =
                 borne_last [] (before ++ sent ∷ []) (said.Answers place Nothing)
-                (borne_last [] before sent k.borne_out (it, (by_it.wants, (by_it.offered, by_it.unsent))))
-                (refl, (is_now, (any_still before sent (is_answered_in place) refl ∙ sym (k.alike place) ∙ by_it.unsent)));
+                (borne_last [] before sent k.borne_out (it, (by_it.wants, by_it.offered, by_it.unsent)))
+                (refl, is_now, any_still before sent (is_answered_in place) refl ∙ sym (k.alike place) ∙ by_it.unsent);
             alike = λ request.
                 any_last (is_sent_in request) (before ++ sent ∷ []) (said.Answers place Nothing)
                 ∙ or_false (is_any (is_sent_in request) (before ++ sent ∷ []))

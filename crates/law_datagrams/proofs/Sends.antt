@@ -2,16 +2,16 @@
 use Rattle.std.proofs.Common.{◌≡◌, ℕ, ◌+◌, ◌<◌, ◌≤◌, ◌⊎◌, inl, inr, Bool, true, false, cond, List, [], ◌∷◌, ◌++◌, Option, Some, None, refl, sym, ap, subst, ◌∙◌, arith}
 use Rattle.std.specs.Prelude.{◌==◌, ◌||◌, not, if◌then◌else◌}
 use Rattle.std.specs.List.{AllByRecursion as Each}
-use Rattle.std.specs.Map.{lookup, remove_entry, set_value}
+use Rattle.std.specs.Map.{remove_entry, set_value}
 use Rattle.std.proofs.lemmas.Bool.{cases_eq, eq-eqb, eqb-true, false≢true, ne_eqb}
 use Rattle.model_sync.specs.Synced.{is_place, without}
-use Rattle.model_dgram.specs.Texts.{Datagram, offer_text}
+use Rattle.model_dgram.specs.Texts.{Datagram}
 use Rattle.model_dgram.specs.Endpoints as endpoints
 use Rattle.model_dgram.specs.Endpoints.{Endpoint, Endpoints, Waiting, endpoint_at, fresh, none_opened, set_endpoint, wait_again, wait_last, wait_over, waiting_at}
 use Rattle.model_dgram.specs.Sending.{stand_last, stands_first}
-use Rattle.law_sync.proofs.Lists.{each_append, each_found, each_on, each_removed}
+use Rattle.law_sync.proofs.Lists.{each_append, each_on, each_removed}
 use Rattle.law_dgram.proofs.Tidying.{each_changed}
-use Rattle.law_jobs.proofs.Entries.{Distinct, at, last_distinct, last_here, last_none, last_other, last_some, removed_distinct, removed_found, removed_here, removed_other}
+use Rattle.law_jobs.proofs.Entries.{Distinct, at, last_distinct, last_none, last_other, last_some, removed_distinct, removed_found, removed_here, removed_other}
 use Rattle.law_jobs.proofs.Entries.{set_distinct, set_here, set_other}
 use Rattle.law_datagrams.specs.Notes.{IsPartOf, Note, Offers, Sent, Wanted, Wants, first_of, gathered, is_any, is_offered_in, is_sent_in, sent_by, sent_on, wanted_by}
 use Rattle.law_datagrams.specs.Notes.{wanted_in, wanted_of, wanted_on, was_offered, was_sent}
@@ -329,7 +329,7 @@ module _ (before : List Note) (kept : Endpoints) (k : KeepsSends before kept) wh
       on place (endpoints.Receives other on_) e h = tt
       on place endpoints.Closes e h = tt
 
-  was_line : (id : ℕ) (endpoint : Endpoint) → endpoint_at id kept ≡ Some endpoint → IsPartOf (sent_on id before ++ endpoint.senders) (wanted_on id before)
+  pub was_line : (id : ℕ) (endpoint : Endpoint) → endpoint_at id kept ≡ Some endpoint → IsPartOf (sent_on id before ++ endpoint.senders) (wanted_on id before)
   was_line id endpoint is = subst (λ o. IsPartOf (sent_on id before ++ line_of o) (wanted_on id before)) is (k.lines id)
 
   -- its line stays

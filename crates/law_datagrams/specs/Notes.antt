@@ -1,8 +1,6 @@
 -- What is noted of datagrams, in order, and what users of them rely on.
 use Rattle.std.specs.Prelude.{◌≡◌, ◌⊎◌, ℕ, ◌==◌, Bool, true, false, ◌||◌, List, [], ◌∷◌, ◌++◌, Option, Some, None, map, if◌then◌else◌}
-use Rattle.std.specs.Map.{lookup}
 use Rattle.model_value.specs.Value.{Exc, Nothing, Value}
-use Rattle.model_sync.specs.Synced.{is_place}
 use Rattle.model_dgram.specs.Texts.{Datagram, offer_text}
 use Rattle.model_dgram.specs.Endpoints.{Endpoint, Endpoints, endpoint_at}
 use Rattle.model_dgram.specs.Receiving.{told_as}
