@@ -1,2 +1,6 @@
 mod Places
 mod Woken
+mod Kept
+mod Answering
+mod Same
+mod Lifting

@@ -1,15 +1,17 @@
 //! One endpoint that is open.
-ghost use Rattle.std.specs.Prelude.{◌≡◌, ◌<◌, ◌++◌, ◌∷◌, [], List, None, true, not, is_some, OnOk, MatchOption, length, nat_lt};
+ghost use Rattle.std.specs.Prelude.{◌≡◌, ◌<◌, ◌++◌, ◌∷◌, [], List, None, true, not, is_some, OnOk, MatchOption, length, nat_lt, if◌then◌else◌};
 ghost use Rattle.std.specs.List.{AllByRecursion as Each, flat_map};
 ghost use Rattle.model_sync.specs.Synced.{without};
 ghost use Rattle.model_dgram.specs.Endpoints.{fresh, most_held, wakes_at, wakes_first, wakes_receiver};
 ghost use Rattle.model_dgram.specs.Sending.{stand_last, stands_first};
+ghost use Rattle.model_dgram.specs.Receiving.{hold};
 ghost use Rattle.model_dgram.specs.Texts as texts;
 ghost use Rattle.aio_sync.specs.Woken.{are_free, is_free, woken};
 ghost use Rattle.aio_dgram.specs.Keeps.{own_in, waits};
+ghost use Rattle.aio_dgram.specs.Told.{came_as};
 ghost use Rattle.aio_dgram.specs.Woken.{Sees};
 
-use crate::datagram::Datagram;
+use crate::datagram::{Came, Datagram};
 use crate::waiting::Waiting;
 use aio_base::{Memory, Outcome, Value};
 use aio_task::{FutureId, Parts};
@@ -100,8 +102,8 @@ impl Endpoint {
         Ok(())
     }
 
-    /// Whether this one stands first in line.
-    pub fn is_first(&self, place: u64) -> bool
+    // Whether this one stands first in line.
+    fn is_first(&self, place: u64) -> bool
         ensures { result ≡ stands_first place self.now.senders }
     {
         match self.senders.first() {
@@ -110,11 +112,27 @@ impl Endpoint {
         }
     }
 
-    /// One leaves the line. It takes no memory.
-    pub fn leave(&mut self, place: u64)
+    // One is no more in line.
+    fn leave(&mut self, place: u64)
         ensures { self.new ≡ record self.old { senders = without place self.old.senders } }
     {
         let _was_there = self.senders.remove(&place);
+    }
+
+    /// One leaves the line, and where it stood first the next is woken. It takes no memory.
+    pub fn leave_line(&mut self, place: u64, waiting: &BTreeMap<u64, Waiting>, parts: &mut Parts)
+        requires idle { parts.old.called ≡ None }
+        requires free { are_free parts.old.futures (own_in waiting.now.entries) ≡ true }
+        ensures after { self.new ≡ record self.old { senders = without place self.old.senders } }
+        ensures steps { Sees (if stands_first place self.old.senders
+            then wakes_first (waits waiting.now.entries) (without place self.old.senders) else [])
+            parts.old parts.new }
+    {
+        let first = self.is_first(place);
+        self.leave(place);
+        if first {
+            self.wake_first(waiting, parts);
+        }
     }
 
     /// Who stands first in line is woken, unless its future is done. It takes no memory.
@@ -189,18 +207,30 @@ impl Endpoint {
         self.held.pop_front()
     }
 
-    /// Whether it holds as many as it may.
-    pub fn is_full(&self) -> bool
+    // Whether it holds as many as it may.
+    fn is_full(&self) -> bool
         ensures { result ≡ not (nat_lt (length self.now.held) most_held) }
     {
         self.held.len() >= MOST
     }
 
-    /// One more comes last.
-    pub fn hold(&mut self, it: Datagram) -> Result<(), Memory>
+    // One more comes last.
+    fn hold(&mut self, it: Datagram) -> Result<(), Memory>
         ensures { OnOk result (self.new ≡ record self.old { held = self.old.held ++ it ∷ [] }) }
     {
         self.held.push_back(it)?;
         Ok(())
+    }
+
+    /// One more comes last, where it may hold one more.
+    pub fn hold_if_room(&mut self, alloc: Global, came: Came<'_>) -> Result<(), Memory>
+        ensures { OnOk result (self.new ≡ record self.old {
+          held = hold (came_as came.entry).datagram self.old.held;
+        }) }
+    {
+        if self.is_full() {
+            return Ok(());
+        }
+        self.hold(Datagram::of(alloc, came)?)
     }
 }

@@ -1,11 +1,10 @@
 -- Datagram endpoints make allowed steps alone, and what they keep stays right.
-use Rattle.std.proofs.Common.{◌≡◌, ℕ, ℤ, pos, negsuc, ◌+◌, ◌<◌, ◌≤◌, inl, inr, Bool, true, false, List, [], ◌∷◌, Option, Some, None}
+use Rattle.std.proofs.Common.{◌≡◌, ℕ, ℤ, ◌+◌, ◌<◌, ◌≤◌, inl, inr, Bool, true, false, List, [], ◌∷◌, Option, Some, None}
 use Rattle.std.proofs.Common.{refl, sym, ap, subst, ◌∙◌, arith, le_refl, length-append}
-use Rattle.std.specs.Prelude.{◌==◌, if◌then◌else◌}
+use Rattle.std.specs.Prelude.{if◌then◌else◌}
 use Rattle.std.specs.List.{AllByRecursion as Each}
 use Rattle.std.specs.Option.{option_map_or}
 use Rattle.model_value.specs.Input.{Input}
-use Rattle.model_value.specs.Number.{number_of}
 use Rattle.model_value.specs.Value.{Value}
 use Rattle.model_value.specs.declared.input.Input.TheVariants.{Send, Throw}
 use Rattle.model_loop.specs.Futures.{next_future}
@@ -26,15 +25,12 @@ use Rattle.law_runs.specs.Allowed.{Owns, ends_made, owns_at}
 use Rattle.law_replies.proofs.Ids.{IsMore, names_up}
 use Rattle.law_runs.proofs.Called.{called_more, steps_keep}
 use Rattle.law_runs.proofs.Steps.{all_after}
-use Rattle.model_dgram.specs.Texts.{came_in}
 use Rattle.model_dgram.specs.Endpoints.{Closes, Endpoints, Offers, Opens, Receives, Sends, Waiting, dgram_keeps, dgram_part, next_key, waiting_at}
-use Rattle.model_dgram.specs.Sending.{has_room}
-use Rattle.model_dgram.specs.Receiving.{came}
 use Rattle.model_dgram.specs.Serving.{Wanted, asked_for, dgram_means, served, told, wanted_of, woken}
 use Rattle.law_sync.proofs.Lists.{among_each, each_from}
 use Rattle.law_dgram.proofs.Holding.{Holds, holds_from, holds_on, own_holds}
-use Rattle.law_dgram.proofs.Comes.{AnswerHolds, Comes, GoesOn, Hears, May, MayNot, OrNext, Wakes, WaitsOn, came_hears, closed_comes, offered_comes}
-use Rattle.law_dgram.proofs.Comes.{opened_comes, receives_comes, room_hears, sends_comes, served_comes}
+use Rattle.law_dgram.proofs.Comes.{AnswerHolds, Comes, GoesOn, Hears, May, MayNot, OrNext, Wakes, WaitsOn, closed_comes, offered_comes}
+use Rattle.law_dgram.proofs.Comes.{opened_comes, receives_comes, sends_comes, served_comes, told_hears}
 use Rattle.law_dgram.proofs.Keys.{drawn_now, drawn_still, undrawn}
 
 -- no answer of these is to be woken
@@ -269,16 +265,8 @@ module _ (running : Option ℕ) (s : State Endpoints) (may : MayCall dgram_means
   hears_allowed call h = wakes_call None call.steps call.state h.steps h.state (let e = h.keys in omega (arith, e))
 
   told_allowed : (code : ℤ) (bytes : List ℕ) → IsCallAllowed dgram_means None (told code bytes s.extra) s
-  told_allowed (negsuc before) bytes = stays_allowed None
-  told_allowed (pos code) bytes = at (code == 401) (code == 402)
-    where
-      at : (room comes : Bool) → IsCallAllowed dgram_means None
-          (if room then has_room (number_of bytes) s.extra else (if comes then came (came_in bytes) s.extra else stays s.extra)) s
-      at true comes = hears_allowed (has_room (number_of bytes) s.extra)
-          (room_hears Old Made refl (λ number. refl) (λ it. refl) p s.extra holds (number_of bytes))
-      at false true = hears_allowed (came (came_in bytes) s.extra)
-          (came_hears Old Made refl (λ number. refl) (λ it. refl) p s.extra holds (came_in bytes))
-      at false false = stays_allowed None
+  told_allowed code bytes =
+      hears_allowed (told code bytes s.extra) (told_hears Old Made refl (λ number. refl) (λ it. refl) p s.extra holds code bytes)
 
 pub dgram_allowed : MakesAllowedSteps dgram_means
 dgram_allowed = record {

@@ -1,10 +1,11 @@
 -- What a request comes to: it goes through or asks the outside, and wakes those who wait alone, or its task waits on a new future.
 use Rattle.std.proofs.Common.{◌≡◌, ℕ, ℤ, pos, negsuc, ◌+◌, ◌⊎◌, inl, inr, Bool, true, false, List, [], ◌∷◌, ◌++◌, Option, Some, None, length, map, refl}
-use Rattle.std.specs.Prelude.{codes, nat_lt, if◌then◌else◌}
+use Rattle.std.specs.Prelude.{◌==◌, codes, nat_lt, if◌then◌else◌}
 use Rattle.std.specs.Fmt.{decimal}
 use Rattle.std.specs.List.{AllByRecursion as Each, flat_map}
 use Rattle.std.specs.Map.{remove_entry}
 use Rattle.model_value.specs.Input.{Input}
+use Rattle.model_value.specs.Number.{number_of}
 use Rattle.model_value.specs.Value.{Exc, Int, Nothing, Value}
 use Rattle.model_value.specs.declared.input.Input.TheVariants.{Send, Throw}
 use Rattle.model_value.specs.declared.outcome.Outcome.TheVariants.{Value as Returned}
@@ -12,14 +13,14 @@ use Rattle.model_loop.specs.Futures.{next_future}
 use Rattle.model_loop.specs.Parts.{Parts}
 use Rattle.model_machine.specs.Extra.{Answers, Raises, Waits, Asks, ExtraAnswer, ExtraCall, ExtraSaid, ExtraStep, MakesPlain, Settles}
 use Rattle.model_sync.specs.Synced.{is_place, wakes, without}
-use Rattle.model_dgram.specs.Texts.{Came, Datagram, most_sent, offer_text, port_of}
+use Rattle.model_dgram.specs.Texts.{Came, Datagram, came_in, most_sent, offer_text, port_of}
 use Rattle.model_dgram.specs.Endpoints.{Closes, Endpoint, Endpoints, Offers, Opens, Receives, Sends, Waiting, answers, dgram_keeps, endpoint_at}
 use Rattle.model_dgram.specs.Endpoints.{fresh, futures_of, is_closed, next_key, no_endpoint, on_endpoint, raises, says, set_endpoint, wait_again}
 use Rattle.model_dgram.specs.Endpoints.{wait_last, wait_over, waiting_at, wakes_at, wakes_first, wakes_receiver}
 use Rattle.model_dgram.specs.Opening.{close, closed, is_next, no_port, open_on, opened, other_answer}
 use Rattle.model_dgram.specs.Sending.{has_room, is_answer, leaves, offer, offered, send, send_failed, sends_again, stand_last, stands_first, too_long}
 use Rattle.model_dgram.specs.Receiving.{came, gives_up, hold, receive, received, receives_again, told_as, waited_for, waits_for}
-use Rattle.model_dgram.specs.Serving.{Close, Open, Receive, SendTo, Wanted, served}
+use Rattle.model_dgram.specs.Serving.{Close, Open, Receive, SendTo, Wanted, served, told}
 use Rattle.law_runs.specs.Allowed.{IsAmong}
 use Rattle.law_sync.proofs.Lists.{each_append, each_found, each_removed, each_replaced, last_among, replaced_among}
 use Rattle.law_dgram.proofs.Holding.{Holds, WaitingHolds, futures_in, holds_on}
@@ -356,7 +357,7 @@ module _ (O : ℕ → Type 0) (V : Value → Type 0) (nothing : V Nothing) (int 
   stays_hears : Hears O V kept.drawn (record { state = kept; steps = [] })
   stays_hears = record { state = holds; keys = refl; steps = tt }
 
-  pub room_hears : (o : Option ℕ) → Hears O V kept.drawn (has_room o kept)
+  room_hears : (o : Option ℕ) → Hears O V kept.drawn (has_room o kept)
   room_hears None = stays_hears
   room_hears (Some id) = at (endpoint_at id kept)
     where
@@ -367,7 +368,7 @@ module _ (O : ℕ → Type 0) (V : Value → Type 0) (nothing : V Nothing) (int 
       at None = stays_hears
       at (Some endpoint) = record { state = holds; keys = refl; steps = first_woken endpoint.senders }
 
-  pub came_hears : (o : Option Came) → Hears O V kept.drawn (came o kept)
+  came_hears : (o : Option Came) → Hears O V kept.drawn (came o kept)
   came_hears None = stays_hears
   came_hears (Some it) = at (endpoint_at it.endpoint kept)
     where
@@ -380,3 +381,13 @@ module _ (O : ℕ → Type 0) (V : Value → Type 0) (nothing : V Nothing) (int 
       ])
       at None = stays_hears
       at (Some endpoint) = record { state = holds; keys = refl; steps = receiver_woken endpoint.receiver }
+
+  pub told_hears : (code : ℤ) (bytes : List ℕ) → Hears O V kept.drawn (told code bytes kept)
+  told_hears (negsuc before) bytes = stays_hears
+  told_hears (pos code) bytes = at (code == 401) (code == 402)
+    where
+      at : (room comes : Bool) → Hears O V kept.drawn
+          (if room then has_room (number_of bytes) kept else (if comes then came (came_in bytes) kept else record { state = kept; steps = [] }))
+      at true comes = room_hears (number_of bytes)
+      at false true = came_hears (came_in bytes)
+      at false false = stays_hears

@@ -1,4 +1,4 @@
-use Rattle.std.proofs.Common.{Some, None, sym, ◌∙◌, refl}
+use Rattle.std.proofs.Common.{sym, ◌∙◌}
 use Rattle.aio_dgram.specs.Keeps.{own_in}
 use Rattle.aio_dgram.proofs.Woken.{free_at, still_free}
 use Rattle.aio_dgram.proofs.endpoint.wake_at.Goals as goal
