@@ -134,8 +134,8 @@ def check_texts(checks):
     checks.that(story["why"] == "" and story["last"] == "", "a trace that was cut off isn't followed up to there")
     other = story_of(checks.tool("timeline", example("chat", ".aio"), trace)[0])
     checks.that("did otherwise" in other["why"], "a script that isn't the trace's isn't noticed")
-    added = made("> select 0\n< turn 0\n. step T0\n> select none\n", "def main()\n  yield from extra(300, [])\nend\n")
-    checks.that("extra 300 can't be followed" in added["why"], f"a request that isn't known is told as {added['why']!r}")
+    added = made("> select 0\n< turn 0\n. step T0\n> select none\n", "def main()\n  yield from extra(900, [])\nend\n")
+    checks.that("extra 900 can't be followed" in added["why"], f"a request that isn't known is told as {added['why']!r}")
 
 
 def check_pictures(checks):

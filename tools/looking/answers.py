@@ -80,9 +80,11 @@ def watched(call):
 
 
 def is_watched(item, letters):
+    if item[0] == "X":
+        return "X" in letters
     held = letters.get(item[0], "")
     wanted = {"up": "c", "down": "c", "broken": "b", "out": "o", "outend": "o", "err": "e", "errend": "e", "exit": "x"}.get(item[1])
-    return bool(held) and (item[0] == "X" or set(wanted or item[1]) <= set(held))
+    return bool(held) and set(wanted or item[1]) <= set(held)
 
 
 def weight(answers):

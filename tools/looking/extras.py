@@ -1,7 +1,7 @@
-"""What is added to the loop's requests, of a run that is followed: waiting for several; locks, events and queues.
+"""What is added to the loop's requests, of a run that is followed: waiting for several; locks, events and queues; jobs.
 
-docs/LANGUAGE.md has the tables; `crates/model_gather` and `crates/model_sync` define them. Each request draws a key of its part,
-and each handle of it a further one.
+docs/LANGUAGE.md has the tables; `crates/model_gather`, `crates/model_sync` and `crates/model_exec` define them. Each request draws
+a key of its part, and each handle of it a further one.
 """
 
 from collections import deque
@@ -70,6 +70,12 @@ class Part:
 
     def act(self, key):
         self.acts[key]()
+
+    def news(self, code, told):
+        """News of the outside, which most parts have none of."""
+
+    def watches(self):
+        return False
 
     def ask(self, task, code, arguments):
         form = getattr(self, f"ask_{code}", None)
@@ -378,11 +384,49 @@ class Syncing(Part):
         return len(self.of(self.queues, arguments[0], "queue").values)
 
 
+MOST_INPUT = 131000
+
+
+class Jobs(Part):
+    """Jobs that are done beside the loop, by their numbers: each that goes on, with the future on which its task waits."""
+
+    def __init__(self, run, number):
+        super().__init__(run, number)
+        self.accepted, self.going = 0, {}
+
+    def ask_300(self, task, arguments):
+        kind, given = sized(arguments, 2)
+        integer(kind)
+        if type(given) is not bytes:
+            raise failure("TypeError", "bad argument")
+        self.may_draw()
+        self.draw()
+        if kind not in (1, 2, 3) or len(given) > MOST_INPUT:
+            raise failure("ValueError", "job")
+        answer = self.run.ask("extra", 300, b"%d %s" % (kind, given))
+        if answer[0] == "refused":
+            raise failure("OSError", "extra refused")
+        number = self.accepted
+        if answer[1] != b"%d" % number:
+            raise failure("OSError", "extra answer")
+        self.accepted += 1
+        self.going[number] = Future()
+        raise Waits(self.going[number], f"has job {number} done", passed)
+
+    def news(self, code, told):
+        number, space, came = told.partition(b" ")
+        if code == 300 and space and number.isdigit() and int(number) in self.going:
+            self.run.loop.settle(self.going.pop(int(number)), "value", came)
+
+    def watches(self):
+        return bool(self.going)
+
+
 class Extras:
     """What serves added requests, by the hundreds of their codes."""
 
     def __init__(self, run):
-        self.parts = (Gathering(run, 0), Syncing(run, 1))
+        self.parts = (Gathering(run, 0), Syncing(run, 1), Jobs(run, 2))
 
     def serves(self, code):
         return 1 <= code // 100 <= len(self.parts)
@@ -392,3 +436,10 @@ class Extras:
 
     def act(self, key):
         self.parts[key % 4].act(key)
+
+    def news(self, code, told):
+        if self.serves(code):
+            self.parts[code // 100 - 1].news(code, told)
+
+    def watches(self):
+        return any(part.watches() for part in self.parts)

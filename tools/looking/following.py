@@ -137,7 +137,7 @@ class Run:
             letters = self.letters(one)
             if letters:
                 words += [one, letters]
-        return words
+        return words + ["X"] * self.extras.watches()
 
     def letters(self, one):
         if one.letter == "L":
@@ -152,7 +152,8 @@ class Run:
 
     def news(self, name, what, held=None):
         if name == "X":
-            raise Ends("")
+            self.loop.soon("extraitem", what, held)
+            return
         one = Id(name[0], int(name[1:]))
         if one.letter == "P":
             self.loop.soon(*(("writable", one) if what == "w" else ("childitem", one, what, held)))
@@ -165,7 +166,7 @@ class Run:
     # ---- handles
     def run_handle(self, handle):
         name, *what = handle.action
-        word = {"cycle": "step"}.get(name, name)
+        word = {"cycle": "step", "extraitem": "extra"}.get(name, name)
         parts = [f"{part.letter}{part.number}" if isinstance(part, Id) else name_of(part) for part in self.shown_parts(name, what)]
         self.loop.running = len(self.lines)
         self.write(" ".join([".", word, *parts]))
@@ -196,6 +197,9 @@ class Run:
 
     def do_extra(self, key):
         self.extras.act(key)
+
+    def do_extraitem(self, code, told):
+        self.extras.news(code, told)
 
     def do_groupdone(self, group, task):
         self.loop.child_done(group, task)

@@ -27,7 +27,7 @@ ROWS = {
     "asyncio.Lock": "Lock",
     "asyncio.Semaphore": "Semaphore, Condition",
     "asyncio.Condition": "Semaphore, Condition",
-    "asyncio.to_thread": "to_thread, run_in_executor, call_soon_threadsafe",
+    "asyncio.to_thread": "to_thread(f, b)",
 }
 
 

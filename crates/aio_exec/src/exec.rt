@@ -162,9 +162,9 @@ impl Exec {
                 forget(self.requests.end(place));
                 strange_answer(alloc)
             }
-            Input::Throw(fault) => {
+            Input::Throw(refusal) => {
                 forget(self.requests.end(place));
-                Ok(Asked::Raise(fault))
+                Ok(Asked::Raise(refusal))
             }
         }
     }

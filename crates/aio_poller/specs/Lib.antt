@@ -1,6 +1,9 @@
 pub mod Answers
+pub mod Carried
+pub mod Datagrams
 pub mod Here
 pub mod Looks
+pub mod Opened
 pub mod Seen
 pub mod Streams
 pub mod Waits

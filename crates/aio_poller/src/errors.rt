@@ -35,7 +35,7 @@ pub fn is_failing(error: &io::Error) -> bool
 }
 
 /// Nothing came yet, or a signal interrupted the call.
-fn is_idle(kind: ErrorKind) -> bool
+pub fn is_idle(kind: ErrorKind) -> bool
     ensures { result ≡ is_idle kind }
 {
     matches!(kind, ErrorKind::WouldBlock | ErrorKind::Interrupted)

@@ -3,6 +3,7 @@ use crate::address::here;
 use crate::answers::{read_from, shut, write_to};
 use crate::bell::PollerBell;
 use crate::conn::Conn;
+use crate::endpoints::{CLOSE, Endpoints};
 use crate::errors::{is_failing, is_short, refused, unready};
 use crate::server::Server;
 use aio_base::Memory;
@@ -24,7 +25,7 @@ const MOST_BYTES: usize = 262_144;
 /// The most items that one poll finds.
 const MOST_ITEMS: usize = 4_096;
 
-/// The bell's token. That of listener N is twice N, that of connection N twice N and one.
+/// The bell's token. That of listener N is four times N, that of connection N one more, that of endpoint N two more.
 const BELL: Token = Token(usize::MAX);
 
 #[derive(Drop)]
@@ -34,6 +35,7 @@ pub struct Sockets {
     waker: Arc<Waker, Global>,
     servers: IndexMap<u32, Server>,
     conns: IndexMap<u32, Conn>,
+    endpoints: Endpoints,
     servers_made: u32,
     conns_made: u32,
     /// How many sockets were closed.
@@ -53,6 +55,7 @@ impl Sockets {
             waker,
             servers: IndexMap::new(alloc),
             conns: IndexMap::new(alloc),
+            endpoints: Endpoints::new(alloc),
             servers_made: 0,
             conns_made: 0,
             closed: 0,
@@ -91,11 +94,16 @@ impl Sockets {
 
     fn note_events(&mut self) {
         for event in self.events.iter() {
-            note(&mut self.servers, &mut self.conns, event);
+            note(
+                &mut self.servers,
+                &mut self.conns,
+                &mut self.endpoints,
+                event,
+            );
         }
     }
 
-    /// Watches an entry. A listener that rests isn't watched; then it says for how long.
+    /// Watches an entry. A listener or an endpoint that rests isn't watched; then it says for how long.
     fn watch_entry(&mut self, entry: Watch, now: u64) -> io::Result<Option<u64>> {
         match entry {
             Watch::Server(number) => self.watch_server(number, now),
@@ -110,7 +118,11 @@ impl Sockets {
                 (false, true) => self.watch_conn(conn, Interest::WRITABLE),
                 (false, false) => Ok(None),
             },
-            Watch::Child { .. } | Watch::Extra => Ok(None),
+            Watch::Child { .. } => Ok(None),
+            Watch::Extra => Ok(
+                self.endpoints
+                    .watch(&self.poll, self.round, now, self.closed),
+            ),
         }
     }
 
@@ -118,14 +130,14 @@ impl Sockets {
         let Some(server) = self.servers.get_mut(&number) else {
             return Ok(None);
         };
-        if let Some(rest) = server.rests_for(now, self.closed) {
+        if let Some(rest) = server.rest.left(now, self.closed) {
             server.registration.begin(0);
             return Ok(Some(rest));
         }
         server.registration.watch(
             &self.poll,
             &mut server.listener,
-            Token(number as usize * 2),
+            Token(number as usize * 4),
             Interest::READABLE,
             self.round,
         )?;
@@ -137,7 +149,7 @@ impl Sockets {
             conn.registration.watch(
                 &self.poll,
                 &mut conn.stream,
-                Token(number as usize * 2 + 1),
+                Token(number as usize * 4 + 1),
                 interest,
                 self.round,
             )?;
@@ -155,21 +167,37 @@ impl Sockets {
             conn.registration
                 .rest(&self.poll, &mut conn.stream, self.round)?;
         }
+        self.endpoints.let_rest(&self.poll, self.round);
         Ok(())
     }
 
-    /// What was found of what is watched, in that order.
-    pub fn items_of(&mut self, alloc: Global, watch: &[Watch]) -> io::Result<Vec<Item>> {
+    /// What was found of what is watched, in that order, at this time.
+    pub fn items_of(&mut self, alloc: Global, now: u64, watch: &[Watch]) -> io::Result<Vec<Item>> {
         let mut items = Vec::new(alloc);
         for entry in watch {
             if items.len() >= MOST_ITEMS {
                 break;
             }
-            if let Some(item) = self.item_of(*entry)? {
+            if matches!(entry, Watch::Extra) {
+                self.add_datagrams(alloc, now, &mut items)?;
+            } else if let Some(item) = self.item_of(*entry)? {
                 items.push(item)?;
             }
         }
         Ok(items)
+    }
+
+    /// Adds what came to endpoints.
+    fn add_datagrams(&mut self, alloc: Global, now: u64, items: &mut Vec<Item>) -> io::Result<()> {
+        self.endpoints.tell_room(alloc, MOST_ITEMS, items)?;
+        self.endpoints.tell_datagrams(
+            alloc,
+            now,
+            self.closed,
+            MOST_ITEMS,
+            self.buffer.as_mut_slice(),
+            items,
+        )
     }
 
     fn item_of(&mut self, entry: Watch) -> io::Result<Option<Item>> {
@@ -243,13 +271,27 @@ impl Sockets {
                 self.closed = self.closed.wrapping_add(1);
                 Ok(Answer::Done)
             }
-            Call::Extra { .. } => Ok(Answer::Refused),
+            Call::Extra { code, bytes } => self.on_endpoint(rt, alloc, *code, bytes.items()),
             Call::Select { .. }
             | Call::Feed { .. }
             | Call::End(_)
             | Call::Kill(_)
             | Call::Launch(_) => Err(io::Error::from(ErrorKind::Unsupported)),
         }
+    }
+
+    fn on_endpoint<R: Net>(
+        &mut self,
+        rt: &R,
+        alloc: Global,
+        code: i64,
+        text: &[u8],
+    ) -> io::Result<Answer> {
+        let answer = self.endpoints.answer(rt, alloc, code, text)?;
+        if code == CLOSE {
+            self.closed = self.closed.wrapping_add(1);
+        }
+        Ok(answer)
     }
 
     fn listen<R: Net>(&mut self, rt: &R, port: u16) -> io::Result<Answer> {
@@ -270,7 +312,7 @@ impl Sockets {
         match server.listener.accept() {
             Ok((stream, _)) => self.keep(Conn::accepted(stream)),
             Err(error) if is_short(&error) || is_failing(&error) => {
-                server.rest(now, self.closed);
+                server.rest.begin(now, self.closed);
                 Ok(Answer::Again)
             }
             Err(error) => unready(error),
@@ -316,16 +358,27 @@ impl Sockets {
 }
 
 /// Notes an event at the socket that its token names.
-fn note(servers: &mut IndexMap<u32, Server>, conns: &mut IndexMap<u32, Conn>, event: &Event) {
+fn note(
+    servers: &mut IndexMap<u32, Server>,
+    conns: &mut IndexMap<u32, Conn>,
+    endpoints: &mut Endpoints,
+    event: &Event,
+) {
     let Token(token) = event.token();
-    let Ok(number) = u32::try_from(token / 2) else {
+    let Ok(number) = u32::try_from(token / 4) else {
         return;
     };
-    if token % 2 == 0 {
-        if let Some(server) = servers.get_mut(&number) {
-            server.registration.note(event);
+    match token % 4 {
+        0 => {
+            if let Some(server) = servers.get_mut(&number) {
+                server.registration.note(event);
+            }
         }
-    } else if let Some(conn) = conns.get_mut(&number) {
-        conn.registration.note(event);
+        1 => {
+            if let Some(conn) = conns.get_mut(&number) {
+                conn.registration.note(event);
+            }
+        }
+        _ => endpoints.note(number, event),
     }
 }

@@ -86,7 +86,7 @@ impl<R: Net + Clock> RealPoller<R> {
         self.sockets.wait_for(begun, left, watch)?;
         let now = self.time.now(&self.rt)?;
         self.time.poll_at(now);
-        let items = self.sockets.items_of(alloc, watch)?;
+        let items = self.sockets.items_of(alloc, now, watch)?;
         Ok((now, items))
     }
 

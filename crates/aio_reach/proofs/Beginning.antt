@@ -51,7 +51,7 @@ exec_stands : (x : Exec) → exec_seen.kept_of x ≡ none_execed → (t : NameMa
 exec_stands x none t p = (none, λ id own. absurd (none_among id own))
 
 dgram_stands : (x : Dgram) → dgram_seen.kept_of x ≡ none_opened → (t : NameMap) → dgram.StandsForKept t x none_opened
-dgram_stands x none t = record { kept = none; tidy = tidy_first; there = λ id own. absurd (none_among id own) }
+dgram_stands x none t = record { seen = none; tidy = tidy_first; there = λ id own. absurd (none_among id own) }
 
 pub begins : (x : Four Gather Sync Exec Dgram) → ((tags : ℕ → ℕ) → kept_of tags x.gather ≡ none_gathered)
     → seen.kept_of x.sync ≡ none_synced → exec_seen.kept_of x.exec ≡ none_execed

@@ -2,7 +2,10 @@ pub mod Keys
 pub mod Others
 pub mod Waitings
 pub mod Standing
+pub mod Ended
 pub mod Events
+pub mod Turns
+pub mod Queues
 pub mod Holding
 pub mod Keeping
 pub mod Heeding

@@ -1,10 +1,9 @@
 -- Datagram endpoints keep to their own futures.
-use Rattle.std.proofs.Common.{◌≡◌, inl, inr, ℕ, ◌<◌, ℤ, pos, negsuc, Bool, true, false, List, [], ◌∷◌, Option, Some, None, sym, refl, subst, arith}
+use Rattle.std.proofs.Common.{◌≡◌, inl, inr, ℕ, ◌<◌, ℤ, Bool, true, false, List, [], ◌∷◌, Option, Some, None, sym, refl, subst, arith}
 use Rattle.std.proofs.Common.{length-append}
-use Rattle.std.specs.Prelude.{◌==◌, if◌then◌else◌}
+use Rattle.std.specs.Prelude.{if◌then◌else◌}
 use Rattle.std.specs.List.{AllByRecursion as Each}
 use Rattle.model_value.specs.Input.{Input}
-use Rattle.model_value.specs.Number.{number_of}
 use Rattle.model_value.specs.Value.{Value}
 use Rattle.model_loop.specs.Futures.{next_future}
 use Rattle.model_loop.specs.Parts.{Plain}
@@ -13,16 +12,13 @@ use Rattle.model_machine.specs.Extra as extra
 use Rattle.model_machine.specs.Extra.{ExtraCall, ExtraSaid, ExtraStep, MakesPlain, made_by_all}
 use Rattle.model_machine.specs.State.{State}
 use Rattle.model_reach.specs.Part.{can_draw, place_of, refuses, stays}
-use Rattle.model_dgram.specs.Texts.{came_in}
 use Rattle.model_dgram.specs.Endpoints.{Closes, Endpoints, Offers, Opens, Receives, Sends, Waiting, dgram_keeps, dgram_part, waiting_at}
-use Rattle.model_dgram.specs.Sending.{has_room}
-use Rattle.model_dgram.specs.Receiving.{came}
 use Rattle.model_dgram.specs.Serving.{Wanted, asked_for, dgram_means, served, told, wanted_of, woken}
 use Rattle.law_runs.specs.Allowed.{IsAmong}
 use Rattle.law_sync.proofs.Lists.{each_from, each_on}
 use Rattle.law_dgram.proofs.Holding.{Holds, holds_from, holds_on, own_holds}
-use Rattle.law_dgram.proofs.Comes.{Comes, Hears, May, MayNot, OrNext, Wakes, came_hears, closed_comes, offered_comes, opened_comes, receives_comes, room_hears}
-use Rattle.law_dgram.proofs.Comes.{sends_comes, served_comes}
+use Rattle.law_dgram.proofs.Comes.{Comes, Hears, May, MayNot, OrNext, Wakes, closed_comes, offered_comes, opened_comes, receives_comes}
+use Rattle.law_dgram.proofs.Comes.{sends_comes, served_comes, told_hears}
 use Rattle.law_heeded.specs.Owned.{IsCallKept, KeepsToItsFutures, SettlesOwn, WasOwnOrMade}
 
 -- values are any
@@ -121,19 +117,8 @@ module _ (s : State Endpoints) where
   hears_kept call h = goes_kept call.steps call.state h.steps h.state
 
   told_kept : (code : ℤ) (bytes : List ℕ) → IsCallKept dgram_means (told code bytes s.extra) s
-  told_kept (negsuc before) bytes = still_kept
-  told_kept (pos code) bytes = at (code == 401) (code == 402)
-    where
-      at : (room comes : Bool)
-          → IsCallKept dgram_means
-          (if room then has_room (number_of bytes) s.extra else (if comes then came (came_in bytes) s.extra else stays s.extra)) s
-      at true comes =
-          hears_kept (has_room (number_of bytes) s.extra)
-          (room_hears Old Any tt (λ number. tt) (λ it. tt) s.loop.parts s.extra holds (number_of bytes))
-      at false true =
-          hears_kept (came (came_in bytes) s.extra)
-          (came_hears Old Any tt (λ number. tt) (λ it. tt) s.loop.parts s.extra holds (came_in bytes))
-      at false false = still_kept
+  told_kept code bytes =
+      hears_kept (told code bytes s.extra) (told_hears Old Any tt (λ number. tt) (λ it. tt) s.loop.parts s.extra holds code bytes)
 
 pub dgram_keeps_to : KeepsToItsFutures dgram_means
 dgram_keeps_to = record {

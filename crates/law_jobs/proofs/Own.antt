@@ -96,9 +96,10 @@ own_one before (Raises request fault) all borne = tt
 
 own_all : (before notes : List Note) → AreWanted before → AreBorneOut before notes → AreHonest before notes → AreOwnJobs before notes
 own_all before [] all borne honest = tt
-own_all before (note ∷ notes) all borne honest =
-    (own_one before note all borne.0,
-    own_all (before ++ note ∷ []) notes (one_more before note all borne.0 honest.0) borne.1 honest.1)
+own_all before (note ∷ notes) all borne honest = (
+  own_one before note all borne.0,
+  own_all (before ++ note ∷ []) notes (one_more before note all borne.0 honest.0) borne.1 honest.1,
+)
 
 pub own_jobs : (all : List Note) → AreBorneOut [] all → AreHonest [] all → AreOwnJobs [] all
 own_jobs all borne honest = own_all [] all (λ number. tt) borne honest

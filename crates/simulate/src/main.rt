@@ -3,6 +3,7 @@
 
 mod order;
 mod running;
+mod shares;
 mod table;
 mod telling;
 
@@ -20,7 +21,8 @@ const WORDS_REFUSED: u8 = 2;
 const OUT_OF_MEMORY: u8 = 11;
 
 const USAGE: &str = "\
-simulate SCRIPT [--seed N] [--runs N] [--turns N] [--faults LIST | --calm] [--expect TEXT] [--record NAME]
+simulate SCRIPT [--seed N] [--runs N] [--jobs N] [--turns N] [--faults LIST | --calm]
+         [--expect TEXT] [--record NAME]
 docs/SIMULATE.md tells what each is.
 ";
 

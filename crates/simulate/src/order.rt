@@ -3,18 +3,23 @@ use aio_base::Memory;
 use aio_simwire::{Fault, fault_named};
 use std::alloc::Global;
 
-/// What the words ask for: which script, the seeds from the first on, how many turns each run may have, what may go wrong, what
-/// a last line begins with that is as it must be, and where the journal of the first run is kept that isn't.
+/// What the words ask for: which script, the seeds from the first on, how many threads make the runs, how many turns each run
+/// may have, what may go wrong, what a last line begins with that is as it must be, and where the journal of the first run is
+/// kept that isn't.
 #[derive(Drop)]
 pub struct Order {
     pub script: String,
     pub seed: u64,
     pub runs: u64,
+    pub jobs: u64,
     pub turns: u64,
     pub faults: Vec<Fault>,
     pub expect: String,
     pub record: Option<String>,
 }
+
+/// As many threads make the runs at most: more than machines have processors, and fewer than they allow threads.
+const MOST_JOBS: u64 = 256;
 
 /// What goes wrong where no word says: nothing that fails outright.
 static MILD: [Fault; 12] = [
@@ -46,6 +51,7 @@ pub fn order_of(alloc: Global, words: &[String]) -> Result<Option<Order>, Memory
         script: script.clone()?,
         seed: 0,
         runs: 1000,
+        jobs: 1,
         turns: 20_000,
         faults,
         expect: String::from_str(alloc, "= returned")?,
@@ -82,6 +88,7 @@ fn set(alloc: Global, order: &mut Order, option: &str, value: &str) -> Result<bo
     match option {
         "--seed" => Ok(set_number(&mut order.seed, value)),
         "--runs" => Ok(set_number(&mut order.runs, value)),
+        "--jobs" => Ok(set_number(&mut order.jobs, value) && (1..=MOST_JOBS).contains(&order.jobs)),
         "--turns" => Ok(set_number(&mut order.turns, value)),
         "--faults" => set_faults(&mut order.faults, value),
         "--expect" => {

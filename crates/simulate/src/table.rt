@@ -12,30 +12,64 @@ pub struct Row {
     pub time: u64,
 }
 
-/// How runs ended, in the order in which each ending came first.
+/// How runs ended, in the order in which each ending came first; how many ended otherwise than expected, and the first one's
+/// seed.
 #[derive(Drop)]
 pub struct Table {
     pub rows: IndexMap<String, Row>,
+    pub others: u64,
+    pub first: Option<u64>,
 }
 
 impl Table {
     pub fn new(alloc: Global) -> Table {
         Table {
             rows: IndexMap::new(alloc),
+            others: 0,
+            first: None,
         }
     }
 
     /// One run more that ended so.
-    pub fn add(&mut self, alloc: Global, ending: &str, run: Row) -> Result<(), Memory> {
+    pub fn note(
+        &mut self,
+        alloc: Global,
+        ending: &str,
+        run: Row,
+        is_expected: bool,
+    ) -> Result<(), Memory> {
+        if !is_expected {
+            self.add_others(1, Some(run.seed));
+        }
+        self.add(alloc, ending, run)
+    }
+
+    /// The runs of another table, all of them later than its own: it becomes what it would be if each of them had been noted.
+    pub fn append(&mut self, alloc: Global, later: &Table) -> Result<(), Memory> {
+        self.add_others(later.others, later.first);
+        for (ending, row) in later.rows.iter() {
+            self.add(alloc, ending.as_str(), *row)?;
+        }
+        Ok(())
+    }
+
+    /// So many runs more, later than its own, that ended otherwise than expected, and the first one's seed.
+    fn add_others(&mut self, others: u64, first: Option<u64>) {
+        self.others = self.others.saturating_add(others);
+        self.first = self.first.or(first);
+    }
+
+    /// Runs more that ended in one way, later than its own.
+    fn add(&mut self, alloc: Global, ending: &str, runs: Row) -> Result<(), Memory> {
         match self.rows.get_mut(ending) {
             Some(row) => {
-                row.runs = row.runs.saturating_add(run.runs);
-                row.turns = row.turns.max(run.turns);
-                row.time = row.time.max(run.time);
+                row.runs = row.runs.saturating_add(runs.runs);
+                row.turns = row.turns.max(runs.turns);
+                row.time = row.time.max(runs.time);
             }
             None => {
                 let key = String::from_str(alloc, ending)?;
-                self.rows.insert(key, run)?;
+                self.rows.insert(key, runs)?;
             }
         }
         Ok(())

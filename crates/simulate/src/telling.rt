@@ -1,41 +1,33 @@
-//! All runs, and what is told of them.
+//! What is told of all runs.
 use crate::order::Order;
-use crate::running::{Ran, last_line, run, shelf_of};
-use crate::table::{Row, Table};
+use crate::running::run;
+use crate::shares::make_all;
+use crate::table::Table;
 use aio_base::Memory;
 use aio_edge::Files;
 use aio_memwire::{ReadFault, read_front};
-use aio_wire::MemShelf;
 use std::alloc::Global;
 use std::rt;
-
-/// The name of the script on a shelf in memory.
-const SCRIPT: &str = "script";
+use std::thread::Threads;
 
 /// As many bytes are read of a script, one more than one may have.
 const MOST_READ: usize = 1_048_577;
 
-/// The statuses: each run ended as it must; one didn't; the script is refused; a file or the output failed; memory was refused.
+/// The statuses: each run ended as it must; one didn't; a file or the output failed; memory was refused.
 const AS_EXPECTED: u8 = 0;
 
 const NOT_AS_EXPECTED: u8 = 1;
-
-const SCRIPT_REFUSED: u8 = 3;
 
 const FAILED: u8 = 9;
 
 const OUT_OF_MEMORY: u8 = 11;
 
-/// How all runs ended: the table, and the seed of the first that didn't end as expected.
-#[derive(Drop)]
-struct Told {
-    table: Table,
-    first: Option<u64>,
-    others: u64,
-}
-
 /// Makes the runs, writes how they ended, and gives the status.
-pub fn serve<R: rt::Files + Print + Copy>(rt: R, alloc: Global, order: &Order) -> u8 {
+pub fn serve<R: rt::Files + Print + Threads + Copy + Sync>(
+    rt: R,
+    alloc: Global,
+    order: &Order,
+) -> u8 {
     let mut files = Files::new(rt);
     let read = read_front(alloc, &mut files, order.script.as_str(), MOST_READ);
     let text = match read {
@@ -52,99 +44,46 @@ pub fn serve<R: rt::Files + Print + Copy>(rt: R, alloc: Global, order: &Order) -
     }
 }
 
-fn serve_text<R: rt::Files + Print + Copy>(
+fn serve_text<R: rt::Files + Print + Threads + Copy + Sync>(
     rt: R,
     alloc: Global,
     order: &Order,
     text: &[u8],
     files: &mut Files<R>,
 ) -> Result<u8, Memory> {
-    let mut shelf = shelf_of(alloc, SCRIPT, text)?;
-    let mut told = Told {
-        table: Table::new(alloc),
-        first: None,
-        others: 0,
-    };
-    let status = run_all(rt, alloc, order, &mut shelf, &mut told)?;
-    if status != AS_EXPECTED {
-        return Ok(status);
-    }
-    if tell(rt, alloc, order, &told)? {
+    let made = make_all(&rt, alloc, order, text)?;
+    if show(rt, made.shown.as_slice()) {
         return Ok(FAILED);
     }
-    match told.first {
+    if let Some(status) = made.ended {
+        return Ok(status);
+    }
+    if tell(rt, alloc, order, &made.table)? {
+        return Ok(FAILED);
+    }
+    match made.table.first {
         None => Ok(AS_EXPECTED),
         Some(seed) => record(alloc, order, seed, files),
-    }
-}
-
-/// Makes the runs, and notes how each ended. A status that isn't 0 ends the program.
-fn run_all<R: rt::Files + Print + Copy>(
-    rt: R,
-    alloc: Global,
-    order: &Order,
-    shelf: &mut MemShelf,
-    told: &mut Told,
-) -> Result<u8, Memory> {
-    for number in 0..order.runs {
-        let seed = order.seed.saturating_add(number);
-        let ran = run(alloc, order, SCRIPT, None, seed, shelf)?;
-        if ran.status == SCRIPT_REFUSED || (ran.status != OUT_OF_MEMORY && order.runs == 1) {
-            if show(rt, ran.out.taken()) {
-                return Ok(FAILED);
-            }
-        }
-        if ran.status == SCRIPT_REFUSED || ran.status == OUT_OF_MEMORY {
-            return Ok(ran.status);
-        }
-        note(alloc, order, told, seed, &ran)?;
-    }
-    Ok(AS_EXPECTED)
-}
-
-/// Notes how a run ended.
-fn note(alloc: Global, order: &Order, told: &mut Told, seed: u64, ran: &Ran) -> Result<(), Memory> {
-    let line = last_line(ran.out.taken());
-    if !line.starts_with(order.expect.as_str().as_bytes()) {
-        told.others = told.others.saturating_add(1);
-        if told.first.is_none() {
-            told.first = Some(seed);
-        }
-    }
-    let run = Row {
-        runs: 1,
-        seed,
-        turns: ran.turns,
-        time: ran.time,
-    };
-    told.table.add(alloc, ending_of(line), run)
-}
-
-/// An ending: a last line, but that one which waits for what never comes isn't told what for.
-fn ending_of(line: &[u8]) -> &str {
-    let line = match std::str::from_utf8(line) {
-        Ok(line) => line,
-        Err(_) => "= what is no text",
-    };
-    if line.starts_with("! over select none") {
-        "! over select none"
-    } else {
-        line
     }
 }
 
 /// Writes a text, and says whether that failed.
 fn show<R: Print + Copy>(rt: R, text: &[u8]) -> bool {
     match std::str::from_utf8(text) {
-        Ok(text) => rt.print(text).is_err(),
+        Ok(text) => !text.is_empty() && rt.print(text).is_err(),
         Err(_) => false,
     }
 }
 
 /// Writes the table and a line about all runs, and says whether that failed.
-fn tell<R: Print + Copy>(rt: R, alloc: Global, order: &Order, told: &Told) -> Result<bool, Memory> {
+fn tell<R: Print + Copy>(
+    rt: R,
+    alloc: Global,
+    order: &Order,
+    table: &Table,
+) -> Result<bool, Memory> {
     let mut text = String::from_str(alloc, "    runs       seed    turns    time ms  ending\n")?;
-    for (ending, row) in told.table.rows.iter() {
+    for (ending, row) in table.rows.iter() {
         let runs = row.runs;
         let seed = row.seed;
         let turns = row.turns;
@@ -153,9 +92,9 @@ fn tell<R: Print + Copy>(rt: R, alloc: Global, order: &Order, told: &Told) -> Re
         text.push_str(line.as_str())?;
     }
     let runs = order.runs;
-    let others = told.others;
+    let others = table.others;
     let expect = order.expect.as_str();
-    let last = match told.first {
+    let last = match table.first {
         None => format!(in alloc; "{runs} runs, each ended with {expect}\n")?,
         Some(seed) => {
             format!(in alloc;

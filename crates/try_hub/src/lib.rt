@@ -4,6 +4,7 @@
 
 mod asks;
 mod children;
+mod datagrams;
 mod hub;
 mod hub_rows;
 mod outside;

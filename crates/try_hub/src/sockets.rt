@@ -2,6 +2,7 @@
 ghost use Rattle.std.specs.Prelude.{◌≡◌, true};
 ghost use Rattle.model_hub.specs.Told.{is_socket};
 
+use crate::datagrams::run_datagrams;
 use crate::telling::{is_told, say_items};
 use aio_base::Memory;
 use aio_hub::{Polled, Poller};
@@ -94,7 +95,9 @@ pub fn run_sockets<R: Net + Clock + Print + Copy>(rt: R, alloc: Global) -> io::R
     };
     let ran = sockets.run(&rt, alloc);
     drop(sockets);
-    ran
+    let mut tally = ran?;
+    run_datagrams(rt, alloc, &mut tally)?;
+    tally.print(&rt)
 }
 
 #[derive(Drop)]
@@ -104,13 +107,13 @@ struct Sockets<R> {
 }
 
 impl<R: Net + Clock> Sockets<R> {
-    fn run<P: Print>(&mut self, rt: &P, alloc: Global) -> io::Result<u64> {
+    fn run<P: Print>(&mut self, rt: &P, alloc: Global) -> io::Result<RowCount> {
         let mut tally = RowCount::new();
         for (name, does, told) in &CASES {
             let right = self.is_right(alloc, *does, told);
             tally.count(rt, name, right)?;
         }
-        tally.print(rt)
+        Ok(tally)
     }
 
     fn is_right(&mut self, alloc: Global, does: Does, told: &str) -> bool {

@@ -92,7 +92,7 @@ fn answer_word(answer: &Answer) -> &'static str {
         Answer::Conn => "conn",
         Answer::Data(_) => "data ",
         Answer::Eof => "eof",
-        Answer::Extra(_) => "another",
+        Answer::Extra(_) => "extra ",
     }
 }
 
@@ -104,15 +104,14 @@ fn say_answer(answer: &Answer, wanted: &mut Wanted<'_>) {
             say_items(items.items(), wanted);
         }
         Answer::Took(count) => wanted.say_number(*count),
-        Answer::Data(bytes) => say_bytes(bytes.items(), wanted),
+        Answer::Data(bytes) | Answer::Extra(bytes) => say_bytes(bytes.items(), wanted),
         Answer::Done
         | Answer::Refused
         | Answer::Again
         | Answer::Broken
         | Answer::Child
         | Answer::Conn
-        | Answer::Eof
-        | Answer::Extra(_) => {}
+        | Answer::Eof => {}
     }
 }
 
