@@ -19,7 +19,7 @@ use Rattle.model_dgram.specs.Texts.{Came, Datagram, came_in}
 use Rattle.model_dgram.specs.Endpoints.{Closes, Endpoint, Endpoints, Offers, Receives, Sends, Waiting, draw, endpoint_at, is_closed, next_key, raises, says, set_endpoint}
 use Rattle.model_dgram.specs.Endpoints.{wait_again, wait_last, wait_over, waiting_at, wakes_at, wakes_first, wakes_receiver}
 use Rattle.model_dgram.specs.Opening.{close}
-use Rattle.model_dgram.specs.Sending.{has_room, is_answer, leaves, offered, send_failed}
+use Rattle.model_dgram.specs.Sending.{asks_again, has_room, is_answer, leaves, offered, send_failed, sends_again}
 use Rattle.model_dgram.specs.Receiving.{came, gives_up, hold, received, receives_again, told_as, waited_for, waits_for}
 use Rattle.law_dgram.proofs.Falling.{found_replaced}
 use Rattle.refine_added.specs.Seen.{made}
@@ -212,3 +212,15 @@ receives_seen x y v w key place id value asked is seen =
   where
     of : Option Endpoint → ExtraSaid Endpoints
     of o = elim o [ None ↦ gives_up place id is_closed x | Some endpoint ↦ received key place id endpoint (parts v) x ]
+
+-- ---- send, as its task goes on
+pub sends_seen : (x y : Endpoints) (v w : View) (key place id : ℕ) (it : Datagram) (value : Value) (asked : Asked)
+    → is_some (endpoint_at id x) ≡ true
+    → ((endpoint : Endpoint) → endpoint_at id x ≡ Some endpoint → SaysSeen y v w asked (asks_again key place id it endpoint (parts v) x))
+    → SaysSeen y v w asked (sends_again key place id it (Send value) (parts v) x)
+sends_seen x y v w key place id it value asked is seen =
+    let one = some_of (endpoint_at id x) is in
+    subst (λ o. SaysSeen y v w asked (of o)) (sym one.1) (seen one.0 one.1)
+  where
+    of : Option Endpoint → ExtraSaid Endpoints
+    of o = elim o [ None ↦ leaves place id (extra.Raises is_closed) x | Some endpoint ↦ asks_again key place id it endpoint (parts v) x ]

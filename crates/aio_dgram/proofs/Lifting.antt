@@ -124,7 +124,7 @@ module _ (key place : ℕ) (input : Input) (p : Parts) (kept : Endpoints) where
       (offered_comes Any Any tt (λ n. tt) (λ it. tt) p kept (any_holds kept) key place id it input (Offers id it) e)
   woken_fit (Some (Sends id it on)) e =
       fits May (woken (Some (Sends id it on)) key place input p kept)
-      (sends_comes Any Any tt (λ n. tt) (λ it. tt) p kept (any_holds kept) May key place id it input tt)
+      (sends_comes Any Any tt (λ n. tt) (λ it. tt) p kept (any_holds kept) May key place id it input tt (Sends id it on) e)
   woken_fit (Some (Receives id on)) e =
       fits _ (woken (Some (Receives id on)) key place input p kept)
       (receives_comes Any Any tt (λ n. tt) (λ it. tt) p kept (any_holds kept) key place id input (Receives id on) e)

@@ -12,7 +12,7 @@ use Rattle.model_dgram.specs.Texts.{Datagram, most_sent, offer_text, port_of}
 use Rattle.model_dgram.specs.Endpoints.{Closes, Endpoint, Endpoints, Offers, Opens, Receives, Sends, Waiting, answers, dgram_part, endpoint_at, is_closed}
 use Rattle.model_dgram.specs.Endpoints.{next_key, no_endpoint, on_endpoint, raises, says, set_endpoint, wait_again, wait_last, wait_over}
 use Rattle.model_dgram.specs.Opening.{close, no_port}
-use Rattle.model_dgram.specs.Sending.{is_answer, leaves, offer, offered, send, send_failed, stand_last, too_long}
+use Rattle.model_dgram.specs.Sending.{is_answer, leaves, offer, offered, send, send_failed, sends_again, stand_last, stands_first, too_long}
 use Rattle.model_dgram.specs.Receiving.{gives_up, receive, received, receives_again, told_as, waited_for, waits_for}
 use Rattle.model_dgram.specs.Serving.{Close, Open, Receive, SendTo, Wanted, asked_for, served, woken}
 
@@ -101,6 +101,18 @@ module _ (p q : Parts) (next : next_future q ≡ next_future p) (kept : Endpoint
           else (if is_answer value (codes "again") then says (wait_again place (Sends id it n) kept) (MakesPlain ∷ []) (Waits n key)
           else leaves place id (Raises send_failed) kept)
 
+  sends_same : (key place id : ℕ) (it : Datagram) (input : Input) → sends_again key place id it input q kept ≡ sends_again key place id it input p kept
+  sends_same key place id it (Throw exception) = refl
+  sends_same key place id it (Send value) = ap (λ n. at n (endpoint_at id kept)) next
+    where
+      at : ℕ → Option Endpoint → ExtraSaid Endpoints
+      at n o = elim o [
+        | None ↦ leaves place id (Raises is_closed) kept
+        | Some endpoint ↦ if stands_first place endpoint.senders
+            then says (wait_again place (Offers id it) kept) [] (Asks (pos 401) (offer_text id it) key)
+            else says (wait_again place (Sends id it n) kept) (MakesPlain ∷ []) (Waits n key)
+      ]
+
   receives_same : (key place id : ℕ) (input : Input) → receives_again key place id input q kept ≡ receives_again key place id input p kept
   receives_same key place id (Throw exception) = refl
   receives_same key place id (Send value) = at (endpoint_at id kept)
@@ -122,6 +134,6 @@ module _ (p q : Parts) (next : next_future q ≡ next_future p) (kept : Endpoint
   woken_same None key place input = refl
   woken_same (Some Opens) key place input = refl
   woken_same (Some (Offers id it)) key place input = offered_same key place id it input
-  woken_same (Some (Sends id it on)) key place input = refl
+  woken_same (Some (Sends id it on)) key place input = sends_same key place id it input
   woken_same (Some (Receives id on)) key place input = receives_same key place id input
   woken_same (Some Closes) key place input = refl

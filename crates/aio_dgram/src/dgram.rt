@@ -6,7 +6,7 @@ ghost use Rattle.model_machine.specs.Extra.{ExtraAnswer};
 ghost use Rattle.model_reach.specs.Part.{can_draw, key_at, no_key};
 ghost use Rattle.model_dgram.specs.Endpoints as plain;
 ghost use Rattle.model_dgram.specs.Endpoints.{dgram_part, draw, endpoint_at, is_closed, next_key, no_endpoint, none_opened, raises, set_endpoint, wait_again, wait_last, wait_over, waiting_at};
-ghost use Rattle.model_dgram.specs.Sending.{leaves, stand_last};
+ghost use Rattle.model_dgram.specs.Sending.{leaves, stand_last, stands_first};
 ghost use Rattle.model_dgram.specs.Texts as texts;
 ghost use Rattle.law_dgram.specs.Tidy.{IsTidy};
 ghost use Rattle.aio_sync.specs.Woken.{are_free};
@@ -236,6 +236,17 @@ impl Dgram {
         match self.endpoints.get_mut(&id) {
             Some(endpoint) => endpoint.take(),
             None => None,
+        }
+    }
+
+    /// Whether this one stands first in line of an endpoint that is open.
+    pub fn is_first(&self, id: u64, place: u64) -> bool
+        ensures { (endpoint : plain.Endpoint) → endpoint_at id (kept_of self.now) ≡ Some endpoint
+            → result ≡ stands_first place endpoint.senders }
+    {
+        match self.endpoints.get(&id) {
+            Some(endpoint) => endpoint.is_first(place),
+            None => false,
         }
     }
 

@@ -102,8 +102,8 @@ impl Endpoint {
         Ok(())
     }
 
-    // Whether this one stands first in line.
-    fn is_first(&self, place: u64) -> bool
+    /// Whether this one stands first in line.
+    pub fn is_first(&self, place: u64) -> bool
         ensures { result ≡ stands_first place self.now.senders }
     {
         match self.senders.first() {

@@ -234,6 +234,49 @@ impl Dgram {
         })
     }
 
+    // One that doesn't stand first waits on.
+    fn wait_again(
+        &mut self,
+        alloc: Global,
+        key: u64,
+        place: u64,
+        parts: &mut Parts,
+    ) -> Result<Asked, Memory>
+        requires idle { parts.old.called ≡ None }
+        ensures { IfOk result (λ asked. (id : ℕ) (it : texts.Datagram) (on : ℕ)
+            → waiting_at place (kept_of self.old) ≡ Some (plain.Sends id it on)
+            → (asked ≡ Asked.Wait (length parts.old.futures) key)
+            × (kept_of self.new ≡ wait_again place (plain.Sends id it (length parts.old.futures))
+            (kept_of self.old)) × (parts.new ≡ made loops.Plain parts.old)) }
+    {
+        let on = parts.new_plain(alloc)?;
+        self.wait_on(place, on);
+        Ok(Asked::Wait { on, key })
+    }
+
+    // To an endpoint that is open: the outside is asked by the first in line.
+    fn asks_again(
+        &mut self,
+        alloc: Global,
+        key: u64,
+        place: u64,
+        id: u64,
+        parts: &mut Parts,
+    ) -> Result<Asked, Memory>
+        requires idle { parts.old.called ≡ None }
+        ensures { IfOk result (λ asked. (it : texts.Datagram) (on : ℕ) (endpoint : plain.Endpoint)
+            → waiting_at place (kept_of self.old) ≡ Some (plain.Sends id it on)
+            → endpoint_at id (kept_of self.old) ≡ Some endpoint
+            → SaysSeen (kept_of self.new) parts.old parts.new asked
+            (sending.asks_again key place id it endpoint (parts_of parts.old)
+            (kept_of self.old))) }
+    {
+        if self.is_first(id, place) {
+            return self.ask_again(alloc, key, place);
+        }
+        self.wait_again(alloc, key, place, parts)
+    }
+
     /// One that stood in line goes on: the outside is asked.
     pub fn sends_again(
         &mut self,
@@ -249,13 +292,14 @@ impl Dgram {
         ensures { IfOk result (λ asked. (it : texts.Datagram) (on : ℕ)
             → waiting_at place (kept_of self.old) ≡ Some (plain.Sends id it on)
             → SaysSeen (kept_of self.new) parts.old parts.new asked
-            (sending.sends_again key place id it input (kept_of self.old))) }
+            (sending.sends_again key place id it input (parts_of parts.old)
+            (kept_of self.old))) }
     {
         match input {
             Input::Send(value) => {
                 forget(value);
                 if self.is_open(id) {
-                    return self.ask_again(alloc, key, place);
+                    return self.asks_again(alloc, key, place, id, parts);
                 }
                 self.leave(place, id, parts);
                 closed(alloc)

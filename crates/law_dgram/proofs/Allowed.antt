@@ -252,7 +252,7 @@ module _ (running : Option ℕ) (s : State Endpoints) (may : MayCall dgram_means
         (offered_comes Old Made refl (λ number. refl) (λ it. refl) p s.extra holds key place id it input (Offers id it) e)
     wake_allowed (Some (Sends id it on)) e =
         woken_allowed May key known (woken (Some (Sends id it on)) key place input p s.extra)
-        (sends_comes Old Made refl (λ number. refl) (λ it. refl) p s.extra holds May key place id it input tt)
+        (sends_comes Old Made refl (λ number. refl) (λ it. refl) p s.extra holds May key place id it input tt (Sends id it on) e)
     wake_allowed (Some (Receives id on)) e =
         never (woken (Some (Receives id on)) key place input p s.extra)
         (receives_comes Old Made refl (λ number. refl) (λ it. refl) p s.extra holds key place id input (Receives id on) e)

@@ -18,7 +18,7 @@ use Rattle.model_dgram.specs.Endpoints.{Closes, Endpoint, Endpoints, Offers, Ope
 use Rattle.model_dgram.specs.Endpoints.{fresh, futures_of, is_closed, next_key, no_endpoint, on_endpoint, raises, says, set_endpoint, wait_again}
 use Rattle.model_dgram.specs.Endpoints.{wait_last, wait_over, waiting_at, wakes_at, wakes_first, wakes_receiver}
 use Rattle.model_dgram.specs.Opening.{close, closed, is_next, no_port, open_on, opened, other_answer}
-use Rattle.model_dgram.specs.Sending.{has_room, is_answer, leaves, offer, offered, send, send_failed, sends_again, stand_last, stands_first, too_long}
+use Rattle.model_dgram.specs.Sending.{asks_again, has_room, is_answer, leaves, offer, offered, send, send_failed, sends_again, stand_last, stands_first, too_long}
 use Rattle.model_dgram.specs.Receiving.{came, gives_up, hold, receive, received, receives_again, told_as, waited_for, waits_for}
 use Rattle.model_dgram.specs.Serving.{Close, Open, Receive, SendTo, Wanted, served, told}
 use Rattle.law_runs.specs.Allowed.{IsAmong}
@@ -235,17 +235,32 @@ module _ (O : ℕ → Type 0) (V : Value → Type 0) (nothing : V Nothing) (int 
         answer = ok (may (set_endpoint id (record endpoint { senders = without place endpoint.senders }) (wait_over place kept)));
       })
 
+  asks_comes : (may : Endpoints → Type 0) (key place id : ℕ) (it : Datagram) (endpoint : Endpoint) → may (wait_again place (Offers id it) kept)
+      → (old : Waiting) → waiting_at place kept ≡ Some old → AgainComes may key (asks_again key place id it endpoint p kept)
+  asks_comes may key place id it endpoint ok old found = at (stands_first place endpoint.senders)
+    where
+      at : (b : Bool) → AgainComes may key (if b then says (wait_again place (Offers id it) kept) [] (Asks (pos 401) (offer_text id it) key)
+          else says (wait_again place (Sends id it (next_future p)) kept) (MakesPlain ∷ []) (Waits (next_future p) key))
+      at true = inl (record { state = again_holds O kept place (Offers id it) holds tt; keys = refl; steps = tt; answer = (ok, refl) })
+      at false = inr (record {
+        state = again_holds New kept place (Sends id it next) older (inr refl, tt);
+        keys = refl;
+        steps = refl;
+        answer = refl;
+        there = replaced_among futures_in (is_place place) kept.waiting old (Sends id it next) next found (λ key. (0, refl));
+      })
+
   pub sends_comes : (may : Endpoints → Type 0) (key place id : ℕ) (it : Datagram) (input : Input) → may (wait_again place (Offers id it) kept)
-      → AgainComes may key (sends_again key place id it input kept)
-  sends_comes may key place id it (Throw exception) ok = leaves_comes may key place id (Raises exception) (λ m. tt)
-  sends_comes may key place id it (Send value) ok = at (endpoint_at id kept)
+      → (old : Waiting) → waiting_at place kept ≡ Some old → AgainComes may key (sends_again key place id it input p kept)
+  sends_comes may key place id it (Throw exception) ok old found = leaves_comes may key place id (Raises exception) (λ m. tt)
+  sends_comes may key place id it (Send value) ok old found = at (endpoint_at id kept)
     where
       at : (o : Option Endpoint) → AgainComes may key (elim o [
         | None ↦ leaves place id (Raises is_closed) kept
-        | Some endpoint ↦ says (wait_again place (Offers id it) kept) [] (Asks (pos 401) (offer_text id it) key)
+        | Some endpoint ↦ asks_again key place id it endpoint p kept
       ])
       at None = leaves_comes may key place id (Raises is_closed) (λ m. tt)
-      at (Some endpoint) = inl (record { state = again_holds O kept place (Offers id it) holds tt; keys = refl; steps = tt; answer = (ok, refl) })
+      at (Some endpoint) = asks_comes may key place id it endpoint ok old found
 
   pub offered_comes : (key place id : ℕ) (it : Datagram) (input : Input) (old : Waiting) → waiting_at place kept ≡ Some old
       → AgainComes MayNot key (offered key place id it input p kept)
@@ -357,7 +372,7 @@ module _ (O : ℕ → Type 0) (V : Value → Type 0) (nothing : V Nothing) (int 
   stays_hears : Hears O V kept.drawn (record { state = kept; steps = [] })
   stays_hears = record { state = holds; keys = refl; steps = tt }
 
-  room_hears : (o : Option ℕ) → Hears O V kept.drawn (has_room o kept)
+  pub room_hears : (o : Option ℕ) → Hears O V kept.drawn (has_room o kept)
   room_hears None = stays_hears
   room_hears (Some id) = at (endpoint_at id kept)
     where
@@ -368,7 +383,7 @@ module _ (O : ℕ → Type 0) (V : Value → Type 0) (nothing : V Nothing) (int 
       at None = stays_hears
       at (Some endpoint) = record { state = holds; keys = refl; steps = first_woken endpoint.senders }
 
-  came_hears : (o : Option Came) → Hears O V kept.drawn (came o kept)
+  pub came_hears : (o : Option Came) → Hears O V kept.drawn (came o kept)
   came_hears None = stays_hears
   came_hears (Some it) = at (endpoint_at it.endpoint kept)
     where

@@ -100,7 +100,7 @@ module _ (key : ℕ) (input : Input) (s : State Endpoints) where
       comes key Fewer s (woken (Some (Sends id it on)) key place input s.loop.parts s.extra)
       (sends_comes Any Any tt (λ n. tt) (λ it. tt) s.loop.parts s.extra (any_holds s.extra) Fewer key place id it input
       (subst (λ o. wakes_left o < left_at key s.extra) (sym (found_replaced (is_place place) s.extra.waiting (Sends id it on) (Offers id it) e))
-      (subst (λ o. 0 < wakes_left o) (sym e) (omega arith))))
+      (subst (λ o. 0 < wakes_left o) (sym e) (omega arith))) (Sends id it on) e)
   again (Some (Receives id on)) e =
       never (woken (Some (Receives id on)) key place input s.loop.parts s.extra)
       (receives_comes Any Any tt (λ n. tt) (λ it. tt) s.loop.parts s.extra (any_holds s.extra) key place id input (Receives id on) e)

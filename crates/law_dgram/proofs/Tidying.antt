@@ -19,7 +19,7 @@ use Rattle.model_dgram.specs.Endpoints.{Closes, Endpoint, Endpoints, Offers, Ope
 use Rattle.model_dgram.specs.Endpoints.{is_closed, next_key, no_endpoint, none_opened, on_endpoint, raises, says, set_endpoint, wait_again, wait_last, wait_over}
 use Rattle.model_dgram.specs.Endpoints.{wakes_first, wakes_receiver}
 use Rattle.model_dgram.specs.Opening.{close, is_next, no_port, open_on, opened, other_answer}
-use Rattle.model_dgram.specs.Sending.{has_room, is_answer, leaves, offer, offered, send, send_failed, sends_again, stand_last, stands_first, too_long}
+use Rattle.model_dgram.specs.Sending.{asks_again, has_room, is_answer, leaves, offer, offered, send, send_failed, sends_again, stand_last, stands_first, too_long}
 use Rattle.model_dgram.specs.Receiving.{came, gives_up, hold, receive, received, receives_again, told_as, waited_for, waits_for}
 use Rattle.model_dgram.specs.Serving.{Close, Open, Receive, SendTo, Wanted, asked_for, served, told, woken}
 use Rattle.law_sync.proofs.Lists.{each_append, each_filter, each_found, each_on, each_removed}
@@ -203,16 +203,21 @@ module _ (p : Parts) (kept : Endpoints) (tidy : IsTidy kept) where
           tidy_set (wait_over place kept) (tidy_over kept tidy place) id (record endpoint { senders = without place endpoint.senders })
           (each_filter (λ other. other < kept.drawn) (λ other. not (other == place)) endpoint.senders (lined_at kept tidy id endpoint e))
 
-  sends_tidy : (key place id : ℕ) (it : Datagram) (input : Input) → TidyAfter (sends_again key place id it input kept)
+  sends_tidy : (key place id : ℕ) (it : Datagram) (input : Input) → TidyAfter (sends_again key place id it input p kept)
   sends_tidy key place id it (Throw exception) = leaves_tidy place id (Raises exception)
   sends_tidy key place id it (Send value) = at (endpoint_at id kept)
     where
+      if_first : (b : Bool) → TidyAfter (if b then says (wait_again place (Offers id it) kept) [] (Asks (pos 401) (offer_text id it) key)
+          else says (wait_again place (Sends id it (next_future p)) kept) (MakesPlain ∷ []) (Waits (next_future p) key))
+      if_first true = tidy_again kept tidy place (Offers id it)
+      if_first false = tidy_again kept tidy place (Sends id it (next_future p))
+
       at : (o : Option Endpoint) → TidyAfter (elim o [
         | None ↦ leaves place id (Raises is_closed) kept
-        | Some endpoint ↦ says (wait_again place (Offers id it) kept) [] (Asks (pos 401) (offer_text id it) key)
+        | Some endpoint ↦ asks_again key place id it endpoint p kept
       ])
       at None = leaves_tidy place id (Raises is_closed)
-      at (Some endpoint) = tidy_again kept tidy place (Offers id it)
+      at (Some endpoint) = if_first (stands_first place endpoint.senders)
 
   offered_tidy : (key place id : ℕ) (it : Datagram) (input : Input) → TidyAfter (offered key place id it input p kept)
   offered_tidy key place id it (Throw exception) = leaves_tidy place id (Raises exception)

@@ -104,7 +104,7 @@ module _ (s : State Endpoints) where
         (offered_comes Old Any tt (λ number. tt) (λ it. tt) s.loop.parts s.extra holds key place id it input (Offers id it) e)
     wake_kept (Some (Sends id it on)) e =
         comes_kept May s.extra.drawn key (woken (Some (Sends id it on)) key place input s.loop.parts s.extra)
-        (sends_comes Old Any tt (λ number. tt) (λ it. tt) s.loop.parts s.extra holds May key place id it input tt)
+        (sends_comes Old Any tt (λ number. tt) (λ it. tt) s.loop.parts s.extra holds May key place id it input tt (Sends id it on) e)
     wake_kept (Some (Receives id on)) e =
         never (woken (Some (Receives id on)) key place input s.loop.parts s.extra)
         (receives_comes Old Any tt (λ number. tt) (λ it. tt) s.loop.parts s.extra holds key place id input (Receives id on) e)

@@ -1,4 +1,4 @@
-mod Entries
+pub mod Entries
 mod Courses
 mod Keeping
 mod Stepping

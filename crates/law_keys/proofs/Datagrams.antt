@@ -19,7 +19,7 @@ use Rattle.model_dgram.specs.Endpoints.{Closes, Endpoint, Endpoints, Offers, Ope
 use Rattle.model_dgram.specs.Endpoints.{fresh, futures_of, is_closed, next_key, no_endpoint, on_endpoint, raises, says, set_endpoint, wait_again, wait_last}
 use Rattle.model_dgram.specs.Endpoints.{wait_over, waiting_at, wakes_at, wakes_first, wakes_receiver}
 use Rattle.model_dgram.specs.Opening.{close, is_next, no_port, open_on, opened, other_answer}
-use Rattle.model_dgram.specs.Sending.{has_room, is_answer, leaves, offer, offered, send, send_failed, sends_again, stand_last, stands_first, too_long}
+use Rattle.model_dgram.specs.Sending.{asks_again, has_room, is_answer, leaves, offer, offered, send, send_failed, sends_again, stand_last, stands_first, too_long}
 use Rattle.model_dgram.specs.Receiving.{came, gives_up, hold, receive, received, receives_again, told_as, waited_for, waits_for}
 use Rattle.model_dgram.specs.Serving.{Close, Open, Receive, SendTo, Wanted, asked_for, dgram_means, served, told, wanted_of, woken}
 use Rattle.law_waiters.specs.Timed.{IsStepOf, KeepsToKeys, WaitsAsPart}
@@ -246,18 +246,25 @@ module _ (key place : ℕ) (p : Parts) (kept : Endpoints) (of : part_of_key key 
       at true = leaves_of_dgram place id (Answers Nothing) kept tt
       at false = again (is_answer value (codes "again"))
 
-  sends_again_of : (id : ℕ) (it : Datagram) (input : Input) → IsOfDgram (sends_again key place id it input kept)
+  sends_again_of : (id : ℕ) (it : Datagram) (input : Input) → IsOfDgram (sends_again key place id it input p kept)
   sends_again_of id it (Throw exception) = leaves_of_dgram place id (Raises exception) kept tt
   sends_again_of id it (Send value) = at (endpoint_at id kept)
     where
+      if_first : (b : Bool)
+          → IsOfDgram
+          (if b then says (wait_again place (Offers id it) kept) [] (Asks (pos 401) (offer_text id it) key)
+          else says (wait_again place (Sends id it (next_future p)) kept) (MakesPlain ∷ []) (Waits (next_future p) key))
+      if_first true = (tt, of)
+      if_first false = ((tt, tt), of)
+
       at : (o : Option Endpoint)
           → IsOfDgram
           (elim o [
             | None ↦ leaves place id (Raises is_closed) kept
-            | Some endpoint ↦ says (wait_again place (Offers id it) kept) [] (Asks (pos 401) (offer_text id it) key)
+            | Some endpoint ↦ asks_again key place id it endpoint p kept
           ])
       at None = leaves_of_dgram place id (Raises is_closed) kept tt
-      at (Some endpoint) = (tt, of)
+      at (Some endpoint) = if_first (stands_first place endpoint.senders)
 
   gives_up_of : (id : ℕ) (fault : Exc) → IsOfDgram (gives_up place id fault kept)
   gives_up_of id fault = at (endpoint_at id kept)

@@ -1,5 +1,5 @@
 -- How endpoints are opened and closed. Source: `base_events.py`, `create_datagram_endpoint`; `selector_events.py`, `close`.
-use Rattle.std.specs.Prelude.{ℕ, ◌+◌, ℤ, pos, Bool, false, List, [], ◌∷◌, ◌++◌, Some, None, bytes_eq, codes, if◌then◌else◌}
+use Rattle.std.specs.Prelude.{ℕ, ◌+◌, ℤ, pos, Bool, false, [], ◌∷◌, ◌++◌, Some, None, bytes_eq, codes, if◌then◌else◌}
 use Rattle.std.specs.Fmt.{decimal}
 use Rattle.std.specs.List.{flat_map}
 use Rattle.std.specs.Map.{remove_entry}

@@ -1,5 +1,5 @@
 -- How datagrams are sent, in order of asking. Who sends stands in line until it has sent or raised; the first in line asks the
--- outside, and waits where that can't send yet. Source: `selector_events.py`, `_SelectorDatagramTransport.sendto`, `_sendto_ready`.
+-- outside, and waits where that can't send yet. Who is woken while another stands first waits on; nobody but the first is woken. Source: `selector_events.py`, `_SelectorDatagramTransport.sendto`, `_sendto_ready`.
 use Rattle.std.specs.Prelude.{ℕ, ◌==◌, ℤ, pos, Bool, false, List, [], ◌∷◌, ◌++◌, Option, Some, None, bytes_eq, codes, length, nat_lt, if◌then◌else◌}
 use Rattle.model_value.specs.Input.{Input}
 use Rattle.model_value.specs.Value.{Value, Bytes, Nothing, Exc, exception_of}
@@ -68,12 +68,18 @@ leaves place id answer kept =
     ]
 
 -- by its future: the outside is asked
-abbrev pub sends_again : (key place id : ℕ) → Datagram → Input → Endpoints → ExtraSaid Endpoints
-sends_again key place id it (Throw exception) kept = leaves place id (Raises exception) kept
-sends_again key place id it (Send value) kept =
+abbrev pub asks_again : (key place id : ℕ) → Datagram → Endpoint → Parts → Endpoints → ExtraSaid Endpoints
+asks_again key place id it endpoint p kept =
+    if stands_first place endpoint.senders
+    then says (wait_again place (Offers id it) kept) [] (Asks (pos 401) (offer_text id it) key)
+    else says (wait_again place (Sends id it (next_future p)) kept) (MakesPlain ∷ []) (Waits (next_future p) key)
+
+abbrev pub sends_again : (key place id : ℕ) → Datagram → Input → Parts → Endpoints → ExtraSaid Endpoints
+sends_again key place id it (Throw exception) p kept = leaves place id (Raises exception) kept
+sends_again key place id it (Send value) p kept =
     elim (endpoint_at id kept) [
       | None ↦ leaves place id (Raises is_closed) kept
-      | Some endpoint ↦ says (wait_again place (Offers id it) kept) [] (Asks (pos 401) (offer_text id it) key)
+      | Some endpoint ↦ asks_again key place id it endpoint p kept
     ]
 
 -- what the outside answered is these bytes

@@ -59,7 +59,7 @@ abbrev pub woken : Option Waiting → (key place : ℕ) → Input → Parts → 
 woken None key place input p kept = only_says (passes input) kept
 woken (Some Opens) key place input p kept = opened place input kept
 woken (Some (Offers id it)) key place input p kept = offered key place id it input p kept
-woken (Some (Sends id it on)) key place input p kept = sends_again key place id it input kept
+woken (Some (Sends id it on)) key place input p kept = sends_again key place id it input p kept
 woken (Some (Receives id on)) key place input p kept = receives_again key place id input p kept
 woken (Some Closes) key place input p kept = closed place input kept
 
