@@ -31,7 +31,6 @@ module _ {A : Type 0} where
   both_last (x ∷ xs) (y ∷ ys) z (inl h) = inl (h.0, both_last xs ys z h.1)
   both_last (x ∷ xs) (y ∷ ys) z (inr h) = inr (both_last (x ∷ xs) ys z h)
 
-
   -- a part of a part
   pub within : (xs ys zs : List A) → IsPartOf xs ys → IsPartOf ys zs → IsPartOf xs zs
   within [] ys zs h g = tt

@@ -25,7 +25,6 @@ use Rattle.model_dgram.specs.Opening.{close, is_next, no_port, open_on, opened, 
 use Rattle.model_dgram.specs.Sending.{asks_again, has_room, is_answer, leaves, offer, offered, send, send_failed, sends_again, stand_last, stands_first, too_long}
 use Rattle.model_dgram.specs.Receiving.{came, gives_up, hold, receive, received, receives_again, told_as, waited_for, waits_for}
 use Rattle.model_dgram.specs.Serving.{Close, Open, Receive, SendTo, Wanted, asked_for, served, told, wanted_of, woken}
-
 use Rattle.law_jobs.proofs.Entries.{at, last_here, removed_found, removed_here, set_here}
 use Rattle.law_datagrams.specs.Notes.{AreBorneOut, IsBorneOut, IsPartOf, Note, is_answered_in, is_any, is_offered_in, is_sent_in, sent_on, was_answered, was_offered, was_sent}
 use Rattle.law_datagrams.specs.Notes.{wanted_on}
