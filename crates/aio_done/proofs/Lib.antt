@@ -1,0 +1,4 @@
+mod Puts
+mod Counting
+mod Keeping
+mod Owed
