@@ -12,6 +12,7 @@ use Rattle.model_jobs.specs.declared.mark.Mark.TheVariants.{Done, Starved}
 use Rattle.model_jobs.specs.Orders.{Ordered, ordered_of}
 use Rattle.model_jobs.specs.Done.{Mark, done_of}
 use Rattle.aio_workers.specs.Moments.{Moment, Puts, IsSpent}
+use Rattle.aio_workers.specs.declared.kit.JobReport.{JobReport}
 
 -- the jobs among these commands, in order
 abbrev pub given_in : List Command → List Ordered
@@ -72,3 +73,11 @@ Obeys Go before after end = (end ≡ None) × (after ≡ before)
 Obeys (Write bytes) before after end = Works bytes before after end
 Obeys Close before after end = (end ≡ Some Ended) × (after ≡ before)
 Obeys Stop before after end = (end ≡ Some Stopped) × (after ≡ before)
+
+-- ---- a worker that is seen out
+-- its report is as it was, but that its tail may have received more
+pub record SeesOut (old new : JobReport) : Type 0 where
+  pub done : new.done ≡ old.done
+  pub jobs : new.jobs ≡ old.jobs
+  pub ending : new.ending ≡ old.ending
+  pub lane : new.tail.lane ≡ old.tail.lane

@@ -13,4 +13,4 @@ pub use jobs::Jobs;
 pub use kit::{JobKit, JobReport};
 pub use plain::PlainJobs;
 pub use reading::{Order, order_of};
-pub use work::{done_by, work_on};
+pub use work::{done_by, see_out, work_on};

@@ -1,6 +1,6 @@
 //! What a worker does.
 ghost use Rattle.aio_workers.specs.Moments.{moment};
-ghost use Rattle.aio_workers.specs.Working.{WorkedOn, Obeys, Works, Finishes};
+ghost use Rattle.aio_workers.specs.Working.{WorkedOn, Obeys, Works, Finishes, SeesOut};
 ghost use Rattle.std.specs.Prelude.{◌≡◌, true, IfOk};
 ghost use Rattle.model_jobs.specs.Jobs.{is_kind};
 ghost use Rattle.model_jobs.specs.Orders.{ordered};
@@ -84,7 +84,9 @@ fn work<R: Wait, J: Jobs, B: Bell>(
         (moment end.new (B.rings bell.new) result.0) result.1 }
 {
     match numbered_order(bytes.items()) {
-        Some((number, order)) => finish(rt, alloc, number, order, jobs, end, bell, count),
+        Some((number, Order { kind, input })) => {
+            finish(rt, alloc, number, kind, input, jobs, end, bell, count)
+        }
         None => (count, None),
     }
 }
@@ -94,17 +96,18 @@ fn finish<R: Wait, J: Jobs, B: Bell>(
     rt: &R,
     alloc: Global,
     number: u64,
-    order: Order,
+    kind: i64,
+    input: &[u8],
     jobs: &J,
     end: &mut DoneEnd,
     bell: &mut B,
     count: u64,
 ) -> (u64, Option<Ending>)
-    requires { is_kind order.kind ≡ true }
-    ensures { Finishes (ordered number order.kind order.input.now) (moment end.old (B.rings bell.old) count)
+    requires { is_kind kind ≡ true }
+    ensures { Finishes (ordered number kind input.now) (moment end.old (B.rings bell.old) count)
         (moment end.new (B.rings bell.new) result.0) result.1 }
 {
-    match done_by(alloc, number, order, jobs) {
+    match done_by(alloc, number, kind, input, jobs) {
         Ok(done) => {
             if put(rt, end, bell, Mark::Done(done)) {
                 (count.saturating_add(1), None)
@@ -123,16 +126,51 @@ fn finish<R: Wait, J: Jobs, B: Bell>(
 }
 
 /// Does a job with this number. `Memory` where memory was refused to it.
-pub fn done_by<J: Jobs>(alloc: Global, number: u64, order: Order, jobs: &J) -> Result<Done, Memory>
-    requires { is_kind order.kind ≡ true }
-    ensures { IfOk result (λ done. done ≡ done_of (ordered number order.kind order.input.now)) }
+pub fn done_by<J: Jobs>(
+    alloc: Global,
+    number: u64,
+    kind: i64,
+    input: &[u8],
+    jobs: &J,
+) -> Result<Done, Memory>
+    requires { is_kind kind ≡ true }
+    ensures { IfOk result (λ done. done ≡ done_of (ordered number kind input.now)) }
 {
-    let output = jobs.run(alloc, order.kind, order.input)?;
-    match Vec::from_slice(alloc, order.input) {
-        Ok(own) => Ok(Done::of(number, order.kind, Blob::of(own), output)),
+    let output = jobs.run(alloc, kind, input)?;
+    match Vec::from_slice(alloc, input) {
+        Ok(own) => Ok(Done::of(number, kind, Blob::of(own), output)),
         Err(error) => {
             drop(output);
             Err(Memory::from(error))
         }
+    }
+}
+
+/// A worker that ended before its lane was closed goes on to receive until then: whoever closes the lane always finds room in
+/// it at last. What it receives so it passes over.
+pub fn see_out<R: Wait>(rt: &R, report: JobReport) -> JobReport
+    ensures { SeesOut report result }
+{
+    match report.ending {
+        Ending::Ended | Ending::Stopped | Ending::Failed => return report,
+        Ending::Spent | Ending::Memory => {}
+    }
+    let JobReport {
+        done,
+        mut tail,
+        jobs,
+        ending,
+    } = report;
+    for _ in rt.forever() {
+        match tail.next(rt) {
+            Command::Close | Command::Stop => break,
+            Command::Go | Command::Write(_) => {}
+        }
+    }
+    JobReport {
+        done,
+        tail,
+        jobs,
+        ending,
     }
 }
