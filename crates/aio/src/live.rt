@@ -1,4 +1,4 @@
-//! The outside of a run: a hub over the sockets and the programs of the system.
+//! The outside of a run: workers that do jobs, and a hub over the sockets and the programs of the system.
 ghost use Rattle.std.specs.Prelude.{◌≡◌};
 ghost use Rattle.aio_inbox.specs.Naming.{table_of};
 
@@ -6,12 +6,14 @@ use crate::OUT_OF_MEMORY;
 use aio_asked::{Finished, Hub, HubState};
 use aio_base::Memory;
 use aio_edge::{Files, Output, hold_standard};
+use aio_execwire::{ExecWire, Lanes, PlainJobs};
 use aio_inbox::{InboxName, UnnamedInbox};
 use aio_launcher::{RealLauncher, Run};
 use aio_memwire::DeadWire;
 use aio_outside::{Outside, PathFinder};
 use aio_poller::{PollerBell, RealPoller};
 use aio_run::aio_main;
+use aio_starter::RealStarter;
 use aio_wire::Wire;
 use std::alloc::Global;
 use std::io::ErrorKind;
@@ -23,7 +25,7 @@ use std::thread::Threads;
 use std::time::Clock;
 use std::{io, rt};
 
-/// Does what the words ask for, and gives the status. Its wire is a hub. Where there is no poller, as where the system
+/// Does what the words ask for, and gives the status. Its wire has jobs done beside it, over a hub. Where there is no poller, as where the system
 /// has no descriptor left, it is one of which each call fails.
 ///
 /// The places of standard descriptors that were closed are held first, so that nothing that is opened has their numbers.
@@ -67,7 +69,28 @@ fn run_over<R: rt::Files + Print + Copy, W: Wire>(
 
 fn forget_poller<R: Drop>(_poller: RealPoller<R>) {}
 
-fn forget_bell(_bell: PollerBell) {}
+/// The bells of a poller: that of the pumps, and that of the workers.
+struct Bells {
+    pumps: PollerBell,
+    workers: PollerBell,
+}
+
+fn forget_bells(bells: Bells) {
+    let Bells { pumps, workers } = bells;
+    drop(pumps);
+    drop(workers);
+}
+
+fn bells_of<R>(poller: &RealPoller<R>) -> Result<Bells, Memory> {
+    let pumps = poller.bell()?;
+    match poller.bell() {
+        Ok(workers) => Ok(Bells { pumps, workers }),
+        Err(Memory) => {
+            drop(pumps);
+            Err(Memory)
+        }
+    }
+}
 
 /// Makes the queue of an inbox, and picks the name of the inbox.
 fn run_polling<R>(rt: R, alloc: Global, words: &Vec<String>, poller: RealPoller<R>) -> u8
@@ -83,15 +106,15 @@ where
         + Send
         + 'static,
 {
-    let Ok(bell) = poller.bell() else {
+    let Ok(bells) = bells_of(&poller) else {
         forget_poller(poller);
         return OUT_OF_MEMORY;
     };
     match UnnamedInbox::new(alloc) {
-        Ok(unnamed) => run_named::<Brand, R>(rt, alloc, words, poller, bell, unnamed),
+        Ok(unnamed) => run_named::<Brand, R>(rt, alloc, words, poller, bells, unnamed),
         Err(Memory) => {
             forget_poller(poller);
-            forget_bell(bell);
+            forget_bells(bells);
             OUT_OF_MEMORY
         }
     }
@@ -106,7 +129,7 @@ fn run_named<N, R>(
     alloc: Global,
     words: &Vec<String>,
     poller: RealPoller<R>,
-    bell: PollerBell,
+    bells: Bells,
     unnamed: UnnamedInbox,
 ) -> u8
 where
@@ -125,14 +148,16 @@ where
 {
     let Ok(state) = HubState::<N, Run<N>>::make(alloc, unnamed) else {
         forget_poller(poller);
-        forget_bell(bell);
+        forget_bells(bells);
         return OUT_OF_MEMORY;
     };
-    match RealLauncher::<R, N>::make(rt, alloc, bell) {
-        Ok(launcher) => run_hub(rt, alloc, words, Hub::over(rt, poller, launcher, state)),
+    let Bells { pumps, workers } = bells;
+    match RealLauncher::<R, N>::make(rt, alloc, pumps) {
+        Ok(launcher) => run_hub(rt, alloc, words, Hub::over(rt, poller, launcher, state), workers),
         Err(Memory) => {
             forget_poller(poller);
             forget_state(state);
+            drop(workers);
             OUT_OF_MEMORY
         }
     }
@@ -144,6 +169,7 @@ fn run_hub<N, R>(
     alloc: Global,
     words: &Vec<String>,
     hub: Hub<N, R, RealPoller<R>, RealLauncher<R, N>>,
+    bell: PollerBell,
 ) -> u8
 where
     N: InboxName + Send + Sync + 'static,
@@ -158,12 +184,33 @@ where
         + Send
         + 'static,
 {
-    let mut wire = Outside::over(hub, PathFinder::new(rt));
-    let status = run_over(rt, alloc, words, &mut wire);
+    let within = Outside::over(hub, PathFinder::new(rt));
+    let (status, within) = run_working(rt, alloc, words, within, bell);
     let Finished {
         told: _told,
         launcher,
-    } = wire.into_inner().finish(alloc);
+    } = within.into_inner().finish(alloc);
     launcher.close();
     status
+}
+
+/// Runs over a wire that has jobs done beside this one. Then the workers end, and their threads are joined.
+fn run_working<R, W: Wire>(rt: R, alloc: Global, words: &Vec<String>, within: W, bell: PollerBell) -> (u8, W)
+where
+    R: rt::Files + Print + Threads + Wait + Copy + Send + 'static,
+{
+    match Lanes::make(alloc) {
+        Ok(lanes) => {
+            let (starter, pool) = RealStarter::make(rt, alloc, bell, PlainJobs);
+            let mut wire = ExecWire::over(rt, within, starter, PlainJobs, lanes);
+            let status = run_over(rt, alloc, words, &mut wire);
+            let (within, _reports) = wire.close();
+            pool.join(&rt);
+            (status, within)
+        }
+        Err(Memory) => {
+            drop(bell);
+            (OUT_OF_MEMORY, within)
+        }
+    }
 }

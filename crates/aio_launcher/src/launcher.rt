@@ -5,7 +5,7 @@ ghost use Rattle.aio_hub.specs.Launches.{LaunchAnswers, StartsNone};
 ghost use Rattle.aio_launcher.specs.Counts.{untold_launches};
 
 use crate::reports::Reports;
-use crate::slot::Slot;
+use aio_slot::Slot;
 use crate::starter;
 use crate::starter::{Launch, Order, Told};
 use aio_base::Memory;

@@ -5,7 +5,6 @@ mod launcher;
 mod pumps;
 mod reports;
 mod shares;
-mod slot;
 mod starter;
 
 pub use launcher::{RealLauncher, Run};

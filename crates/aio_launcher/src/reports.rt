@@ -1,5 +1,5 @@
 //! What the four pumps of a child did, until it is taken in.
-use crate::slot::Slot;
+use aio_slot::Slot;
 use aio_hub::PumpReports;
 use aio_inbox::{InboxName, Poster};
 use aio_pump::PumpReport;

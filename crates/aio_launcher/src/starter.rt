@@ -4,7 +4,7 @@
 //! thread that started it. So one thread does both, as it is told.
 use crate::pumps::{Pipes, Running, start};
 use crate::reports::Reports;
-use crate::slot::Slot;
+use aio_slot::Slot;
 use aio_hub::PumpKit;
 use aio_inbox::{Inbox, InboxName, Poster};
 use aio_poller::PollerBell;

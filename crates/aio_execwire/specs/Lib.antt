@@ -1,0 +1,14 @@
+pub use Rattle.model_jobs.specs.Orders
+pub use Rattle.model_jobs.specs.Done
+pub use Rattle.model_jobs.specs.Board
+pub use Rattle.model_jobs.specs.Gathering
+pub use Rattle.aio_memwire.specs.Passed
+pub mod Starts
+pub mod Seen
+pub mod Serving
+pub mod Ordering
+pub mod Telling
+pub mod Asked
+pub mod Outsides
+pub mod Making
+pub mod Closing

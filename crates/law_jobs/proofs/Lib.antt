@@ -1,0 +1,5 @@
+pub mod Fitting
+mod Counting
+mod Telling
+mod Ordering
+mod Lanes
