@@ -16,6 +16,8 @@ use Rattle.model_wire.specs.Fits.{turn_fits, are_few, are_awaited, is_awaited, i
 use Rattle.model_value.specs.Number.{most}
 use Rattle.model_jobs.specs.Jobs.{job_code}
 use Rattle.model_jobs.specs.Gathering.{awaits_jobs}
+use Rattle.aio_execwire.specs.declared.answering.Answering.{Answering}
+use Rattle.aio_execwire.specs.Telling.{IsReady, IsOfJobs, Adds}
 
 abbrev pub job_item : List ℕ → Item
 job_item text = item.Extra (pos job_code) text
@@ -129,3 +131,54 @@ room_so count bytes more told is = ap (λ b. nat_lt count most_items && b) (grin
 
 pub told_more : (bytes more told : ℕ) → told ≡ min bytes (2 ^ 64 - 1) → min (told + more) (2 ^ 64 - 1) ≡ min (bytes + more) (2 ^ 64 - 1)
 told_more bytes more told is = omega arith
+
+-- ---- an answer that grows
+abbrev place_for : Answering → ℕ → Bool
+place_for it more = it.opens && (nat_lt (length it.items.items) most_items && nat_le (min (it.bytes + more) (2 ^ 64 - 1)) most_bytes)
+
+module _ (watched : List Watch) (now : ℕ) (it : Answering) (came : Item) (of_job : IsOfJobs came) (more : ℕ) (more_is : more ≡ bytes_in came)
+    (ready : IsReady watched now it) where
+  abbrev all : List Item
+  all = it.items.items ++ came ∷ []
+
+  brings : bytes_in came ≡ length of_job.0
+  brings = ap bytes_in of_job.1
+
+  place_is : place_for it more ≡ turn_fits watched now all
+  place_is =
+      ap (λ b. b && (nat_lt (length it.items.items) most_items && nat_le (min (it.bytes + more) (2 ^ 64 - 1)) most_bytes)) ready.opens
+      ∙ ap (λ b. (turn_fits watched now it.items.items && awaits_jobs watched) && b)
+      (room_so (length it.items.items) (sum (map bytes_in it.items.items)) more it.bytes ready.bytes
+      ∙ ap (room_for (length it.items.items) (sum (map bytes_in it.items.items))) (more_is ∙ brings))
+      ∙ sym (fits_more watched now it.items.items of_job.0)
+      ∙ ap (λ (x : Item). turn_fits watched now (it.items.items ++ x ∷ [])) (sym of_job.1)
+
+  pub no_place : place_for it more ≡ false → Adds watched now came it it false
+  no_place none = record { fits_is = sym none ∙ place_is; items = refl; ready = ready }
+
+  and_first : (a b : Bool) → (a && b) ≡ true → a ≡ true
+  and_first true b h = refl
+  and_first false b h = h
+
+  and_second : (a b : Bool) → (a && b) ≡ true → b ≡ true
+  and_second true b h = h
+  and_second false b h = absurd (false≢true h)
+
+  pub has_place : (new : Answering) → place_for it more ≡ true → new.items.items ≡ all → new.opens ≡ it.opens
+      → new.bytes ≡ min (it.bytes + more) (2 ^ 64 - 1) → Adds watched now came it new true
+  has_place new some items same bytes =
+      let fits : turn_fits watched now all ≡ true = sym place_is ∙ some in
+      let opens : it.opens ≡ true = and_first it.opens _ some in
+      let jobs : awaits_jobs watched ≡ true = and_second (turn_fits watched now it.items.items) (awaits_jobs watched) (sym ready.opens ∙ opens) in
+      record {
+        fits_is = sym fits;
+        items = items;
+        ready = record {
+          opens = same ∙ opens ∙ sym (ap (λ (l : List Item). turn_fits watched now l && awaits_jobs watched) items
+              ∙ ap (λ b. b && awaits_jobs watched) fits ∙ jobs);
+          bytes = bytes ∙ told_more (sum (map bytes_in it.items.items)) more it.bytes ready.bytes
+              ∙ ap (λ n. min (sum (map bytes_in it.items.items) + n) (2 ^ 64 - 1)) more_is
+              ∙ ap (λ n. min n (2 ^ 64 - 1)) (sym (sum_more it.items.items came))
+              ∙ ap (λ (l : List Item). min (sum (map bytes_in l)) (2 ^ 64 - 1)) (sym items);
+        };
+      }

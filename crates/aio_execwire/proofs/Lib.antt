@@ -1,3 +1,4 @@
 mod Fitting
 mod Going
-mod Replies
+mod Workers
+mod Giving

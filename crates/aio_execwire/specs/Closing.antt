@@ -1,5 +1,6 @@
 -- What the end of the wire gives back.
-use Rattle.std.specs.Prelude.{◌≡◌, ℕ, ◌+◌, true, false, List, [], ◌∷◌, map}
+use Rattle.std.specs.Prelude.{◌≡◌, ℕ, List, map}
+use Rattle.std.specs.List.{count_by}
 use Rattle.aio_execwire.specs.declared.worker.Worker.{Worker}
 use Rattle.aio_execwire.specs.Seen.{WorkerSeen, worker_seen}
 
@@ -9,5 +10,4 @@ SameRuns old new = map (λ worker. (worker_seen worker).runs) new ≡ map (λ wo
 
 -- how many workers run
 abbrev pub running : List WorkerSeen → ℕ
-running [] = 0
-running (worker ∷ workers) = elim worker.runs [ true ↦ 1 + running workers | false ↦ running workers ]
+running workers = count_by (λ (worker : WorkerSeen). worker.runs) workers

@@ -52,19 +52,17 @@ fn close_lanes<R: Wait, Run>(rt: &R, workers: &mut Vec<Worker<Run>>, taker: &mut
 // Takes in the workers that ran, in order.
 fn take_in_all<S: Starter>(
     starter: &mut S,
-    workers: Vec<Worker<S::Run>>,
+    workers: &mut Vec<Worker<S::Run>>,
     reports: Vec<JobReport>,
 ) -> Vec<JobReport>
     requires none { reports.items ≡ [] }
-    requires room { length workers.items ≤ vec_capacity reports }
-    ensures reports { length result.items ≡ running (map worker_seen workers.items) }
+    requires room { length workers.old.items ≤ vec_capacity reports }
+    ensures { length result.items ≡ running (map worker_seen workers.old.items) }
 {
     let mut told = reports;
-    for worker in workers {
-        let Worker { head, waiting, run } = worker;
-        drop(waiting);
-        drop(head);
-        if let Some(run) = run {
+    for at in 0..workers.len() {
+        let worker = &mut workers[at];
+        if let Some(run) = worker.run.take() {
             told.push_reserved(starter.take_in(run));
         }
     }
@@ -106,7 +104,8 @@ fn end<R: Wait, S: Starter>(rt: &R, starter: &mut S, desk: Desk<S::Run>) -> Vec<
     drop(outstanding);
     drop(kept);
     close_lanes(rt, &mut workers, &mut taker);
-    let told = take_in_all(starter, workers, reports);
+    let told = take_in_all(starter, &mut workers, reports);
+    drop(workers);
     drop(taker);
     told
 }

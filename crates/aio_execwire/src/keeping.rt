@@ -1,12 +1,14 @@
 //! What is asked and done of a desk.
 ghost use Rattle.std.specs.Prelude.{◌≡◌};
-ghost use Rattle.model_jobs.specs.Board.{has_room};
+ghost use Rattle.model_jobs.specs.Board.{has_room, is_other};
 ghost use Rattle.model_jobs.specs.Gathering.{is_good};
 ghost use Rattle.aio_execwire.specs.Seen.{board_of, desk_seen, with_taken_off};
 ghost use Rattle.aio_execwire.specs.Serving.{ServesAll};
 
 use crate::desk::Desk;
+use aio_base::Blob;
 use aio_workers::Done;
+use model_jobs::Ordered;
 use std::sync::Wait;
 
 /// How many jobs are outstanding at once.
@@ -14,6 +16,13 @@ const MOST_OUTSTANDING: usize = 1_024;
 
 /// How many jobs are accepted at all.
 const MOST_ACCEPTED: u64 = 1 << 62;
+
+// It has another number.
+fn is_other(number: u64, given: &Ordered<Blob>) -> bool
+    ensures { result ≡ is_other number given.now }
+{
+    given.number != number
+}
 
 impl<Run> Desk<Run> {
     /// Gives each worker the jobs that wait for it.
@@ -48,6 +57,6 @@ impl<Run> Desk<Run> {
     pub(crate) fn take_off(&mut self, number: u64)
         ensures { desk_seen self.new ≡ with_taken_off number (desk_seen self.old) }
     {
-        self.outstanding.retain(|given| given.number != number);
+        self.outstanding.retain(|given| is_other(number, given));
     }
 }

@@ -38,7 +38,8 @@ fn lanes_for(alloc: Global, ends: Vec<DoneEnd>) -> Result<Vec<Lane>, Memory>
     ensures { IfOk result (AreUnused (length ends.items)) }
 {
     let mut lanes = Vec::with_capacity(alloc, ends.len())?;
-    for done in ends {
+    let mut left = ends;
+    while let Some(done) = left.pop() {
         let (head, tail) = lane(alloc)?;
         lanes.push(Lane {
             head,
@@ -101,14 +102,13 @@ fn started<S: Starter>(starter: &mut S, lanes: Lanes<S::Run>) -> Desk<S::Run>
     ensures { IsNew (desk_seen result) (S.seen starter.old) (S.seen starter.new) }
 {
     let Lanes {
-        lanes,
+        mut lanes,
         mut workers,
         taker,
         reports,
         alloc,
     } = lanes;
-    for lane in lanes {
-        let Lane { head, kit } = lane;
+    while let Some(Lane { head, kit }) = lanes.pop() {
         let run = match starter.start(kit) {
             Started::Running(run) => Some(run),
             Started::Refused => None,

@@ -54,10 +54,13 @@ impl<Run> Desk<Run> {
     // A job waits for its worker, which runs.
     fn queue(&mut self, number: u64, job: Command) -> Result<(), Memory>
         requires { runs_at number (desk_seen self.old).workers ≡ true }
-        ensures { IfOk result (λ _. desk_seen self.new ≡ with_queued number job (desk_seen self.old)) }
+        ensures queued { IfOk result (λ _. desk_seen self.new
+            ≡ with_queued number job (desk_seen self.old)) }
+        ensures same { self.new.outstanding ≡ self.old.outstanding }
     {
         let worker = &mut self.workers[(number % WORKERS) as usize];
-        worker.wait(job)
+        worker.wait(job)?;
+        Ok(())
     }
 
     // A job goes to its worker, or is done at once.
@@ -71,8 +74,10 @@ impl<Run> Desk<Run> {
         jobs: &J,
     ) -> Result<(), Memory>
         requires { is_kind kind ≡ true }
-        ensures { IfOk result (λ _. HandsOn bytes.now (ordered number kind input.now)
+        ensures handed { IfOk result (λ _. HandsOn bytes.now (ordered number kind input.now)
             (desk_seen self.old) (desk_seen self.new)) }
+        ensures same { self.new.outstanding ≡ self.old.outstanding }
+        ensures accepted { self.new.accepted ≡ self.old.accepted }
     {
         if self.runs_at(number) {
             let job = numbered(alloc, number, bytes)?;

@@ -24,7 +24,13 @@ impl Pool {
     }
 
     /// A thread more, and the seat that it serves. Nothing where no thread can be started, or memory is refused.
-    pub(crate) fn add<R, J>(&mut self, rt: R, alloc: Global, bell: &PollerBell, jobs: J) -> Option<Arc<Seat, Global>>
+    pub(crate) fn add<R, J>(
+        &mut self,
+        rt: R,
+        alloc: Global,
+        bell: &PollerBell,
+        jobs: J,
+    ) -> Option<Arc<Seat, Global>>
     where
         R: Threads + Wait + Copy + Send + 'static,
         J: Jobs + Drop + Send + 'static,
@@ -72,7 +78,9 @@ impl Pool {
 }
 
 // A seat for three who share it.
-fn shared(alloc: Global) -> Result<(Arc<Seat, Global>, Arc<Seat, Global>, Arc<Seat, Global>), std::alloc::AllocError> {
+fn shared(
+    alloc: Global,
+) -> Result<(Arc<Seat, Global>, Arc<Seat, Global>, Arc<Seat, Global>), std::alloc::AllocError> {
     let seat = Arc::new(alloc, Seat::new())?;
     let kept = Arc::try_clone(&seat)?;
     let theirs = Arc::try_clone(&seat)?;

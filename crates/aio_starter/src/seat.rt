@@ -24,7 +24,13 @@ impl Seat {
 
 /// What a worker's thread does: it waits for its kit, does the jobs that its lane carries, and puts its report. One that ended
 /// for want of memory goes on to receive until its lane is closed.
-pub(crate) fn serve<R: Wait, J: Jobs>(rt: R, alloc: Global, bell: PollerBell, jobs: J, seat: &Seat) {
+pub(crate) fn serve<R: Wait + Copy, J: Jobs + Drop>(
+    rt: R,
+    alloc: Global,
+    bell: PollerBell,
+    jobs: J,
+    seat: &Seat,
+) {
     let mut own = bell;
     let Some(JobKit { tail, done }) = seat.kit.next(&rt) else {
         return;

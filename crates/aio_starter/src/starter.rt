@@ -32,7 +32,12 @@ pub struct Run {
 impl<R: Threads + Wait + Copy + Send + 'static> RealStarter<R> {
     /// A starter of four workers, each of which rings a bell of this one after each job; and their threads. Where a thread can't
     /// be started, or memory is refused for it, there are fewer, and a later start is refused.
-    pub fn make<J: Jobs + Copy + Drop + Send + 'static>(rt: R, alloc: Global, bell: PollerBell, jobs: J) -> (RealStarter<R>, Pool) {
+    pub fn make<J: Jobs + Copy + Drop + Send + 'static>(
+        rt: R,
+        alloc: Global,
+        bell: PollerBell,
+        jobs: J,
+    ) -> (RealStarter<R>, Pool) {
         let mut pool = Pool::none(alloc);
         let mut free = VecDeque::new(alloc);
         for _ in 0..THREADS {
@@ -45,7 +50,14 @@ impl<R: Threads + Wait + Copy + Send + 'static> RealStarter<R> {
             free.push_back_reserved(seat);
         }
         drop(bell);
-        (RealStarter { rt, free, faults: 0 }, pool)
+        (
+            RealStarter {
+                rt,
+                free,
+                faults: 0,
+            },
+            pool,
+        )
     }
 }
 

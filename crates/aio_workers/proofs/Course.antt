@@ -13,11 +13,11 @@ use Rattle.aio_pump.specs.Moments.{told}
 use Rattle.aio_pump.proofs.Posting.{told_add}
 use Rattle.aio_pump.specs.Received.{took_all}
 use Rattle.model_jobs.specs.declared.mark.Mark.TheVariants.{Done, Starved}
-use Rattle.model_jobs.specs.Orders.{Ordered, ordered_of}
+use Rattle.model_jobs.specs.Orders.{Ordered, ordered_of, given_in}
 use Rattle.model_jobs.specs.Done.{Mark, done_of}
 use Rattle.aio_done.specs.Ends.{EndSeen}
 use Rattle.aio_workers.specs.Moments.{Moment, Puts, IsSpent, all_put, rung_after}
-use Rattle.aio_workers.specs.Working.{given_in, dones, BreaksOff, WorkedOn, Finishes, Does, Obeys}
+use Rattle.aio_workers.specs.Working.{dones, BreaksOff, WorkedOn, Finishes, Does, Obeys}
 
 -- ---- lists
 heard_on : (tail now : TailSeen) (commands : List Command) (command : Command) → now ≡ took_all tail commands

@@ -1,6 +1,5 @@
 -- What one call of `work_on` did.
 use Rattle.std.specs.Prelude.{◌≡◌, ℕ, ◌+◌, List, [], ◌∷◌, ◌++◌, length, map, Option, Some, None}
-use Rattle.std.specs.Option.{option_to_list}
 use Rattle.model_pump.specs.Commands.{Command}
 use Rattle.model_pump.specs.declared.command.Command.TheVariants.{Go, Write, Close, Stop}
 use Rattle.aio_lane.specs.Ends.{TailSeen}
@@ -9,18 +8,10 @@ use Rattle.aio_pump.specs.declared.report.Ending.TheVariants.{Ended, Stopped, Fa
 use Rattle.aio_pump.specs.Moments.{told}
 use Rattle.aio_pump.specs.Received.{took_all, IsLast}
 use Rattle.model_jobs.specs.declared.mark.Mark.TheVariants.{Done, Starved}
-use Rattle.model_jobs.specs.Orders.{Ordered, ordered_of}
+use Rattle.model_jobs.specs.Orders.{Ordered, ordered_of, given_in}
 use Rattle.model_jobs.specs.Done.{Mark, done_of}
 use Rattle.aio_workers.specs.Moments.{Moment, Puts, IsSpent}
 use Rattle.aio_workers.specs.declared.kit.JobReport.{JobReport}
-
--- the jobs among these commands, in order
-abbrev pub given_in : List Command → List Ordered
-given_in [] = []
-given_in (Go ∷ commands) = given_in commands
-given_in (Write bytes ∷ commands) = option_to_list (ordered_of bytes) ++ given_in commands
-given_in (Close ∷ commands) = given_in commands
-given_in (Stop ∷ commands) = given_in commands
 
 -- each of these jobs, once it was done
 abbrev pub dones : List Ordered → List Mark
