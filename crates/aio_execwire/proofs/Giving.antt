@@ -1,6 +1,5 @@
 -- How a worker is served: one job after another.
 use Rattle.std.proofs.Common.{◌≡◌, ℕ, ◌+◌, ◌<◌, ◌^◌, inl, inr, List, [], ◌∷◌, ◌++◌, length, refl, sym, ap, ◌∙◌, append_assoc, append-nil, arith}
-use Rattle.crossbeam_queue.specs.Fifo.{Held}
 use Rattle.model_pump.specs.Commands.{Command}
 use Rattle.aio_lane.specs.Ends.{HeadSeen, GiveAnswers}
 use Rattle.aio_lane.specs.declared.command.Giving.{Giving}

@@ -123,30 +123,24 @@ module _ (watched : List Watch) (now : ℕ) where
 not_at_most : (count : ℕ) → count < most_marks → nat_le most_marks count ≡ false
 not_at_most count below = grind (arith, nat_tests)
 
-pub not_enough : (items : List Item) (board : Board) (count : ℕ) → is_empty board.kept ≡ true → count < most_marks
+pub not_enough : (items : List Item) (board : Board) (count : ℕ) → not (is_empty board.kept) ≡ false → count < most_marks
     → is_enough (gathering items board count false) ≡ false
-not_enough items board count none below =
-    ap (λ b. not b || nat_le most_marks count) none ∙ not_at_most count below
+not_enough items board count none below = ap (λ b. b || nat_le most_marks count) none ∙ not_at_most count below
 
-pub enough_kept : (items : List Item) (board : Board) (count : ℕ) → is_empty board.kept ≡ false → is_enough (gathering items board count false) ≡ true
-enough_kept items board count some = ap (λ b. not b || nat_le most_marks count) some
+pub enough_kept : (items : List Item) (board : Board) (count : ℕ) → not (is_empty board.kept) ≡ true
+    → is_enough (gathering items board count false) ≡ true
+enough_kept items board count some = ap (λ b. b || nat_le most_marks count) some
+
+pub enough_starved : (items : List Item) (board : Board) (count : ℕ) → is_enough (gathering items board count true) ≡ true
+enough_starved items board count = refl
 
 or_true : (b : Bool) → (b || true) ≡ true
 or_true true = refl
 or_true false = refl
 
+at_least : (count : ℕ) → most_marks ≤ count → nat_le most_marks count ≡ true
+at_least count many = grind (arith, nat_tests)
+
 pub enough_many : (items : List Item) (board : Board) (count : ℕ) → most_marks ≤ count → is_enough (gathering items board count false) ≡ true
 enough_many items board count many =
     ap (λ b. not (is_empty board.kept) || b) (at_least count many) ∙ or_true (not (is_empty board.kept))
-  where
-    at_least : (count : ℕ) → most_marks ≤ count → nat_le most_marks count ≡ true
-    at_least count many = grind (arith, nat_tests)
-
--- a list is empty where it has no length
-pub empty_so : (dones : List Done) → length dones ≡ 0 → is_empty dones ≡ true
-empty_so [] none = refl
-empty_so (done ∷ dones) none = absurd (omega arith)
-
-pub not_empty_so : (dones : List Done) → 0 < length dones → is_empty dones ≡ false
-not_empty_so [] some = absurd (omega arith)
-not_empty_so (done ∷ dones) some = refl

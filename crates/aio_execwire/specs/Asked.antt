@@ -38,6 +38,10 @@ Gathers watched (Got (answer.Turn now items)) old new reply =
 Gathers watched said old new reply =
     (reply ≡ said) × (new.board ≡ old.board) × (new.taken ≡ old.taken) × (new.nones ≡ old.nones) × (new.workers ≡ old.workers)
 
+abbrev pub IsTurn : Reply → Type 0
+IsTurn (Got (answer.Turn now items)) = Unit {0}
+IsTurn said = ⊥
+
 -- The workers are served; then the wire within is asked to select, without a wait where a job that is kept can be told.
 pub record Selects {W : Type 0} (o : Outside W) (wait : Option ℕ) (watched : List Watch) (old new : DeskSeen) (inner now : W)
     (reply : Reply) : Type 0 where

@@ -57,6 +57,7 @@ impl<Run> Desk<Run> {
         ensures queued { IfOk result (λ _. desk_seen self.new
             ≡ with_queued number job (desk_seen self.old)) }
         ensures same { self.new.outstanding ≡ self.old.outstanding }
+        ensures accepted { self.new.accepted ≡ self.old.accepted }
     {
         let worker = &mut self.workers[(number % WORKERS) as usize];
         worker.wait(job)?;

@@ -2,12 +2,12 @@
 ghost use Rattle.std.specs.Prelude.{◌≡◌, ℕ, Option, Some, IfOk, OnErr, if◌then◌else◌};
 ghost use Rattle.model_wire.specs.declared.call.Call.TheVariants as asked;
 ghost use Rattle.aio_memwire.specs.Passed.{WireAsked};
-ghost use Rattle.model_jobs.specs.Gathering.{begin, is_empty, awaits_jobs};
+ghost use Rattle.model_jobs.specs.Gathering.{begin};
 ghost use Rattle.aio_execwire.specs.Seen.{board_of, desk_seen};
-ghost use Rattle.aio_execwire.specs.Asked.{Gathers, GathersTurn, Selects};
+ghost use Rattle.aio_execwire.specs.Asked.{Gathers, GathersTurn, IsTurn, Selects};
 ghost use Rattle.aio_execwire.specs.Outsides.{Leaves};
 
-use crate::answering::{Answering, awaits_jobs};
+use crate::answering::Answering;
 use crate::desk::Desk;
 use aio_base::Memory;
 use aio_wire::{Answer, Call, ItemList, Reply, WatchList, Wire};
@@ -67,7 +67,8 @@ fn add_jobs<R: Wait, Run>(
     watch: &WatchList,
     said: Reply,
 ) -> Result<Reply, Memory>
-    ensures { IfOk result (Gathers watch.now said (desk_seen desk.old) (desk_seen desk.new)) }
+    ensures gathers { IfOk result (Gathers watch.now said (desk_seen desk.old) (desk_seen desk.new)) }
+    ensures turn { OnErr result (IsTurn said) }
 {
     match said {
         Reply::Got(Answer::Turn { now, items }) => gather(rt, alloc, desk, watch, now, &items),
@@ -91,7 +92,7 @@ pub(crate) fn select<R: Wait, W: Wire, Run>(
         → OnErr result (Leaves W.outside inner.old inner.new) }
 {
     desk.serve(rt);
-    let hurries = !desk.kept.is_empty() && awaits_jobs(watch.items());
+    let hurries = desk.hurries(watch.items());
     let said = pass_on(alloc, inner, call, watch, hurries)?;
     add_jobs(rt, alloc, desk, watch, said)
 }

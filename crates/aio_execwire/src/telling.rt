@@ -71,7 +71,8 @@ impl<Run> Desk<Run> {
             (desk_seen self.new)) }
     {
         let kept = std::mem::replace(&mut self.kept, Vec::new(alloc));
-        for done in kept {
+        let rest = kept.into_iter();
+        for done in rest {
             self.tell(alloc, answering, done)?;
         }
         Ok(())
@@ -109,8 +110,8 @@ impl<Run> Desk<Run> {
             (so_far answering.new (desk_seen self.new) count starved)
             (desk_seen self.old) (desk_seen self.new)) }
     {
-        for _ in 0..MOST_MARKS {
-            if !self.kept.is_empty() {
+        for _made in 0..MOST_MARKS {
+            if self.keeps_any() {
                 return Ok(false);
             }
             let Some(mark) = self.taker.take(rt) else {

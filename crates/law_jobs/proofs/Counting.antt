@@ -1,8 +1,8 @@
 -- How often numbers stand in lists, and which jobs are good.
-use Rattle.std.proofs.Common.{◌≡◌, ◌≢◌, ℕ, ◌+◌, ◌<◌, ◌≤◌, Bool, true, false, cond, ◌&&◌, ◌||◌, not, List, [], ◌∷◌, ◌++◌, length, map, All}
-use Rattle.std.proofs.Common.{refl, sym, ap, ◌∙◌, subst, arith, eq-eqb, ne_eqb}
+use Rattle.std.proofs.Common.{◌≡◌, ◌≢◌, ℕ, ◌+◌, ◌<◌, Bool, true, false, cond, ◌&&◌, ◌||◌, not, List, [], ◌∷◌, ◌++◌, All}
+use Rattle.std.proofs.Common.{refl, sym, ap, ◌∙◌, arith, eq-eqb, ne_eqb}
 use Rattle.std.specs.Prelude.{◌==◌}
-use Rattle.std.specs.List.{filter, list_any, sum_by, Any}
+use Rattle.std.specs.List.{filter}
 use Rattle.std.specs.Ordering.{int_eq}
 use Rattle.std.specs.Str.{bytes_eq}
 use Rattle.std.proofs.lemmas.Bool.{false≢true}
@@ -28,10 +28,10 @@ pub times_both : (n : ℕ) (xs ys : List ℕ) → times n (xs ++ ys) ≡ times n
 times_both n xs ys = sum_by-append (one_at n) xs ys
 
 pub one_here : (n m : ℕ) → m ≡ n → times n (m ∷ []) ≡ 1
-one_here n m e = ap (λ (b : Bool). cond b 1 0 + 0) (eq-eqb m n e)
+one_here n m e = ap (λ (b : Bool). 0 + cond b 1 0) (eq-eqb m n e)
 
 pub none_here : (n m : ℕ) → m ≢ n → times n (m ∷ []) ≡ 0
-none_here n m e = ap (λ (b : Bool). cond b 1 0 + 0) (ne_eqb m n e)
+none_here n m e = ap (λ (b : Bool). 0 + cond b 1 0) (ne_eqb m n e)
 
 pub times_first : (n m : ℕ) (ms : List ℕ) → times n (m ∷ ms) ≡ times n (m ∷ []) + times n ms
 times_first n m ms = times_both n (m ∷ []) ms
@@ -107,16 +107,17 @@ result_of jobs done good job =
 
 pub good_there : (jobs : List Ordered) (done : Done) → is_good jobs done ≡ true → 0 < times done.number (numbers_of jobs)
 good_there [] done good = absurd (false≢true good)
-good_there (x ∷ xs) done good = by_first (is_done_of done x) refl good
+good_there (x ∷ xs) done good = by_first (is_done_of done x) refl good (λ rest. good_there xs done rest)
   where
-    by_first : (b : Bool) → is_done_of done x ≡ b → (b || is_good xs done) ≡ true → 0 < times done.number (numbers_of (x ∷ xs))
-    by_first true is good =
+    by_first : (b : Bool) → is_done_of done x ≡ b → (b || is_good xs done) ≡ true
+        → (is_good xs done ≡ true → 0 < times done.number (numbers_of xs)) → 0 < times done.number (numbers_of (x ∷ xs))
+    by_first true is good more =
         let first = times_first done.number x.number (numbers_of xs) in
         let one = one_here done.number x.number (same_number done x is) in
         omega (arith, first, one)
-    by_first false is good =
+    by_first false is good more =
         let first = times_first done.number x.number (numbers_of xs) in
-        let rest = good_there xs done good in
+        let rest = more good in
         omega (arith, first, rest)
 
 or_first : (a b : Bool) → a ≡ true → (a || b) ≡ true
@@ -130,14 +131,15 @@ or_second false b h = h
 -- a job with another number is taken off
 pub good_still : (m : ℕ) (jobs : List Ordered) (done : Done) → done.number ≢ m → is_good jobs done ≡ true → is_good (filter (is_other m) jobs) done ≡ true
 good_still m [] done other good = good
-good_still m (x ∷ xs) done other good = by_first (is_done_of done x) refl good
+good_still m (x ∷ xs) done other good = by_first (is_done_of done x) refl good (λ rest. good_still m xs done other rest)
   where
-    by_first : (b : Bool) → is_done_of done x ≡ b → (b || is_good xs done) ≡ true → is_good (filter (is_other m) (x ∷ xs)) done ≡ true
-    by_first true is good =
+    by_first : (b : Bool) → is_done_of done x ≡ b → (b || is_good xs done) ≡ true
+        → (is_good xs done ≡ true → is_good (filter (is_other m) xs) done ≡ true) → is_good (filter (is_other m) (x ∷ xs)) done ≡ true
+    by_first true is good more =
         ap (λ (l : List Ordered). is_good l done) (kept_on m x xs (λ e. other (sym (same_number done x is) ∙ e)))
         ∙ or_first (is_done_of done x) (is_good (filter (is_other m) xs) done) is
-    by_first false is good =
-        let rest = good_still m xs done other good in
+    by_first false is good more =
+        let rest = more good in
         dite (ℕ_discrete x.number m)
         (λ same. ap (λ (l : List Ordered). is_good l done) (taken_off m x xs same) ∙ rest)
         (λ apart. ap (λ (l : List Ordered). is_good l done) (kept_on m x xs apart)
@@ -149,11 +151,13 @@ good_before m (x ∷ xs) done good =
     dite (ℕ_discrete x.number m)
     (λ same. or_second (is_done_of done x) (is_good xs done)
     (good_before m xs done (ap (λ (l : List Ordered). is_good l done) (sym (taken_off m x xs same)) ∙ good)))
-    (λ apart. by_first (is_done_of done x) (ap (λ (l : List Ordered). is_good l done) (sym (kept_on m x xs apart)) ∙ good))
+    (λ apart. by_first (is_done_of done x) (ap (λ (l : List Ordered). is_good l done) (sym (kept_on m x xs apart)) ∙ good)
+    (λ rest. good_before m xs done rest))
   where
-    by_first : (b : Bool) → (b || is_good (filter (is_other m) xs) done) ≡ true → (b || is_good xs done) ≡ true
-    by_first true good = refl
-    by_first false good = good_before m xs done good
+    by_first : (b : Bool) → (b || is_good (filter (is_other m) xs) done) ≡ true
+        → (is_good (filter (is_other m) xs) done ≡ true → is_good xs done ≡ true) → (b || is_good xs done) ≡ true
+    by_first true good more = refl
+    by_first false good more = more good
 
 -- one job more is outstanding
 pub good_more : (jobs : List Ordered) (given : Ordered) (done : Done) → is_good jobs done ≡ true → is_good (jobs ++ given ∷ []) done ≡ true

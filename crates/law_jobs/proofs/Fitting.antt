@@ -12,7 +12,7 @@ use Rattle.model_wire.specs.Fits.{turn_fits, are_few, are_awaited, is_awaited, s
 use Rattle.model_jobs.specs.declared.mark.Mark.TheVariants as mark
 use Rattle.model_jobs.specs.Done.{Done, Mark, item_of}
 use Rattle.model_jobs.specs.Board.{Board, keep, take_off}
-use Rattle.model_jobs.specs.Gathering.{Gathering, gathering, is_of_job, others_of, fits_with, tell, tell_all, begin, is_good, tell_good, after_mark, gather}
+use Rattle.model_jobs.specs.Gathering.{Gathering, gathering, is_of_job, others_of, fits_with, tell, tell_all, begin, is_good, after_mark, gather}
 
 and_first : (a b : Bool) → (a && b) ≡ true → a ≡ true
 and_first true b h = refl
@@ -38,11 +38,11 @@ or_none true b h = absurd (false≢true (sym h))
 module _ (p : Item → Bool) where
   fewer : (xs : List Item) → length (filter p xs) ≤ length xs
   fewer [] = omega arith
-  fewer (x ∷ xs) = by_test (p x)
+  fewer (x ∷ xs) = by_test (p x) (fewer xs)
     where
-      by_test : (b : Bool) → length (cond b (x ∷ filter p xs) (filter p xs)) ≤ length (x ∷ xs)
-      by_test true = let rest = fewer xs in omega (arith, rest)
-      by_test false = let rest = fewer xs in omega (arith, rest)
+      by_test : (b : Bool) → length (filter p xs) ≤ length xs → length (cond b (x ∷ filter p xs) (filter p xs)) ≤ length (x ∷ xs)
+      by_test true rest = omega (arith, rest)
+      by_test false rest = omega (arith, rest)
 
   less : (f : Item → ℕ) (xs : List Item) → sum (map f (filter p xs)) ≤ sum (map f xs)
   less f [] = omega arith

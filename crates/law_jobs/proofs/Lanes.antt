@@ -1,5 +1,5 @@
 -- Workers to whose lanes nothing more is given.
-use Rattle.std.proofs.Common.{◌≡◌, ℕ, ◌+◌, ◌-◌, ◌≤◌, List, [], ◌∷◌, ◌++◌, length, Option, Some, None, refl, sym, ap, ◌∙◌, append_assoc, length-append, arith}
+use Rattle.std.proofs.Common.{◌≡◌, ℕ, ◌≤◌, List, [], ◌∷◌, ◌++◌, length, Option, Some, None, refl, sym, ap, ◌∙◌, append_assoc, length-append, arith}
 use Rattle.std.specs.Option.{option_to_list}
 use Rattle.model_pump.specs.Commands.{Command}
 use Rattle.model_pump.specs.declared.command.Command.TheVariants.{Go, Write, Close, Stop}

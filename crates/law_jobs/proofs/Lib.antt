@@ -1,5 +1,5 @@
 pub mod Fitting
 mod Counting
 mod Telling
-mod Ordering
+pub mod Ordering
 mod Lanes

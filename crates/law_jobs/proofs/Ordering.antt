@@ -1,14 +1,13 @@
 -- A job that is asked for.
-use Rattle.std.proofs.Common.{◌≡◌, ◌≢◌, ℕ, suc, ◌+◌, ◌-◌, ◌<◌, ◌≤◌, ◌^◌, ◌/◌, ◌%◌, ◌*◌, ℤ, pos, negsuc, Bool, true, false, cond, ◌&&◌, not, List, [], ◌∷◌, ◌++◌, length, map, take, drop, fold, Option, Some, None, All}
-use Rattle.std.proofs.Common.{refl, sym, ap, ◌∙◌, subst, arith, length-append, add-one}
-use Rattle.std.specs.Prelude.{◌==◌, nat_le, nat_lt, position, if◌then◌else◌}
+use Rattle.std.proofs.Common.{◌≡◌, ℕ, zero, suc, ◌+◌, ◌-◌, ◌<◌, ◌≤◌, ◌^◌, ◌%◌, ◌*◌, ℤ, pos, negsuc, Bool, true, false, cond, ◌&&◌, not, List, [], ◌∷◌, ◌++◌, length, take, drop, fold, Option, Some, None, All}
+use Rattle.std.proofs.Common.{refl, sym, ap, ◌∙◌, subst, arith, length-append}
+use Rattle.std.specs.Prelude.{◌==◌, nat_le, nat_lt, position}
 use Rattle.std.specs.Option.{option_map}
 use Rattle.std.specs.List.{list_all, position_or_len}
 use Rattle.std.specs.Fmt.{decimal}
 use Rattle.std.proofs.lemmas.Fmt.{decimal_by_steps, length-decimal-le}
 use Rattle.std.proofs.lemmas.Bool.{false≢true}
 use Rattle.std.proofs.lemmas.Bool.Decides.{nat_tests}
-use Rattle.std.proofs.lemmas.Grind.{common_steps}
 use Rattle.std.proofs.Math.Seq.{take-append_seam, drop-append-add}
 use Rattle.std.proofs.lemmas.List.Elements.{All-nil, All-push, All-weaker, All-head, All-tail}
 use mathlib.Core.Logic.{dite}
@@ -23,7 +22,7 @@ use Rattle.model_jobs.specs.Done.{Done, IsJob, done_of}
 use Rattle.model_jobs.specs.Board.{Board, new_board, most_outstanding, most_accepted, has_room, accepts, accepted_of, put_on, keep, after_order, order_answer}
 use Rattle.model_jobs.specs.Gathering.{is_good}
 use Rattle.law_jobs.specs.Sound.{times, numbers_of, numbers_in, IsSound}
-use Rattle.law_jobs.proofs.Counting.{times_both, one_here, none_here, good_more, good_last, good_there, none_has, numbers_of-last, numbers_in-last}
+use Rattle.law_jobs.proofs.Counting.{times_both, one_here, none_here, good_more, good_last, good_there, numbers_of-last, numbers_in-last}
 
 and_first : (a b : Bool) → (a && b) ≡ true → a ≡ true
 and_first true b h = refl
@@ -43,6 +42,8 @@ by_accepts : (P : Option Ordered → Type 0) (board : Board) (order : Option Ord
 by_accepts P board None none some = none
 by_accepts P board (Some order) none some = by_room (has_room board && nat_le (length order.input) most_input) refl
   where
+    below : (n : ℕ) → nat_lt n most_accepted ≡ true → n < 2 ^ 62
+    below n is = grind (arith, nat_tests)
     by_room : (b : Bool) → (has_room board && nat_le (length order.input) most_input) ≡ b
         → P (cond b (Some (ordered board.accepted order.kind order.input)) None)
     by_room false is = none
@@ -52,8 +53,6 @@ by_accepts P board (Some order) none some = by_room (has_room board && nat_le (l
           room = below board.accepted (and_second (nat_lt (length board.outstanding) most_outstanding) (nat_lt board.accepted most_accepted)
               (and_first (has_room board) (nat_le (length order.input) most_input) is));
         })
-    below : (n : ℕ) → nat_lt n most_accepted ≡ true → n < 2 ^ 62
-    below n is = grind (arith, nat_tests)
 
 -- ---- what is answered fits
 number_fits : (n : ℕ) → n < 2 ^ 62 → nat_le (length (decimal n)) most_bytes ≡ true
@@ -93,7 +92,7 @@ module _ (told : List ℕ) (board : Board) (sound : IsSound told board) (given :
   none_so_high = by_count (times given.number (told ++ numbers_of board.outstanding)) (sound.accepted given.number)
     where
       by_count : (k : ℕ) → (0 < k → given.number < board.accepted) → k ≡ 0
-      by_count 0 low = refl
+      by_count zero low = refl
       by_count (suc k) low = let same = next.number in let below = low (omega arith) in absurd (omega (arith, same, below))
 
   put_sound : IsSound told after
@@ -201,9 +200,9 @@ not_space digit is = grind (arith, nat_tests)
 len_before : (digits rest : List ℕ) → list_all is_digit digits ≡ true → position_or_len (λ byte. byte == 32) (digits ++ 32 ∷ rest) ≡ length digits
 len_before [] rest all = refl
 len_before (digit ∷ digits) rest all =
-    ap (λ (b : Bool). cond (not b) (suc (position_or_len (λ byte. byte == 32) (digits ++ 32 ∷ rest))) 0)
+    ap (λ (b : Bool). cond (not b) (1 + position_or_len (λ byte. byte == 32) (digits ++ 32 ∷ rest)) 0)
     (not_space digit (and_first (is_digit digit) (list_all is_digit digits) all))
-    ∙ ap (λ (k : ℕ). suc k) (len_before digits rest (and_second (is_digit digit) (list_all is_digit digits) all))
+    ∙ (let more = len_before digits rest (and_second (is_digit digit) (list_all is_digit digits) all) in omega (arith, more))
 
 space_after : (digits rest : List ℕ) → list_all is_digit digits ≡ true → position (λ byte. byte == 32) (digits ++ 32 ∷ rest) ≡ Some (length digits)
 space_after digits rest all =

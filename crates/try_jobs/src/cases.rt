@@ -19,11 +19,19 @@ pub fn run_jobs<R: Print + Threads + Wait + Copy + Send + Sync + 'static>(
     for row in &WORKS {
         tally.count(rt, row.name, row.is_right(rt, alloc))?;
     }
-    tally.count(rt, "a worker that meets a full queue", meets_a_full_queue(rt, alloc))?;
+    tally.count(
+        rt,
+        "a worker that meets a full queue",
+        meets_a_full_queue(rt, alloc),
+    )?;
     tally.count(rt, "two workers that need each other", meet(rt, alloc))?;
     for row in &ASKS {
         tally.count(rt, row.name, row.is_right(*rt, alloc))?;
     }
-    tally.count(rt, "1,024 jobs are outstanding at most", holds_many(*rt, alloc))?;
+    tally.count(
+        rt,
+        "1,024 jobs are outstanding at most",
+        holds_many(*rt, alloc),
+    )?;
     tally.print(rt)
 }

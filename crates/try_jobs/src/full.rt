@@ -81,7 +81,7 @@ fn take_all<R: Wait>(rt: &R, taker: DoneTaker, given: &AtomicU64) -> bool {
 
 fn is_job(mark: &Mark) -> bool {
     match mark {
-        Mark::Done(done) => done.number() == 5 && done.output() == b"ba",
+        Mark::Done(done) => done.number() == 5 && done.output() == b"ba".as_slice(),
         Mark::Starved => false,
     }
 }

@@ -78,3 +78,32 @@ fn put_all<R: Wait>(rt: &R, alloc: Global, end: &mut DoneEnd, puts: &[Put]) {
         drop(end.put(rt, mark_of(alloc, *put)));
     }
 }
+
+impl<R: Wait> Starter for Hands<R> {
+    ghost use Rattle.std.specs.Prelude.{None};
+
+    type Run = JobKit;
+
+    ghost seen = { λ hands. record { starts = None; faults = hands.faults } };
+
+    fn start(&mut self, kit: JobKit) -> Started<JobKit> {
+        let at = self.starts;
+        self.starts = self.starts.saturating_add(1);
+        if self.refused.contains(&at) {
+            drop(kit);
+            self.faults = self.faults.saturating_add(1);
+            return Started::Refused;
+        }
+        let mut own = kit;
+        if let Some(puts) = self.puts.get(at) {
+            put_all(&self.rt, self.alloc, &mut own.done, puts);
+        }
+        Started::Running(own)
+    }
+
+    fn take_in(&mut self, run: JobKit) -> JobReport {
+        let JobKit { tail, done } = run;
+        let mut bell = MemBell::new();
+        work_on(&self.rt, self.alloc, tail, &PlainJobs, done, &mut bell)
+    }
+}

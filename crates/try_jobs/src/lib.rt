@@ -8,8 +8,8 @@ mod full;
 mod hands;
 mod many;
 mod meeting;
+mod within;
 mod work_row;
 mod work_rows;
-mod within;
 
 pub use cases::run_jobs;

@@ -18,6 +18,7 @@ const TRIES: u32 = 10_000_000;
 
 /// Says that its job has begun, and does it once the other's has. Each look gives up the thread's turn. Where it looked too often
 /// it is refused memory, and the case comes out otherwise.
+#[derive(Drop)]
 struct Meeting<'w> {
     own: &'w AtomicU64,
     other: &'w AtomicU64,

@@ -39,6 +39,7 @@ pub struct WorkRow {
 }
 
 /// Does jobs, but for one, for which memory is refused.
+#[derive(Drop)]
 struct StarvingJobs {
     made: AtomicU64,
     starves_at: u64,

@@ -28,10 +28,11 @@ enum Suite {
     Pumps,
     Outside,
     Sockets,
+    Jobs,
 }
 
 /// The word that begins each.
-static SUITES: [(&str, Suite); 13] = [
+static SUITES: [(&str, Suite); 14] = [
     ("--rows", Suite::Rows),
     ("--tapes", Suite::Tapes),
     ("--words", Suite::Words),
@@ -45,6 +46,7 @@ static SUITES: [(&str, Suite); 13] = [
     ("--pumps", Suite::Pumps),
     ("--outside", Suite::Outside),
     ("--sockets", Suite::Sockets),
+    ("--jobs", Suite::Jobs),
 ];
 
 fn suite_of(word: &str) -> Option<Suite> {
@@ -112,6 +114,7 @@ where
         Suite::Pumps => Ok(run_pumps(&rt, alloc, words)?),
         Suite::Outside => Ok(try_hub::run_outside(&rt, alloc)?),
         Suite::Sockets => Ok(try_hub::run_sockets(rt, alloc)?),
+        Suite::Jobs => Ok(try_jobs::run_jobs(&rt, alloc)?),
     }
 }
 

@@ -10,5 +10,5 @@ returns-then-not-has_place_for c =
 pub returns : goal.returns
 returns c =
     λ watched now ready.
-    has_place watched now c.args.self.now _ c.args.item c.requires _ c.bytes_in-bytes.ensures ready (sym c.has_place_for.ensures ∙ c.if-not-has_place_for.false)
-    c.in_ok-push.ensures.items refl c.saturating_add-self.ensures
+    has_place watched now c.args.self.now c.args.item c.requires _ c.bytes_in-bytes.ensures ready _
+    (sym c.has_place_for.ensures ∙ c.if-not-has_place_for.false) c.in_ok-push.ensures.items refl c.saturating_add-self.ensures
