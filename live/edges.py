@@ -81,9 +81,9 @@ def costs(program, name, text, tries=3):
 
 
 def rests(program, folder):
-    """A run that sleeps sleeps as long as it says, and it and those that wait for a program, and for its pipes, cost next to
-    nothing."""
-    rows = (("rests", "T0 rested"), ("idles", "T0 0"), ("holds", 'T0 0 b"300000\\n"'))
+    """A run that sleeps sleeps as long as it says, also behind a job, and it and those that wait for a program, and for its pipes,
+    cost next to nothing."""
+    rows = (("rests", "T0 rested"), ("idles", "T0 0"), ("holds", 'T0 0 b"300000\\n"'), ("worked", 'T0 b"cba"'))
     for name, text in ((name, f"{text}\n= returned None\n") for name, text in rows):
         took, cost = costs(program, name, text)
         must(1 <= took < 1.7, f"{name}: a second took {took}")
@@ -98,6 +98,26 @@ def spares(program, folder):
     cost = after.ru_utime + after.ru_stime - before.ru_utime - before.ru_stime
     must((text, status) == ("= runaway T0\n", 8), f"the run ended with {status} and wrote\n{text}")
     must(cost < 1.5 * took + 0.5, f"{took} seconds took {cost} seconds of a processor")
+
+
+# ---- jobs
+def jobs(program, folder):
+    """A thousand jobs are done while a server is called."""
+    found = recorded(program, "jobs", folder)
+    must(found == ("T0 jobs 1000 lines 1000\n= returned None\n", 0), f"the run wrote\n{found}")
+
+
+def great(program, folder):
+    """Jobs of the greatest size come to what they must."""
+    found = recorded(program, "great", folder)
+    must(found == ("T0 131000 12\n= returned None\n", 0), f"the run wrote\n{found}")
+
+
+def unasked(program, folder):
+    """A run ends though jobs go on, once its workers are done."""
+    for _ in range(10):
+        found = recorded(program, "unasked", folder)
+        must(found == ("T0 over\n= returned None\n", 0), f"the run wrote\n{found}")
 
 
 # ---- programs
@@ -146,12 +166,14 @@ def copied(program, folder):
 
 
 def threads(program, folder):
-    """Where no thread can be started, launches are refused, and nothing else fails."""
+    """Where no thread can be started, launches are refused, jobs are done by the loop's own thread, and nothing else fails."""
     own, few = copied(program, folder), only(0)
     hello, journal = (os.path.join(EXAMPLES, f"hello.{it}") for it in ("aio", "journal"))
     must(ran([own, "check", hello], preexec_fn=few)[1] == 0, "check fails")
     must_be([own, "replay", hello, journal], ran([program, "replay", hello, journal])[0], preexec_fn=few)
     must_be([own, "run", script("rests")], "T0 rested\n= returned None\n", preexec_fn=few)
+    must_be([own, "run", script("jobs")], "T0 jobs 1000 lines 1000\n= returned None\n", preexec_fn=few)
+    must_be([own, "run", script("great")], "T0 131000 12\n= returned None\n", preexec_fn=few)
     must_be([own, "run", script("ends")], "T0 launch refused\n= returned None\n", preexec_fn=few)
 
 
@@ -170,7 +192,7 @@ def refused(program, folder):
     if os.getuid() != 0:
         return "not tried: this is not root"
     own = copied(program, folder)
-    for many in range(2, 8):
+    for many in range(2, 12):
         text, status = ran([own, "run", script("stays")], preexec_fn=only(many))
         wanted = (("T0 over\n= returned None\n", 0), ('= raised OSError("launch refused")\n', 1))
         must((text, status) in wanted, f"with {many} threads the run ended with {status} and wrote\n{text}")
@@ -309,7 +331,7 @@ def listens_here(program, folder):
     must(found == {f"0100007F:{8798:04X}"}, f"it listens on {found}")
 
 
-PARTS = (heaps, late, rests, spares, fed, missing, forgotten, threads, refused, stays, signalled, failures, crowded_output)
+PARTS = (heaps, late, rests, spares, jobs, great, unasked, fed, missing, forgotten, threads, refused, stays, signalled, failures, crowded_output)
 PARTS += (closed_descriptors, full_files, listens_here)
 
 

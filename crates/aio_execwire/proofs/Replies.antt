@@ -19,8 +19,8 @@ use Rattle.aio_wire.specs.declared.wire.Reply.TheVariants.{Got, Over, Bad, Faile
 use Rattle.aio_memwire.specs.Passed.{WireAsked}
 use Rattle.model_jobs.specs.Board.{accepted_of, order_answer}
 use Rattle.model_jobs.specs.Gathering.{begin, gather, is_code, passed_wait}
-use Rattle.law_jobs.proofs.Fitting.{select_fits}
-use Rattle.law_jobs.proofs.Ordering.{order_fits}
+use Rattle.law_workers.proofs.Fitting.{select_fits}
+use Rattle.law_workers.proofs.Ordering.{order_fits}
 use Rattle.aio_execwire.specs.Seen.{DeskSeen}
 use Rattle.aio_execwire.specs.Asked.{Orders, GathersTurn, Gathers, IsTurn, Selects, Passes, Asks}
 use Rattle.aio_execwire.specs.Outsides.{seen_over, Leaves}

@@ -1,5 +1,0 @@
-use Rattle.law_jobs.proofs.Ordering.{new_sound}
-use Rattle.law_jobs.proofs.orders.begins_sound.Goals as goal
-
-pub returns : goal.returns
-returns c = new_sound

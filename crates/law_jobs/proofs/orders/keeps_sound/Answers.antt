@@ -1,5 +1,0 @@
-use Rattle.law_jobs.proofs.Ordering.{order_sound}
-use Rattle.law_jobs.proofs.orders.keeps_sound.Goals as goal
-
-pub returns : goal.returns
-returns c = order_sound
