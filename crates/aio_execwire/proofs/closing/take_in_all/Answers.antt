@@ -1,4 +1,5 @@
 use Rattle.std.proofs.Common.{◌≡◌, ℕ, ◌+◌, ◌<◌, ◌≤◌, true, false, [], ◌∷◌, length, is_some, set, vec_capacity, subst, sym, ap, ◌∙◌, refl, length-append, arith}
+use Rattle.aio_execwire.specs.declared.worker.Worker.{Worker}
 use Rattle.aio_execwire.proofs.Ending.{Taken, none_taken, few, all_taken, one_taken, one_passed}
 use Rattle.aio_execwire.proofs.closing.take_in_all.Goals as goal
 use Rattle.aio_execwire.proofs.closing.take_in_all.Goals.{in-Some, in_default}
@@ -25,7 +26,7 @@ loop-at-preserved g c =
     let more = c.loop-at-test.true in
     let low : at < length all = omega (arith, count, more) in
     let old = c.index_mut-worker.result.now in
-    let new = record { head = old.head; waiting = old.waiting; run = c.take.new.self } in
+    let new : Worker g.row.S-Run.Denot = record { head = old.head; waiting = old.waiting; run = c.take.new.self } in
     elim c.match-take.branch [
       | in-Some w ↦ (
           subst (λ (n : ℕ). Taken all (set now at new) (at + 1) n)

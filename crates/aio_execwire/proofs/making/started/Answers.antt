@@ -18,12 +18,10 @@ loop-head-preserved g c =
     let lane = c.in-Some.field-0 in
     let items = c.in-Some.ensures.items in
     let all : All IsUnused (left ++ lane ∷ []) = subst (All IsUnused) items inv.1 in
-    let is = c.in-Some.head-is in
-    let same : lane.head ≡ c.in-Some.head = cc in
     let unused = the_last IsUnused left lane all in
-    let worker : Worker g.row.S-Run.Denot = record { head = c.in-Some.head; waiting = c.new.result; run = c.match-start.run } in
+    let worker : Worker g.row.S-Run.Denot = record { head = lane.head; waiting = c.new.result; run = c.match-start.run } in
     let idle : IsIdle (worker_seen worker) =
-    (c.new.ensures.items, ap (λ head. head.given) (sym same) ∙ unused.0, ap (λ head. head.fulls) (sym same) ∙ unused.1) in
+    (c.new.ensures.items, unused.0, unused.1) in
     let first = g.S.Starter.seen c.args.starter.now in
     let mid = g.S.Starter.seen c.loop-head.starter in
     let last = g.S.Starter.seen c.start.new.self in
