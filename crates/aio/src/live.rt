@@ -153,7 +153,13 @@ where
     };
     let Bells { pumps, workers } = bells;
     match RealLauncher::<R, N>::make(rt, alloc, pumps) {
-        Ok(launcher) => run_hub(rt, alloc, words, Hub::over(rt, poller, launcher, state), workers),
+        Ok(launcher) => run_hub(
+            rt,
+            alloc,
+            words,
+            Hub::over(rt, poller, launcher, state),
+            workers,
+        ),
         Err(Memory) => {
             forget_poller(poller);
             forget_state(state);
@@ -195,7 +201,13 @@ where
 }
 
 /// Runs over a wire that has jobs done beside this one. Then the workers end, and their threads are joined.
-fn run_working<R, W: Wire>(rt: R, alloc: Global, words: &Vec<String>, within: W, bell: PollerBell) -> (u8, W)
+fn run_working<R, W: Wire>(
+    rt: R,
+    alloc: Global,
+    words: &Vec<String>,
+    within: W,
+    bell: PollerBell,
+) -> (u8, W)
 where
     R: rt::Files + Print + Threads + Wait + Copy + Send + 'static,
 {

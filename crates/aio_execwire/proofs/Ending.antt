@@ -1,9 +1,9 @@
 -- Workers that are closed and taken in, in order.
-use Rattle.std.proofs.Common.{◌≡◌, ℕ, ◌+◌, ◌<◌, ◌≤◌, Bool, true, false, cond, List, [], ◌∷◌, length, map, set, take, sum, Option, Some, None, is_some}
-use Rattle.std.proofs.Common.{refl, sym, ap, ◌∙◌, subst, arith}
+use Rattle.std.proofs.Common.{◌≡◌, ℕ, ◌+◌, ◌<◌, ◌≤◌, Bool, true, false, cond, List, [], ◌∷◌, length, map, set, take, sum, is_some}
+use Rattle.std.proofs.Common.{refl, sym, ap, ◌∙◌, arith}
 use Rattle.std.specs.Prelude.{slice_index_or}
 use Rattle.std.proofs.Math.Seq.{map-set_same}
-use Rattle.std.proofs.lemmas.List.{length-set, length-map, length-take, get_or-set_other, get_or-map, get_or_default, take_all}
+use Rattle.std.proofs.lemmas.List.{length-set, length-map, length-take, get_or-set_other, get_or-map, take_all}
 use Rattle.std.proofs.lemmas.List.Sums.{sum-map, count_by-le-length, count_by_more_yes, count_by_more_no}
 use Rattle.aio_execwire.specs.declared.worker.Worker.{Worker}
 use Rattle.aio_execwire.specs.Seen.{WorkerSeen, worker_seen}

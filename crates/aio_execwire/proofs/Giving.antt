@@ -1,9 +1,6 @@
 -- How a worker is served: one job after another.
-use Rattle.std.proofs.Common.{◌≡◌, ℕ, ◌+◌, ◌<◌, ◌^◌, inl, inr, List, [], ◌∷◌, ◌++◌, length, refl, sym, ap, ◌∙◌, append_assoc, append-nil, arith}
+use Rattle.std.proofs.Common.{◌≡◌, ◌+◌, ◌^◌, inl, inr, List, [], ◌∷◌, ◌++◌, length, refl, sym, ap, ◌∙◌, append_assoc, append-nil, arith}
 use Rattle.model_pump.specs.Commands.{Command}
-use Rattle.aio_lane.specs.Ends.{HeadSeen, GiveAnswers}
-use Rattle.aio_lane.specs.declared.command.Giving.{Giving}
-use Rattle.aio_lane.specs.declared.command.Giving.TheVariants.{Given, Full, Spent}
 use Rattle.aio_execwire.specs.Seen.{WorkerSeen}
 use Rattle.aio_execwire.specs.Serving.{Serves}
 

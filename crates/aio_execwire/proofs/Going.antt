@@ -1,7 +1,7 @@
 -- How the marks of a select add up.
 use Rattle.std.proofs.Common.{◌≡◌, ℕ, ◌+◌, ◌<◌, ◌≤◌, Bool, true, false, cond, ◌&&◌, ◌||◌, not, List, [], ◌∷◌, ◌++◌}
-use Rattle.std.proofs.Common.{refl, sym, ap, ◌∙◌, subst, append_assoc, append-nil, arith}
-use Rattle.std.specs.Prelude.{nat_le, length}
+use Rattle.std.proofs.Common.{refl, sym, ap, ◌∙◌, append_assoc, append-nil, arith}
+use Rattle.std.specs.Prelude.{nat_le}
 use Rattle.std.proofs.lemmas.Bool.Decides.{nat_tests}
 use Rattle.model_wire.specs.Call.{Item}
 use Rattle.model_wire.specs.declared.watch.Watch.{Watch}
@@ -10,7 +10,7 @@ use Rattle.model_jobs.specs.Board.{Board}
 use Rattle.model_jobs.specs.Gathering.{Gathering, gathering, tell, tell_all, after_mark, gather, goes_on, are_taken, is_enough, is_empty, most_marks}
 use Rattle.aio_execwire.specs.declared.answering.Answering.{Answering}
 use Rattle.aio_execwire.specs.Seen.{DeskSeen}
-use Rattle.aio_execwire.specs.Telling.{IsReady, SameBeside, Tells, TellsAll, Notes, Takes, so_far}
+use Rattle.aio_execwire.specs.Telling.{IsReady, Tells, TellsAll, Takes, so_far}
 
 -- ---- jobs that are told one after the other
 module _ (watched : List Watch) (now : ℕ) where

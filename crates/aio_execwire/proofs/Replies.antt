@@ -1,5 +1,5 @@
 -- What the wire replies, by what one call did.
-use Rattle.std.proofs.Common.{◌≡◌, ℕ, ◌≤◌, ◌⊎◌, inl, inr, true, false, Bool, ℤ, List, [], ◌∷◌, ◌++◌, Option, Some, None, Result, Ok, Err}
+use Rattle.std.proofs.Common.{◌≡◌, ℕ, ◌⊎◌, inl, inr, true, false, Bool, ℤ, List, [], ◌++◌, Option, Some, None, Result, Ok, Err}
 use Rattle.std.proofs.Common.{refl, sym, ap, ◌∙◌, subst, append-nil, arith}
 use Rattle.std.specs.Prelude.{IfOk, OnErr}
 use Rattle.aio_base.specs.declared.memory.Memory.{Memory}
@@ -180,6 +180,7 @@ module _ {W : Type 0} (o : Outside W) (inner now : W) where
     where
       passed : Option ℕ
       passed = passed_wait watched old.board.kept wait
+
       by_turn : (at : ℕ) (items all : List Item) → WireAsked o (call.Select passed watched) inner now (Ok (Got (answer.Turn at items)))
           → (turn_fits watched at items ≡ true → turn_fits watched at all ≡ true)
           → Whole o (call.Select wait watched) inner now (Got (answer.Turn at all))
@@ -190,6 +191,7 @@ module _ {W : Type 0} (o : Outside W) (inner now : W) where
             keeps = did.keeps;
             quiet = did.quiet;
           }
+
       by_same : (said : Reply) → WireAsked o (call.Select passed watched) inner now (Ok said) → Whole o (call.Select wait watched) inner now said
       by_same said did =
           record {
@@ -198,6 +200,7 @@ module _ {W : Type 0} (o : Outside W) (inner now : W) where
             keeps = did.keeps;
             quiet = did.quiet;
           }
+
       by_gathers : (at : ℕ) (items : List Item) (served : DeskSeen) → WireAsked o (call.Select passed watched) inner now (Ok (Got (answer.Turn at items)))
           → GathersTurn watched at (begin watched at items served.board) served new reply → Whole o (call.Select wait watched) inner now reply
       by_gathers at items served did gathers =
@@ -206,6 +209,7 @@ module _ {W : Type 0} (o : Outside W) (inner now : W) where
           subst (λ (r : Reply). Whole o (call.Select wait watched) inner now r)
           (sym (gathers.4 ∙ ap (λ (l : List Item). Got (answer.Turn at l)) (λ i. (takes.gathers i).items)))
           (by_turn at items all.items did (select_fits watched at items served.board takes.marks))
+
       by_said : (said : Reply) → WireAsked o (call.Select passed watched) inner now (Ok said)
           → GathersFrom watched said did.served new reply ⊎ (reply ≡ said) → Whole o (call.Select wait watched) inner now reply
       by_said said did (inl turn) =

@@ -1,5 +1,5 @@
 -- What a select comes to, by its parts.
-use Rattle.std.proofs.Common.{◌≡◌, ℕ, ◌++◌, Bool, true, false, not, ◌&&◌, cond, List, [], ◌∷◌, Option, Some, Result, Ok, Err, refl, sym, ap, ◌∙◌, subst}
+use Rattle.std.proofs.Common.{◌≡◌, ℕ, ◌++◌, Bool, false, not, ◌&&◌, List, Option, Some, Result, Ok, Err, refl, sym, ap, ◌∙◌, subst}
 use Rattle.std.specs.Prelude.{IfOk, OnErr, if◌then◌else◌}
 use Rattle.aio_base.specs.declared.memory.Memory.{Memory}
 use Rattle.model_wire.specs.Call.{Call, Item}
@@ -11,7 +11,7 @@ use Rattle.aio_wire.specs.declared.wire.Reply.{Reply}
 use Rattle.aio_wire.specs.declared.wire.Reply.TheVariants.{Got}
 use Rattle.aio_memwire.specs.Passed.{WireAsked}
 use Rattle.model_jobs.specs.Done.{Done}
-use Rattle.model_jobs.specs.Gathering.{Gathering, gathering, tell_all, begin, gather, are_taken, others_of, is_empty, awaits_jobs, passed_wait}
+use Rattle.model_jobs.specs.Gathering.{gathering, tell_all, begin, gather, are_taken, others_of, is_empty, awaits_jobs, passed_wait}
 use Rattle.aio_execwire.specs.declared.answering.Answering.{Answering}
 use Rattle.aio_execwire.specs.Seen.{DeskSeen, with_none_kept}
 use Rattle.aio_execwire.specs.Serving.{ServesAll}
@@ -29,8 +29,7 @@ module _ (watched : List Watch) (now : ℕ) (items : List Item) (it told end : A
   gathered count starved all own tells takes none same =
       let begun : so_far told mid 0 false ≡ begin watched now items old.board =
       tells.told 0 false
-      ∙ ap (λ (l : List Item). tell_all watched now old.board.kept (gathering l (with_none_kept old).board 0 false)) own in
-      (
+      ∙ ap (λ (l : List Item). tell_all watched now old.board.kept (gathering l (with_none_kept old).board 0 false)) own in (
         so_far end new count starved,
         record {
           marks = takes.marks;

@@ -6,7 +6,7 @@ use Rattle.model_wire.specs.declared.call.Call.TheVariants as call
 use Rattle.model_wire.specs.declared.watch.Watch.{Watch}
 use Rattle.aio_wire.specs.Outside.{Outside}
 use Rattle.aio_wire.specs.declared.wire.Reply.{Reply}
-use Rattle.aio_wire.specs.declared.wire.Reply.TheVariants.{Got, Over, Bad, Failed}
+use Rattle.aio_wire.specs.declared.wire.Reply.TheVariants.{Got}
 use Rattle.aio_memwire.specs.Passed.{WireAsked}
 use Rattle.model_jobs.specs.Orders.{Ordered}
 use Rattle.model_jobs.specs.Board.{accepted_of, after_order, order_answer}

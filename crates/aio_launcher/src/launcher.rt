@@ -5,7 +5,6 @@ ghost use Rattle.aio_hub.specs.Launches.{LaunchAnswers, StartsNone};
 ghost use Rattle.aio_launcher.specs.Counts.{untold_launches};
 
 use crate::reports::Reports;
-use aio_slot::Slot;
 use crate::starter;
 use crate::starter::{Launch, Order, Told};
 use aio_base::Memory;
@@ -13,6 +12,7 @@ use aio_hub::{Launched, Launcher, PumpKit, PumpReports};
 use aio_inbox::{Inbox, InboxName, Poster};
 use aio_poller::PollerBell;
 use aio_process::{Process, copied};
+use aio_slot::Slot;
 use aio_wire::WordList;
 use indexmap::IndexMap;
 use std::alloc::Global;

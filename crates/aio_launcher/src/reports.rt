@@ -1,8 +1,8 @@
 //! What the four pumps of a child did, until it is taken in.
-use aio_slot::Slot;
 use aio_hub::PumpReports;
 use aio_inbox::{InboxName, Poster};
 use aio_pump::PumpReport;
+use aio_slot::Slot;
 use model_pump::Stream;
 use std::sync::Wait;
 use std::time::Clock;

@@ -4,11 +4,11 @@
 //! thread that started it. So one thread does both, as it is told.
 use crate::pumps::{Pipes, Running, start};
 use crate::reports::Reports;
-use aio_slot::Slot;
 use aio_hub::PumpKit;
 use aio_inbox::{Inbox, InboxName, Poster};
 use aio_poller::PollerBell;
 use aio_process::{Process, command_of};
+use aio_slot::Slot;
 use std::alloc::Global;
 use std::io;
 use std::io::ErrorKind;

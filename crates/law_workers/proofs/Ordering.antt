@@ -44,6 +44,7 @@ by_accepts P board (Some order) none some = by_room (has_room board && nat_le (l
   where
     below : (n : ℕ) → nat_lt n most_accepted ≡ true → n < 2 ^ 62
     below n is = grind (arith, nat_tests)
+
     by_room : (b : Bool) → (has_room board && nat_le (length order.input) most_input) ≡ b
         → P (cond b (Some (ordered board.accepted order.kind order.input)) None)
     by_room false is = none
@@ -224,6 +225,7 @@ number_back n low =
   where
     some : (k : ℕ) → 0 < k → nat_lt 0 k ≡ true
     some k h = grind (arith, nat_tests)
+
     within : (k : ℕ) → k ≡ n → nat_le k most ≡ true
     within k h = grind (arith, nat_tests)
 

@@ -73,7 +73,7 @@ module _ (told : List ℕ) (board : Board) (others : List Item) where
       λ d other good. (good_still m out d other good.0, good.1) in
       let tail = All-tail (IsGood out) done rest s.good_rest in
       let same : (n : ℕ) → times n told + times n (numbers_in (s.dones ++ done ∷ [])) + times n (numbers_of (filter (is_other m) out))
-          ≤ times n told + times n (numbers_in s.dones) + times n (numbers_of out) =
+      ≤ times n told + times n (numbers_in s.dones) + times n (numbers_of out) =
       λ n. dite (ℕ_discrete n m)
       (λ e. let plus = more n in
       let here = one_here n m (sym e) in
@@ -207,7 +207,7 @@ still_sound : (told : List ℕ) (board : Board) (others : List Item) (g : Gather
     → IsSound (told ++ numbers_in s.dones) g.board
 still_sound told board others g s =
     let all : (n : ℕ) → times n ((told ++ numbers_in s.dones) ++ numbers_of g.board.outstanding)
-        ≡ times n told + times n (numbers_in s.dones) + times n (numbers_of g.board.outstanding) =
+    ≡ times n told + times n (numbers_in s.dones) + times n (numbers_of g.board.outstanding) =
     λ n. times_both n (told ++ numbers_in s.dones) (numbers_of g.board.outstanding)
     ∙ ap (λ k. k + times n (numbers_of g.board.outstanding)) (times_both n told (numbers_in s.dones)) in
     record {

@@ -1,4 +1,4 @@
-use Rattle.std.proofs.Common.{◌≡◌, ℕ, ◌+◌, ◌<◌, ◌≤◌, true, false, [], ◌∷◌, length, is_some, set, vec_capacity, subst, sym, ap, ◌∙◌, refl, length-append, arith}
+use Rattle.std.proofs.Common.{ℕ, ◌+◌, ◌<◌, [], ◌∷◌, length, is_some, set, vec_capacity, subst, sym, ap, ◌∙◌, length-append, arith}
 use Rattle.aio_execwire.specs.declared.worker.Worker.{Worker}
 use Rattle.aio_execwire.proofs.Ending.{Taken, none_taken, few, all_taken, one_taken, one_passed}
 use Rattle.aio_execwire.proofs.closing.take_in_all.Goals as goal
@@ -29,21 +29,21 @@ loop-at-preserved g c =
     let new : Worker g.row.S-Run.Denot = record { head = old.head; waiting = old.waiting; run = c.take.new.self } in
     elim c.match-take.branch [
       | in-Some w ↦ (
-          subst (λ (n : ℕ). Taken all (set now at new) (at + 1) n)
-              (sym (ap (λ v. length v.items) w.told-is ∙ ap length w.push_reserved.ensures.items ∙ length-append c.loop-at.told.items (w.take_in.result ∷ [])))
-              (one_taken all now at told inv.0 low old new c.index_mut-worker.ensures.value (ap is_some (sym c.take.ensures.value ∙ w.in-Some.is))),
-          (let is = ap vec_capacity w.told-is in
-          let same = w.push_reserved.ensures.capacity in
-          let room = inv.1 in
-          omega (arith, is, same, room)),
-        )
+        subst (λ (n : ℕ). Taken all (set now at new) (at + 1) n)
+            (sym (ap (λ v. length v.items) w.told-is ∙ ap length w.push_reserved.ensures.items ∙ length-append c.loop-at.told.items (w.take_in.result ∷ [])))
+            (one_taken all now at told inv.0 low old new c.index_mut-worker.ensures.value (ap is_some (sym c.take.ensures.value ∙ w.in-Some.is))),
+        (let is = ap vec_capacity w.told-is in
+            let same = w.push_reserved.ensures.capacity in
+            let room = inv.1 in
+            omega (arith, is, same, room)),
+      )
       | in_default w ↦ (
-          subst (λ (n : ℕ). Taken all (set now at new) (at + 1) n) (sym (ap (λ v. length v.items) w.told-is))
-              (one_passed all now at told inv.0 low old new c.index_mut-worker.ensures.value (ap is_some (sym c.take.ensures.value ∙ w.in_default.is))),
-          (let is = ap vec_capacity w.told-is in
-          let room = inv.1 in
-          omega (arith, is, room)),
-        )
+        subst (λ (n : ℕ). Taken all (set now at new) (at + 1) n) (sym (ap (λ v. length v.items) w.told-is))
+            (one_passed all now at told inv.0 low old new c.index_mut-worker.ensures.value (ap is_some (sym c.take.ensures.value ∙ w.in_default.is))),
+        (let is = ap vec_capacity w.told-is in
+            let room = inv.1 in
+            omega (arith, is, room)),
+      )
     ]
 
 pub returns : goal.returns

@@ -1,4 +1,4 @@
-use Rattle.std.proofs.Common.{◌≡◌, ℕ, ◌<◌, ◌≤◌, length, map, arith}
+use Rattle.std.proofs.Common.{map, arith}
 use Rattle.aio_execwire.specs.Seen.{worker_seen}
 use Rattle.aio_execwire.proofs.Workers.{none_served, one_served_of, all_served_of}
 use Rattle.aio_execwire.proofs.keeping.serve_each.Goals as goal

@@ -1,11 +1,10 @@
-use Rattle.std.proofs.Common.{◌≡◌, ℕ, ◌+◌, ◌≤◌, ◌⊎◌, true, Bool, List, [], ◌∷◌, ◌++◌, length, map, All, Vec, Global, is_some, vec_capacity, rules, subst, sym, ap, ◌∙◌, refl, length-append, arith}
+use Rattle.std.proofs.Common.{◌≡◌, ◌⊎◌, List, [], ◌∷◌, ◌++◌, length, map, All, is_some, rules, subst, sym, ap, ◌∙◌, length-append, arith}
 use Rattle.std.proofs.lemmas.List.{map-append, length-map}
 use Rattle.model_wire.specs.Told.{Rose}
 use Rattle.model_jobs.specs.Board.{workers}
-use Rattle.aio_execwire.specs.declared.starter.Started.{Started}
 use Rattle.aio_execwire.specs.declared.worker.Worker.{Worker}
 use Rattle.aio_execwire.specs.Seen.{WorkerSeen, worker_seen}
-use Rattle.aio_execwire.specs.Starts.{StarterSeen, RefusedIfRose}
+use Rattle.aio_execwire.specs.Starts.{RefusedIfRose}
 use Rattle.aio_execwire.specs.Making.{IsIdle, IsUnused, with_starts}
 use Rattle.aio_execwire.proofs.Starting.{Starts, Runs, one_runs, one_refused, all_left, the_last}
 use Rattle.aio_execwire.proofs.making.started.Goals as goal

@@ -1,7 +1,6 @@
-use Rattle.std.proofs.Common.{◌≡◌, ◌≤◌, ◌+◌, ◌⊎◌, true, length, map, All, vec_capacity, vec_len}
-use Rattle.model_wire.specs.Told.{Rose}
+use Rattle.std.proofs.Common.{◌≡◌, ◌≤◌, ◌+◌, length, map, All, vec_capacity, vec_len}
 use Rattle.model_jobs.specs.Board.{workers}
-use Rattle.aio_execwire.specs.Seen.{WorkerSeen, worker_seen}
+use Rattle.aio_execwire.specs.Seen.{worker_seen}
 use Rattle.aio_execwire.specs.Making.{IsUnused}
 use Rattle.aio_execwire.proofs.Starting.{Starts}
 use Rattle.aio_execwire.proofs.making.started.Given as goal

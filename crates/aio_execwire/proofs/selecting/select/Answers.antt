@@ -1,4 +1,4 @@
-use Rattle.std.proofs.Common.{◌≡◌, Bool, not, ◌&&◌, Some, Result, ap, ◌∙◌, subst}
+use Rattle.std.proofs.Common.{not, ◌&&◌, Some, Result, ap, ◌∙◌, subst}
 use Rattle.std.specs.Prelude.{if◌then◌else◌}
 use Rattle.aio_base.specs.declared.memory.Memory.{Memory}
 use Rattle.aio_wire.specs.declared.wire.Reply.{Reply}

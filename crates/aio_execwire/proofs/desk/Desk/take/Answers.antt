@@ -1,4 +1,4 @@
-use Rattle.std.proofs.Common.{◌≡◌, ℕ, ◌+◌, ◌<◌, ◌≤◌, true, false, not, Bool, List, ◌∷◌, ◌++◌, [], refl, sym, ap, ◌∙◌, arith}
+use Rattle.std.proofs.Common.{◌+◌, true, false, Bool, sym, ap, ◌∙◌}
 use Rattle.model_jobs.specs.Gathering.{Gathering}
 use Rattle.aio_execwire.specs.Seen.{desk_seen, board_of}
 use Rattle.aio_execwire.specs.Telling.{so_far}

@@ -1,4 +1,4 @@
-use Rattle.std.proofs.Common.{ℕ, deque_len}
+use Rattle.std.proofs.Common.{deque_len}
 use Rattle.aio_execwire.specs.Seen.{worker_seen}
 use Rattle.aio_execwire.proofs.Giving.{Gives}
 use Rattle.aio_execwire.proofs.worker.Worker.serve.Given as goal
