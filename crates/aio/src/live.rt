@@ -1,4 +1,5 @@
-//! The outside of a run: workers that do jobs, and a hub over the sockets and the programs of the system.
+//! The outside of a run: workers that do jobs, and a hub over the sockets and the programs of the
+//! system.
 ghost use Rattle.std.specs.Prelude.{◌≡◌};
 ghost use Rattle.aio_inbox.specs.Naming.{table_of};
 
@@ -25,10 +26,12 @@ use std::thread::Threads;
 use std::time::Clock;
 use std::{io, rt};
 
-/// Does what the words ask for, and gives the status. Its wire has jobs done beside it, over a hub. Where there is no poller, as where the system
-/// has no descriptor left, it is one of which each call fails.
+/// Does what the words ask for, and gives the status. Its wire has jobs done beside it, over a hub.
+/// Where there is no poller, as where the system has no descriptor left, it is one of which each
+/// call fails.
 ///
-/// The places of standard descriptors that were closed are held first, so that nothing that is opened has their numbers.
+/// The places of standard descriptors that were closed are held first, so that nothing that is
+/// opened has their numbers.
 pub fn run<R>(rt: R, alloc: Global, words: &Vec<String>) -> u8
 where
     R: rt::Files
@@ -122,8 +125,8 @@ where
 
 fn forget_state<N: InboxName>(_state: HubState<N, Run<N>>) {}
 
-/// Makes the hub, runs over it, and ends the children. The launcher is made last, once memory was given for the rest: it has
-/// a thread, which ends as it is closed.
+/// Makes the hub, runs over it, and ends the children. The launcher is made last, once memory was
+/// given for the rest: it has a thread, which ends as it is closed.
 fn run_named<N, R>(
     rt: R,
     alloc: Global,
@@ -169,7 +172,8 @@ where
     }
 }
 
-/// Runs over a hub. Then its children end, and the threads that served them are joined, whatever the run came to.
+/// Runs over a hub. Then its children end, and the threads that served them are joined, whatever
+/// the run came to.
 fn run_hub<N, R>(
     rt: R,
     alloc: Global,
@@ -200,7 +204,8 @@ where
     status
 }
 
-/// Runs over a wire that has jobs done beside this one. Then the workers end, and their threads are joined.
+/// Runs over a wire that has jobs done beside this one. Then the workers end, and their threads are
+/// joined.
 fn run_working<R, W: Wire>(
     rt: R,
     alloc: Global,

@@ -6,8 +6,8 @@ ghost use Rattle.model_jobs.specs.Jobs.{job};
 use aio_base::Blob;
 use std::marker::Model;
 
-/// A job that was done: its number, its kind, what it was given, and what came of it. Its output is the job of its kind and
-/// input, always.
+/// A job that was done: its number, its kind, what it was given, and what came of it. Its output is
+/// the job of its kind and input, always.
 #[derive(Drop)]
 pub struct Done {
     number: u64,

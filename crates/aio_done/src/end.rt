@@ -11,10 +11,12 @@ use std::alloc::Global;
 use std::marker::Model;
 use std::sync::{Arc, Wait};
 
-/// How many times one end puts at most. So 64 ends together stay below the 2^62 pushes that the queue takes.
+/// How many times one end puts at most. So 64 ends together stay below the 2^62 pushes that the
+/// queue takes.
 const MOST: u64 = 1 << 55;
 
-/// Puts jobs that are done. Contracts see the queue that it belongs to, and what it put: what its pass knows.
+/// Puts jobs that are done. Contracts see the queue that it belongs to, and what it put: what its
+/// pass knows.
 #[derive(Drop)]
 pub struct DoneEnd {
     pub(crate) between: Arc<Between, Global>,
@@ -31,12 +33,14 @@ impl Model for DoneEnd {
 
     ghost view = { λ end. end_seen end.pass };
 
-    ghost invariant = { λ end. IsPassOf (arc_value end.between).queue end.pass × IsEnd end.count end.pass };
+    ghost invariant = { λ end. IsPassOf (arc_value end.between).queue end.pass
+        × IsEnd end.count end.pass };
 }
 
 impl DoneEnd {
-    /// Puts once. Where the queue is full, or the end put 2^55 times, the mark comes back. It takes no memory and waits for
-    /// no take; the queue tries again where another thread's step came between.
+    /// Puts once. Where the queue is full, or the end put 2^55 times, the mark comes back. It takes
+    /// no memory and waits for no take; the queue tries again where another thread's step came
+    /// between.
     pub fn put<R: Wait>(&mut self, rt: &R, mark: Mark) -> Putting
         ensures answers { PutAnswers mark self.old result self.new }
     {

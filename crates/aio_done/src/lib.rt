@@ -1,4 +1,5 @@
-//! The queue of jobs that are done: each worker puts on an end of its own, from any thread, and one taker takes.
+//! The queue of jobs that are done: each worker puts on an end of its own, from any thread, and one
+//! taker takes.
 #![tactic(auto)]
 
 mod between;

@@ -18,7 +18,8 @@ use std::sync::Arc;
 const CAPACITY: usize = 64;
 
 impl DoneEnd {
-    /// A queue of 64 in which nothing stands, by its taker and so many ends. `Memory` where memory was refused.
+    /// A queue of 64 in which nothing stands, by its taker and so many ends. `Memory` where memory
+    /// was refused.
     pub fn make(alloc: Global, ends: u32) -> Result<(DoneTaker, Vec<DoneEnd>), Memory>
         requires { (1 ≤ ends) × (ends ≤ 64) }
         ensures taker { IfOk result (λ made. made.0 ≡ new_taker made.0.queue ends) }

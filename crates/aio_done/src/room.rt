@@ -26,7 +26,8 @@ impl Room {
         self.takes.load(Ordering::SeqCst)
     }
 
-    /// Something was taken: one who waits for room looks again, as there is room for one. Where nobody waits, no lock is taken.
+    /// Something was taken: one who waits for room looks again, as there is room for one. Where
+    /// nobody waits, no lock is taken.
     pub(crate) fn make<R: Wait>(&self, rt: &R) {
         self.takes.fetch_add(1, Ordering::SeqCst);
         if self.waiting.load(Ordering::SeqCst) > 0 {
@@ -35,8 +36,8 @@ impl Room {
         }
     }
 
-    /// Waits until more was taken than so many times. Who waits is counted first: a take that it doesn't see comes later,
-    /// and sees it.
+    /// Waits until more was taken than so many times. Who waits is counted first: a take that it
+    /// doesn't see comes later, and sees it.
     pub(crate) fn wait<R: Wait>(&self, rt: &R, seen: u64) {
         self.waiting.fetch_add(1, Ordering::SeqCst);
         let mut held = self.lock.lock(rt);

@@ -11,8 +11,8 @@ use std::alloc::Global;
 use std::marker::Model;
 use std::sync::{Arc, Wait};
 
-/// Takes jobs that are done. Contracts see the queue that it belongs to, what was taken, how many ends were made, and how
-/// many takes found nothing: what its pass knows.
+/// Takes jobs that are done. Contracts see the queue that it belongs to, what was taken, how many
+/// ends were made, and how many takes found nothing: what its pass knows.
 #[derive(Drop)]
 pub struct DoneTaker {
     pub(crate) between: Arc<Between, Global>,
@@ -28,12 +28,14 @@ impl Model for DoneTaker {
 
     ghost view = { λ taker. taker_seen taker.pass };
 
-    ghost invariant = { λ taker. IsPassOf (arc_value taker.between).queue taker.pass × IsTaker taker.pass };
+    ghost invariant = { λ taker. IsPassOf (arc_value taker.between).queue taker.pass
+        × IsTaker taker.pass };
 }
 
 impl DoneTaker {
-    /// Takes the oldest mark. `None` only where the queue was empty at a step of the call. It takes no memory and waits for
-    /// no worker; the queue tries again where another thread's step came between. Who waits for room is woken.
+    /// Takes the oldest mark. `None` only where the queue was empty at a step of the call. It takes
+    /// no memory and waits for no worker; the queue tries again where another thread's step came
+    /// between. Who waits for room is woken.
     pub fn take<R: Wait>(&mut self, rt: &R) -> Option<Mark>
         ensures { TakeAnswers self.old result self.new }
     {

@@ -1,4 +1,5 @@
-//! What passes on the queue of done jobs know. No value of these types is made: they stand in contracts alone.
+//! What passes on the queue of done jobs know. No value of these types is made: they stand in
+//! contracts alone.
 use crate::mark::Mark;
 use std::collections::LinkedList;
 
@@ -7,7 +8,8 @@ pub struct EndView {
     pub put: LinkedList<Mark>,
 }
 
-/// What the taker's pass knows: what was taken, how many ends were made, and how many takes found nothing.
+/// What the taker's pass knows: what was taken, how many ends were made, and how many takes found
+/// nothing.
 pub struct TakerView {
     pub taken: LinkedList<Mark>,
     pub ends: u32,

@@ -1,5 +1,6 @@
 //! The answer of a select while it grows.
-ghost use Rattle.std.specs.Prelude.{◌≡◌, ◌+◌, ◌-◌, ◌^◌, ◌&&◌, ℕ, List, map, sum, min, length, nat_le, nat_lt, IfOk};
+ghost use Rattle.std.specs.Prelude.{◌≡◌, ◌+◌, ◌-◌, ◌^◌, ◌&&◌, ℕ, List, map, sum, min, length};
+ghost use Rattle.std.specs.Prelude.{nat_le, nat_lt, IfOk};
 ghost use Rattle.model_wire.specs.declared.watch.Watch.{Watch as WatchEntry};
 ghost use Rattle.model_wire.specs.Fits.{bytes_in, most_bytes, most_items};
 ghost use Rattle.model_jobs.specs.Gathering.{awaits_jobs, others_of};
@@ -16,7 +17,8 @@ const MOST_BYTES: u64 = 262_144;
 /// The greatest number of items in one turn.
 const MOST_ITEMS: usize = 4_096;
 
-/// The items of the answer, whether it fits and jobs are watched, and how many bytes the items bring, at most 2^64 - 1.
+/// The items of the answer, whether it fits and jobs are watched, and how many bytes the items
+/// bring, at most 2^64 - 1.
 #[derive(Drop)]
 pub struct Answering {
     pub items: Vec<Item>,

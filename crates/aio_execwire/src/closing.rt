@@ -22,7 +22,8 @@ fn drop_all<R: Wait>(rt: &R, taker: &mut DoneTaker) {
     unreachable!()
 }
 
-// Gives Close to a worker's lane. While that is full, what workers did is let go, so that none waits for room.
+// Gives Close to a worker's lane. While that is full, what workers did is let go, so that none
+// waits for room.
 fn give_close<R: Wait, Run>(rt: &R, worker: &mut Worker<Run>, taker: &mut DoneTaker)
     ensures { worker.new.run ≡ worker.old.run }
 {
@@ -70,8 +71,9 @@ fn take_in_all<S: Starter>(
 }
 
 impl<R: Wait + Drop, W, S: Starter + Drop, J: Drop> ExecWire<R, W, S, J> {
-    /// Ends the wire: its workers do what their lanes carry, and end; what they do is let go. It gives the wire within, and the
-    /// reports of the workers that ran, in order. It takes no memory, and waits for the workers.
+    /// Ends the wire: its workers do what their lanes carry, and end; what they do is let go. It
+    /// gives the wire within, and the reports of the workers that ran, in order. It takes no
+    /// memory, and waits for the workers.
     pub fn close(self) -> (W, Vec<JobReport>)
         ensures inner { result.0 ≡ self.inner }
         ensures reports { length result.1.items ≡ running (desk_seen self.desk).workers }

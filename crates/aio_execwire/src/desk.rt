@@ -7,8 +7,9 @@ use aio_workers::{Done, DoneTaker, JobReport};
 use model_jobs::Ordered;
 use std::collections::VecDeque;
 
-/// How many jobs were accepted; those whose items no answer had yet, in order; of these the ones that are kept, since an
-/// answer had no place for them; the workers; the queue of what they did; and room for their reports.
+/// How many jobs were accepted; those whose items no answer had yet, in order; of these the ones
+/// that are kept, since an answer had no place for them; the workers; the queue of what they did;
+/// and room for their reports.
 #[derive(Drop)]
 pub struct Desk<Run> {
     pub accepted: u64,

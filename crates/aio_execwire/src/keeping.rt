@@ -51,7 +51,8 @@ impl<Run> Desk<Run> {
         !self.kept.is_empty()
     }
 
-    /// Whether a job that is kept may be told to a select with this watch list, which then doesn't wait.
+    /// Whether a job that is kept may be told to a select with this watch list, which then doesn't
+    /// wait.
     pub(crate) fn hurries(&self, watch: &[Watch]) -> bool
         ensures { result ≡ (not (is_empty self.now.kept.items) && awaits_jobs watch.now) }
     {
@@ -65,7 +66,8 @@ impl<Run> Desk<Run> {
         self.outstanding.len() < MOST_OUTSTANDING && self.accepted < MOST_ACCEPTED
     }
 
-    /// Whether a job that was done is one of those that are outstanding: its number, its kind and its input are.
+    /// Whether a job that was done is one of those that are outstanding: its number, its kind and
+    /// its input are.
     pub(crate) fn is_good(&self, done: &Done) -> bool
         ensures { result ≡ is_good self.now.outstanding.items done.now }
     {

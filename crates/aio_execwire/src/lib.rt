@@ -1,5 +1,5 @@
-//! A wire that has jobs done beside the loop: it hands them to four workers, tells what came of them, and asks the wire
-//! within all else.
+//! A wire that has jobs done beside the loop: it hands them to four workers, tells what came of
+//! them, and asks the wire within all else.
 #![tactic(auto)]
 
 mod answering;

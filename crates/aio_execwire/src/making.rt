@@ -22,8 +22,8 @@ pub struct Lane {
     kit: JobKit,
 }
 
-/// What the wire will keep of jobs, before its workers are started: their lanes and kits, the queue of what they do, and room
-/// for the workers and for their reports.
+/// What the wire will keep of jobs, before its workers are started: their lanes and kits, the queue
+/// of what they do, and room for the workers and for their reports.
 #[derive(Drop)]
 pub struct Lanes<Run> {
     lanes: Vec<Lane>,
@@ -123,8 +123,8 @@ fn started<S: Starter>(starter: &mut S, lanes: Lanes<S::Run>) -> Desk<S::Run>
 }
 
 impl<R, W, S: Starter, J> ExecWire<R, W, S, J> {
-    /// A wire over this one, whose four workers are started, in order. It takes no memory, so nothing that it stands on is let
-    /// go where memory is refused.
+    /// A wire over this one, whose four workers are started, in order. It takes no memory, so
+    /// nothing that it stands on is let go where memory is refused.
     pub fn over(rt: R, inner: W, starter: S, jobs: J, lanes: Lanes<S::Run>) -> ExecWire<R, W, S, J>
         requires { AreNew lanes }
         ensures new { IsNew (desk_seen result.desk) (S.seen starter) (S.seen result.starter) }

@@ -118,8 +118,8 @@ impl<Run> Desk<Run> {
         Ok(Answer::Extra(Blob::of(text)))
     }
 
-    /// Accepts the job that these bytes ask for, or refuses it. A job goes behind those that wait for its worker; one whose
-    /// worker was refused is done at once, and kept.
+    /// Accepts the job that these bytes ask for, or refuses it. A job goes behind those that wait
+    /// for its worker; one whose worker was refused is done at once, and kept.
     pub(crate) fn order<J: Jobs>(
         &mut self,
         alloc: Global,

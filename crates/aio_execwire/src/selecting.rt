@@ -45,8 +45,9 @@ fn gather<R: Wait, Run>(
     now: u64,
     items: &ItemList,
 ) -> Result<Reply, Memory>
-    ensures { IfOk result (GathersTurn watch.now now (begin watch.now now items.now (board_of desk.old))
-        (desk_seen desk.old) (desk_seen desk.new)) }
+    ensures { IfOk result (GathersTurn watch.now now
+        (begin watch.now now items.now (board_of desk.old)) (desk_seen desk.old)
+        (desk_seen desk.new)) }
 {
     let mut answering = Answering::over(alloc, watch.items(), now, items)?;
     desk.tell_kept(alloc, &mut answering)?;
@@ -67,7 +68,8 @@ fn add_jobs<R: Wait, Run>(
     watch: &WatchList,
     said: Reply,
 ) -> Result<Reply, Memory>
-    ensures gathers { IfOk result (Gathers watch.now said (desk_seen desk.old) (desk_seen desk.new)) }
+    ensures gathers { IfOk result
+        (Gathers watch.now said (desk_seen desk.old) (desk_seen desk.new)) }
     ensures turn { OnErr result (IsTurn said) }
 {
     match said {
@@ -76,7 +78,8 @@ fn add_jobs<R: Wait, Run>(
     }
 }
 
-/// A select: the workers are served, the wire within is asked, and jobs that are done are added to its turn.
+/// A select: the workers are served, the wire within is asked, and jobs that are done are added to
+/// its turn.
 pub(crate) fn select<R: Wait, W: Wire, Run>(
     rt: &R,
     alloc: Global,

@@ -22,8 +22,8 @@ pub trait Starter {
     /// How many starts there were, where it tells them, and how often it failed.
     ghost seen: { Self → StarterSeen };
 
-    /// Starts a worker over this kit. Where it is refused, the kit is given up. A worker that ended before it received
-    /// Close or Stop goes on to receive until then, or its lane might stay full.
+    /// Starts a worker over this kit. Where it is refused, the kit is given up. A worker that ended
+    /// before it received Close or Stop goes on to receive until then, or its lane might stay full.
     fn start(&mut self, kit: JobKit) -> Started<Self::Run>
         ensures starts { (seen self.new).starts ≡ with_start (seen self.old).starts }
         ensures refused { RefusedIfRose result (seen self.old).faults (seen self.new).faults }

@@ -97,7 +97,8 @@ impl<Run> Desk<Run> {
         }
     }
 
-    /// Takes marks until a job is kept, or there are none, or enough; and tells whether memory was refused to a worker.
+    /// Takes marks until a job is kept, or there are none, or enough; and tells whether memory was
+    /// refused to a worker.
     pub(crate) fn take<R: Wait>(
         &mut self,
         rt: &R,

@@ -15,8 +15,9 @@ use aio_workers::Jobs;
 use std::alloc::Global;
 use std::sync::Wait;
 
-/// A wire that has jobs done beside the loop, over one that answers all else. It keeps the runtime, by which its calls may
-/// wait; what starts the workers; and what does the jobs of workers that were refused.
+/// A wire that has jobs done beside the loop, over one that answers all else. It keeps the runtime,
+/// by which its calls may wait; what starts the workers; and what does the jobs of workers that
+/// were refused.
 /// Source: `base_events.py`, `run_in_executor`; `threads.py`, `to_thread`.
 #[derive(Drop)]
 pub struct ExecWire<R, W, S: Starter, J> {
@@ -55,7 +56,8 @@ fn order<R: Wait, Run, J: Jobs>(
     jobs: &J,
     bytes: &Blob,
 ) -> Result<Reply, Memory>
-    ensures { IfOk result (Orders (accepted_of bytes.now (board_of desk.old)) (desk_seen desk.old) (desk_seen desk.new)) }
+    ensures { IfOk result (Orders (accepted_of bytes.now (board_of desk.old))
+        (desk_seen desk.old) (desk_seen desk.new)) }
 {
     let answer = desk.order(alloc, bytes.items(), jobs)?;
     desk.serve(rt);
@@ -63,7 +65,8 @@ fn order<R: Wait, Run, J: Jobs>(
 }
 
 impl<R: Wait, W: Wire, S: Starter, J: Jobs> ExecWire<R, W, S, J> {
-    /// Asks any call. It may wait, for what the wire within waits for, and for jobs whose worker was refused.
+    /// Asks any call. It may wait, for what the wire within waits for, and for jobs whose worker
+    /// was refused.
     pub fn ask_any(&mut self, alloc: Global, call: &Call) -> Result<Reply, Memory>
         ensures asks { IfOk result (Asks W.outside call.now (desk_seen self.old.desk)
             (desk_seen self.new.desk) self.old.inner self.new.inner) }

@@ -8,7 +8,8 @@ use aio_lane::{Command, Giving, Head};
 use std::collections::VecDeque;
 use std::sync::Wait;
 
-/// The lane to a worker, the jobs that found it full, in order, and the worker, unless it was refused.
+/// The lane to a worker, the jobs that found it full, in order, and the worker, unless it was
+/// refused.
 #[derive(Drop)]
 pub struct Worker<Run> {
     pub head: Head,
@@ -26,7 +27,8 @@ impl<Run> Worker<Run> {
 
     /// A job waits behind those that do.
     pub(crate) fn wait(&mut self, job: Command) -> Result<(), Memory>
-        ensures after { OnOk result (worker_seen self.new ≡ with_waiting job (worker_seen self.old)) }
+        ensures after { OnOk result
+            (worker_seen self.new ≡ with_waiting job (worker_seen self.old)) }
         ensures unchanged { OnErr result (worker_seen self.new ≡ worker_seen self.old) }
     {
         self.waiting.push_back(job)?;

@@ -23,7 +23,8 @@ impl Pool {
         }
     }
 
-    /// A thread more, and the seat that it serves. Nothing where no thread can be started, or memory is refused.
+    /// A thread more, and the seat that it serves. Nothing where no thread can be started, or
+    /// memory is refused.
     pub(crate) fn add<R, J>(
         &mut self,
         rt: R,
@@ -64,7 +65,8 @@ impl Pool {
         }
     }
 
-    /// Joins them. One that never got its kit ends at once; the others end once their lanes are closed.
+    /// Joins them. One that never got its kit ends at once; the others end once their lanes are
+    /// closed.
     pub fn join<R: Threads + Wait>(self, rt: &R) {
         let Pool { seats, threads } = self;
         for seat in seats {

@@ -22,8 +22,8 @@ impl Seat {
     }
 }
 
-/// What a worker's thread does: it waits for its kit, does the jobs that its lane carries, and puts its report. One that ended
-/// for want of memory goes on to receive until its lane is closed.
+/// What a worker's thread does: it waits for its kit, does the jobs that its lane carries, and puts
+/// its report. One that ended for want of memory goes on to receive until its lane is closed.
 pub(crate) fn serve<R: Wait + Copy, J: Jobs + Drop>(
     rt: R,
     alloc: Global,

@@ -30,8 +30,9 @@ pub struct Run {
 }
 
 impl<R: Threads + Wait + Copy + Send + 'static> RealStarter<R> {
-    /// A starter of four workers, each of which rings a bell of this one after each job; and their threads. Where a thread can't
-    /// be started, or memory is refused for it, there are fewer, and a later start is refused.
+    /// A starter of four workers, each of which rings a bell of this one after each job; and their
+    /// threads. Where a thread can't be started, or memory is refused for it, there are fewer, and
+    /// a later start is refused.
     pub fn make<J: Jobs + Copy + Drop + Send + 'static>(
         rt: R,
         alloc: Global,

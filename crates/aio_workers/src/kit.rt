@@ -3,7 +3,8 @@ use aio_done::DoneEnd;
 use aio_lane::Tail;
 use aio_pump::Ending;
 
-/// What a worker works with: the lane that carries its jobs, and the end on which it puts them once they are done.
+/// What a worker works with: the lane that carries its jobs, and the end on which it puts them once
+/// they are done.
 #[derive(Drop)]
 pub struct JobKit {
     pub tail: Tail,

@@ -1,4 +1,5 @@
-//! Workers. Each does the jobs that its lane carries, on a thread of its own, and puts each once it is done.
+//! Workers. Each does the jobs that its lane carries, on a thread of its own, and puts each once it
+//! is done.
 #![tactic(auto)]
 
 mod jobs;

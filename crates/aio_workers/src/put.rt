@@ -5,8 +5,8 @@ use aio_done::{DoneEnd, Mark, Putting};
 use aio_pump::Bell;
 use std::sync::Wait;
 
-/// Puts, and rings once. While the queue is full it sleeps until a mark is taken. False where the end is spent, and then
-/// nothing was put or rung.
+/// Puts, and rings once. While the queue is full it sleeps until a mark is taken. False where the
+/// end is spent, and then nothing was put or rung.
 pub(crate) fn put<R: Wait, B: Bell>(rt: &R, end: &mut DoneEnd, bell: &mut B, mark: Mark) -> bool
     ensures { PutsOne result mark end.old end.new (B.rings bell.old) (B.rings bell.new) }
 {

@@ -13,10 +13,12 @@ pub struct Order<'a> {
     pub input: &'a [u8],
 }
 
-/// The job that bytes ask for: a digit for its kind, a space, and what it is given. Nothing where they ask for none.
+/// The job that bytes ask for: a digit for its kind, a space, and what it is given. Nothing where
+/// they ask for none.
 pub fn order_of(bytes: &[u8]) -> Option<Order<'_>>
     ensures order { MatchOption result (order_of bytes.now ≡ None)
-        (λ order. order_of bytes.now ≡ Some (record { kind = order.kind; input = order.input.now })) }
+        (λ order. order_of bytes.now
+        ≡ Some (record { kind = order.kind; input = order.input.now })) }
     ensures kind { IfSome result (λ order. is_kind order.kind ≡ true) }
 {
     let [digit, b' ', input @ ..] = bytes else {
@@ -46,7 +48,8 @@ fn parted(bytes: &[u8]) -> Option<(&[u8], &[u8])>
     }
 }
 
-/// The job that a worker is given: its number in decimal, a space, and the job. Nothing where it is none.
+/// The job that a worker is given: its number in decimal, a space, and the job. Nothing where it is
+/// none.
 pub(crate) fn numbered_order(bytes: &[u8]) -> Option<(u64, Order<'_>)>
     ensures order { MatchOption result (ordered_of bytes.now ≡ None)
         (λ given. ordered_of bytes.now ≡ Some (ordered given.0 given.1.kind given.1.input.now)) }

@@ -17,8 +17,9 @@ use aio_pump::{Bell, Ending};
 use std::alloc::Global;
 use std::sync::Wait;
 
-/// Does the jobs of a lane, and puts each once it is done: a Write is a job's number, a space, its kind, a space, and what
-/// it is given. Another Write is no job, and nor is a Go. It waits for commands, and while the queue is full.
+/// Does the jobs of a lane, and puts each once it is done: a Write is a job's number, a space, its
+/// kind, a space, and what it is given. Another Write is no job, and nor is a Go. It waits for
+/// commands, and while the queue is full.
 pub fn work_on<R: Wait, J: Jobs, B: Bell>(
     rt: &R,
     alloc: Global,
@@ -146,8 +147,8 @@ pub fn done_by<J: Jobs>(
     }
 }
 
-/// A worker that ended before its lane was closed goes on to receive until then: whoever closes the lane always finds room in
-/// it at last. What it receives so it passes over.
+/// A worker that ended before its lane was closed goes on to receive until then: whoever closes the
+/// lane always finds room in it at last. What it receives so it passes over.
 pub fn see_out<R: Wait>(rt: &R, report: JobReport) -> JobReport
     ensures { SeesOut report result }
 {

@@ -9,7 +9,8 @@ pub fn few_are_left()
         → left_to_put given put ≤ 9 }
 {}
 
-/// So four of them put at most 36 times more: in a queue of 64 that was emptied once all lanes were closed, none waits for room.
+/// So four of them put at most 36 times more: in a queue of 64 that was emptied once all lanes were
+/// closed, none waits for room.
 pub fn closing_waits_for_no_room()
     ensures { (g1 r1 s1 g2 r2 s2 g3 r3 s3 g4 r4 s4 : List Command) (p1 p2 p3 p4 : ℕ)
         → Works g1 r1 s1 p1 → Works g2 r2 s2 p2 → Works g3 r3 s3 p3 → Works g4 r4 s4 p4

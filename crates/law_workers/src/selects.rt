@@ -8,15 +8,18 @@ ghost use Rattle.model_jobs.specs.Board.{Board};
 ghost use Rattle.model_jobs.specs.Gathering.{begin, gather, are_taken, others_of};
 ghost use Rattle.law_workers.specs.Sound.{IsSound, IsResultOf, AreDone, numbers_in};
 
-/// Where the turn of the wire within fits, the select's answer does, whatever was kept and whatever workers put.
+/// Where the turn of the wire within fits, the select's answer does, whatever was kept and whatever
+/// workers put.
 pub fn answers_fit()
-    ensures { (watched : List Watch) (now : ℕ) (items : List Item) (board : Board) (marks : List Mark)
-        → turn_fits watched now items ≡ true
-        → turn_fits watched now (gather watched now marks (begin watched now items board)).items ≡ true }
+    ensures { (watched : List Watch) (now : ℕ) (items : List Item) (board : Board)
+        (marks : List Mark) → turn_fits watched now items ≡ true
+        → turn_fits watched now
+        (gather watched now marks (begin watched now items board)).items ≡ true }
 {}
 
-/// Behind the items of the wire within, the answer has an item for each of some jobs that were outstanding, with what came of
-/// them; and none of their numbers was told before, is told twice or is told again.
+/// Behind the items of the wire within, the answer has an item for each of some jobs that were
+/// outstanding, with what came of them; and none of their numbers was told before, is told twice or
+/// is told again.
 pub fn each_is_told_once()
     ensures { (told : List ℕ) (watched : List Watch) (now : ℕ) (items : List Item) (board : Board)
         (marks : List Mark) (found_none : Bool)
@@ -25,5 +28,6 @@ pub fn each_is_told_once()
         → (dones : List Done) × All (IsResultOf board.outstanding) dones
         × ((gather watched now marks (begin watched now items board)).items
         ≡ others_of items ++ map item_of dones)
-        × IsSound (told ++ numbers_in dones) (gather watched now marks (begin watched now items board)).board }
+        × IsSound (told ++ numbers_in dones)
+        (gather watched now marks (begin watched now items board)).board }
 {}

@@ -1,5 +1,5 @@
-//! Jobs beside the loop, as definitions: what workers are given and what they put, and what the wire keeps of jobs that
-//! go on.
+//! Jobs beside the loop, as definitions: what workers are given and what they put, and what the
+//! wire keeps of jobs that go on.
 #![tactic(auto)]
 
 mod mark;

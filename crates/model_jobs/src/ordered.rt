@@ -1,4 +1,5 @@
-/// A job that was accepted. `B` is the type of bytes: a list in definitions, and a type of its own in code.
+/// A job that was accepted. `B` is the type of bytes: a list in definitions, and a type of its own
+/// in code.
 #[derive(Drop)]
 pub struct Ordered<B> {
     /// Its number, from 0 in order of accepting.

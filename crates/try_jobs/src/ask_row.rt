@@ -26,8 +26,9 @@ pub enum Ask {
     Listen(u16),
 }
 
-/// What the wire within answers, in order; what each worker puts at its start, and which workers are refused; the calls with what is
-/// replied, as a journal has it; what the wire within was asked then, as a trace has it; and how many jobs each worker did that ran.
+/// What the wire within answers, in order; what each worker puts at its start, and which workers
+/// are refused; the calls with what is replied, as a journal has it; what the wire within was asked
+/// then, as a trace has it; and how many jobs each worker did that ran.
 pub struct AskRow {
     pub name: &'static str,
     pub within: &'static [&'static str],
@@ -38,7 +39,8 @@ pub struct AskRow {
     pub did: &'static [u64],
 }
 
-/// A select that watches what connection 0 reads, and jobs if so. Where memory is refused the last isn't watched.
+/// A select that watches what connection 0 reads, and jobs if so. Where memory is refused the last
+/// isn't watched.
 pub fn select_of(alloc: Global, wait: Option<u64>, jobs: bool) -> Call {
     let mut watch = Vec::new(alloc);
     let _conn = watch.push(Watch::Conn {

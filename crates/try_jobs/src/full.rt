@@ -13,7 +13,8 @@ use try_row::blob_of;
 /// How many jobs there are.
 const JOBS: u64 = 100;
 
-/// So many can be given before anything is taken: 64 stand in the queue, one is in the worker's hands, and eight stand in the lane.
+/// So many can be given before anything is taken: 64 stand in the queue, one is in the worker's
+/// hands, and eight stand in the lane.
 const STUCK: u64 = 73;
 
 // Gives the jobs, and Close. It counts them.

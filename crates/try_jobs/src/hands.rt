@@ -6,15 +6,17 @@ use std::alloc::Global;
 use std::sync::Wait;
 use try_row::blob_of;
 
-/// What a worker puts at its start: a job of this number, kind and input, done; or that memory was refused to it.
+/// What a worker puts at its start: a job of this number, kind and input, done; or that memory was
+/// refused to it.
 #[derive(Clone, Copy)]
 pub enum Put {
     Done(u64, i64, &'static [u8]),
     Starved,
 }
 
-/// Starts workers, each of which puts what stands here at its place, but refuses those at these places, counted from 0. As a worker is
-/// taken in it does what its lane carries. It tells its starts.
+/// Starts workers, each of which puts what stands here at its place, but refuses those at these
+/// places, counted from 0. As a worker is taken in it does what its lane carries. It tells its
+/// starts.
 pub struct Hands<R> {
     rt: R,
     alloc: Global,

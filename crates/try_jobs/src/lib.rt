@@ -1,4 +1,5 @@
-//! Worked cases of jobs beside the loop: of workers, some on threads of their own, and of the wire that hands jobs out.
+//! Worked cases of jobs beside the loop: of workers, some on threads of their own, and of the wire
+//! that hands jobs out.
 #![tactic(auto)]
 
 mod ask_row;

@@ -50,8 +50,8 @@ fn items<R: Wait>(alloc: Global, wire: &mut Jobbed<R>) -> u64 {
     count
 }
 
-/// Where no worker runs each job is done at once: so many are accepted, one more is refused, and once a select told all of them the
-/// next is accepted.
+/// Where no worker runs each job is done at once: so many are accepted, one more is refused, and
+/// once a select told all of them the next is accepted.
 pub fn holds_many<R: Wait + Copy + Drop>(rt: R, alloc: Global) -> bool {
     let within = Within::new(alloc, &["turn 1"]);
     let hands = Hands::new(rt, alloc, &[], &[0, 1, 2, 3]);

@@ -16,8 +16,8 @@ use std::thread::Threads;
 /// How often a job looks before it gives up.
 const TRIES: u32 = 10_000_000;
 
-/// Says that its job has begun, and does it once the other's has. Each look gives up the thread's turn. Where it looked too often
-/// it is refused memory, and the case comes out otherwise.
+/// Says that its job has begun, and does it once the other's has. Each look gives up the thread's
+/// turn. Where it looked too often it is refused memory, and the case comes out otherwise.
 #[derive(Drop)]
 struct Meeting<'w> {
     own: &'w AtomicU64,
@@ -77,8 +77,8 @@ fn is_done<R: Wait>(rt: &R, alloc: Global, side: Side, jobs: Meeting) -> bool {
     right
 }
 
-/// Each of two workers has a job that returns only once the other's has begun. Workers that run one after the other come out
-/// otherwise.
+/// Each of two workers has a job that returns only once the other's has begun. Workers that run one
+/// after the other come out otherwise.
 pub fn meet<R: Threads + Wait + Sync>(rt: &R, alloc: Global) -> bool {
     match DoneEnd::make(alloc, 2) {
         Ok((taker, mut ends)) => match (ends.pop(), ends.pop()) {

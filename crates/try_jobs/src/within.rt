@@ -5,8 +5,8 @@ use aio_wire::{Call, Reply, Wire};
 use aio_written::push_call;
 use std::alloc::Global;
 
-/// Answers these in order, as a journal's lines have them, and fails past the last. It remembers its calls, as a trace has them, each
-/// with a newline.
+/// Answers these in order, as a journal's lines have them, and fails past the last. It remembers
+/// its calls, as a trace has them, each with a newline.
 #[derive(Drop)]
 pub struct Within {
     answers: &'static [&'static str],
@@ -36,7 +36,14 @@ impl Wire for Within {
     ghost use Rattle.model_wire.specs.Told.{Going};
 
     ghost outside = { record {
-      seen = λ wire. record { left = None; asked = None; handed = None; end = Going; fitting = false; faults = wire.faults };
+      seen = λ wire. record {
+        left = None;
+        asked = None;
+        handed = None;
+        end = Going;
+        fitting = false;
+        faults = wire.faults;
+      };
       fails = λ _. ⊥;
       keeps = λ _ _. Unit {0};
       quiet = λ _ _. Unit {0};

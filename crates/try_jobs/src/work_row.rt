@@ -27,8 +27,8 @@ pub enum Shown {
     Starved,
 }
 
-/// The commands; which of the jobs memory is refused for, counted from 1; what is put, in order; how many jobs are told, and why the
-/// worker ends. It rings once for each mark.
+/// The commands; which of the jobs memory is refused for, counted from 1; what is put, in order;
+/// how many jobs are told, and why the worker ends. It rings once for each mark.
 pub struct WorkRow {
     pub name: &'static str,
     pub given: &'static [Given],
