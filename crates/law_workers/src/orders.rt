@@ -21,7 +21,8 @@ pub fn begins_sound()
 /// A job that is accepted has a number that no other had.
 pub fn keeps_sound()
     ensures { (told : List ℕ) (board : Board) (bytes : List ℕ) (has_worker : Bool)
-        → IsSound told board → IsSound told (after_order has_worker (accepted_of bytes board) board) }
+        → IsSound told board
+        → IsSound told (after_order has_worker (accepted_of bytes board) board) }
 {}
 
 /// What a worker is given is read as the job that it was.
