@@ -67,3 +67,10 @@ pub record Takes (watched : List Watch) (now : ℕ) (before after : Gathering) (
   pub are_all : are_taken watched now marks found_none before ≡ true
   pub gathers : after ≡ gather watched now marks before
   pub workers : new.workers ≡ old.workers
+
+-- a mark was taken, and nothing else changed
+pub record HasTaken (mark : Mark) (old new : DeskSeen) : Type 0 where
+  pub taken : new.taken ≡ old.taken ++ mark ∷ []
+  pub board : new.board ≡ old.board
+  pub workers : new.workers ≡ old.workers
+  pub nones : new.nones ≡ old.nones

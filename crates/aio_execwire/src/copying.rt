@@ -1,5 +1,6 @@
 //! The items of the wire within, in a list that can grow.
 ghost use Rattle.std.specs.Prelude.{◌≡◌, IfOk};
+ghost use Rattle.std.specs.List.{list_any};
 ghost use Rattle.model_jobs.specs.Gathering.{is_of_job, others_of};
 
 use aio_base::Memory;
@@ -22,6 +23,13 @@ pub(crate) fn is_of_job(item: &Item) -> bool
         | Item::WritableChild(_)
         | Item::Child { .. } => false,
     }
+}
+
+/// Whether one of them tells of a job.
+pub(crate) fn has_job(items: &[Item]) -> bool
+    ensures { result ≡ list_any is_of_job items.now }
+{
+    items.iter().any(is_of_job)
 }
 
 fn copy_of_item(alloc: Global, item: &Item) -> Result<Item, Memory>

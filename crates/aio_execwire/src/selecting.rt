@@ -1,16 +1,19 @@
 //! A select.
-ghost use Rattle.std.specs.Prelude.{◌≡◌, ℕ, Option, Some, IfOk, OnErr, if◌then◌else◌};
+ghost use Rattle.std.specs.Prelude.{◌≡◌, ℕ, Option, Some, [], IfOk, OnErr, if◌then◌else◌};
 ghost use Rattle.model_wire.specs.declared.call.Call.TheVariants as asked;
 ghost use Rattle.aio_memwire.specs.Passed.{WireAsked};
 ghost use Rattle.model_jobs.specs.Gathering.{begin};
-ghost use Rattle.aio_execwire.specs.Seen.{board_of, desk_seen};
+ghost use Rattle.aio_execwire.specs.Seen.{DeskSeen, board_of, desk_seen};
 ghost use Rattle.aio_execwire.specs.Asked.{Gathers, GathersTurn, IsTurn, Selects};
 ghost use Rattle.aio_execwire.specs.Outsides.{Leaves};
+ghost use Rattle.aio_execwire.specs.Telling.{HasTaken};
 
 use crate::answering::Answering;
+use crate::copying::has_job;
 use crate::desk::Desk;
 use aio_base::Memory;
 use aio_wire::{Answer, Call, ItemList, Reply, WatchList, Wire};
+use aio_workers::Mark;
 use std::alloc::Global;
 use std::sync::Wait;
 
@@ -36,8 +39,33 @@ fn pass_on<W: Wire>(
     inner.ask(alloc, &own)
 }
 
-// Adds the jobs that are done to a turn of the wire within.
+// Adds the jobs that are done to a turn of the wire within. Where there is none, and none is kept,
+// its items are passed on as they are.
 fn gather<R: Wait, Run>(
+    rt: &R,
+    alloc: Global,
+    desk: &mut Desk<Run>,
+    watch: &WatchList,
+    now: u64,
+    items: ItemList,
+) -> Result<Reply, Memory>
+    ensures { IfOk result (GathersTurn watch.now now (begin watch.now now items (board_of desk.old))
+        (desk_seen desk.old) (desk_seen desk.new)) }
+{
+    if desk.keeps_any() {
+        return gather_all(rt, alloc, desk, watch, now, &items);
+    }
+    if has_job(items.items()) {
+        return gather_all(rt, alloc, desk, watch, now, &items);
+    }
+    match desk.taker.take(rt) {
+        Some(mark) => gather_from(rt, alloc, desk, watch, now, &items, mark),
+        None => Ok(Reply::Got(Answer::Turn { now, items })),
+    }
+}
+
+// The same, whatever is kept.
+fn gather_all<R: Wait, Run>(
     rt: &R,
     alloc: Global,
     desk: &mut Desk<Run>,
@@ -51,7 +79,41 @@ fn gather<R: Wait, Run>(
 {
     let mut answering = Answering::over(alloc, watch.items(), now, items)?;
     desk.tell_kept(alloc, &mut answering)?;
-    if desk.take(rt, alloc, &mut answering)? {
+    if desk.take(rt, alloc, &mut answering, 0)? {
+        return Err(Memory);
+    }
+    Ok(Reply::Got(Answer::Turn {
+        now,
+        items: answering.into_items(),
+    }))
+}
+
+// The same, where none is kept, from this mark on, which was taken.
+fn gather_from<R: Wait, Run>(
+    rt: &R,
+    alloc: Global,
+    desk: &mut Desk<Run>,
+    watch: &WatchList,
+    now: u64,
+    items: &ItemList,
+    mark: Mark,
+) -> Result<Reply, Memory>
+    requires { desk.old.kept.items ≡ [] }
+    ensures { (before : DeskSeen) → HasTaken mark before (desk_seen desk.old)
+        → IfOk result (GathersTurn watch.now now (begin watch.now now items.now before.board) before
+        (desk_seen desk.new)) }
+{
+    let mut answering = match Answering::over(alloc, watch.items(), now, items) {
+        Ok(answering) => answering,
+        Err(Memory) => {
+            drop(mark);
+            return Err(Memory);
+        }
+    };
+    if desk.note(alloc, &mut answering, mark)? {
+        return Err(Memory);
+    }
+    if desk.take(rt, alloc, &mut answering, 1)? {
         return Err(Memory);
     }
     Ok(Reply::Got(Answer::Turn {
@@ -73,7 +135,7 @@ fn add_jobs<R: Wait, Run>(
     ensures turn { OnErr result (IsTurn said) }
 {
     match said {
-        Reply::Got(Answer::Turn { now, items }) => gather(rt, alloc, desk, watch, now, &items),
+        Reply::Got(Answer::Turn { now, items }) => gather(rt, alloc, desk, watch, now, items),
         other => Ok(other),
     }
 }

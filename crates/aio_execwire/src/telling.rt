@@ -78,8 +78,8 @@ impl<Run> Desk<Run> {
         Ok(())
     }
 
-    // One mark: whether memory was refused to a worker.
-    fn note(&mut self, alloc: Global, answering: &mut Answering, mark: Mark) -> Result<bool, Memory>
+    /// One mark: whether memory was refused to a worker.
+    pub(crate) fn note(&mut self, alloc: Global, answering: &mut Answering, mark: Mark) -> Result<bool, Memory>
         ensures { IfOk result (λ starved. (watched : List Watch) (now : ℕ)
             → IsReady watched now answering.old → Notes watched now mark answering.old
             answering.new (desk_seen self.old) (desk_seen self.new) starved) }
@@ -97,21 +97,22 @@ impl<Run> Desk<Run> {
         }
     }
 
-    /// Takes marks until a job is kept, or there are none, or enough; and tells whether memory was
-    /// refused to a worker.
+    /// Takes marks until a job is kept, or there are none, or enough with those that were taken
+    /// before; and tells whether memory was refused to a worker.
     pub(crate) fn take<R: Wait>(
         &mut self,
         rt: &R,
         alloc: Global,
         answering: &mut Answering,
+        before: u64,
     ) -> Result<bool, Memory>
         ensures { IfOk result (λ starved. (watched : List Watch) (now : ℕ)
             → IsReady watched now answering.old → (count : ℕ)
-            × Takes watched now (so_far answering.old (desk_seen self.old) 0 false)
+            × Takes watched now (so_far answering.old (desk_seen self.old) before false)
             (so_far answering.new (desk_seen self.new) count starved)
             (desk_seen self.old) (desk_seen self.new)) }
     {
-        for _made in 0..MOST_MARKS {
+        for _made in before..MOST_MARKS {
             if self.keeps_any() {
                 return Ok(false);
             }

@@ -9,5 +9,5 @@ abbrev pub invariant-loop-made : goal.invariant-loop-made
 invariant-loop-made g l =
     (watched : List Watch) (now : ℕ) → IsReady watched now l.fn.answering
     → IsReady watched now l.answering
-    × Goes watched now (so_far l.fn.answering (desk_seen l.fn.self) 0 false) (so_far l.answering (desk_seen l.self) l._made false)
+    × Goes watched now (so_far l.fn.answering (desk_seen l.fn.self) l.fn.before false) (so_far l.answering (desk_seen l.self) l._made false)
     (desk_seen l.fn.self) (desk_seen l.self)

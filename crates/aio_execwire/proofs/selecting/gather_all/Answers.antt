@@ -3,7 +3,7 @@ use Rattle.model_wire.specs.declared.watch.Watch.{Watch}
 use Rattle.aio_execwire.specs.Seen.{desk_seen}
 use Rattle.aio_execwire.specs.Telling.{IsReady}
 use Rattle.aio_execwire.proofs.Turns.{gathered}
-use Rattle.aio_execwire.proofs.selecting.gather.Goals as goal
+use Rattle.aio_execwire.proofs.selecting.gather_all.Goals as goal
 
 pub returns : goal.returns
 returns g c =
