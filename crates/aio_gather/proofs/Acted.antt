@@ -1,24 +1,22 @@
 -- What handles that run and requests that are woken come to, by the view of the loop's parts.
-use Rattle.std.proofs.Common.{◌≡◌, ◌⊎◌, inl, inr, ℕ, zero, suc, ◌≤◌, ◌-◌, arith, Bool, true, false, List, [], ◌∷◌, ◌++◌, Option, Some, None, length, map, slice_get, slice_set, refl, sym, ap, subst, ◌∙◌}
-use Rattle.std.proofs.Common.{append-nil}
+use Rattle.std.proofs.Common.{◌≡◌, inl, ℕ, zero, suc, ◌≤◌, ◌-◌, arith, Bool, true, false, List, [], ◌∷◌, Option, Some, None, length, map, slice_get}
+use Rattle.std.proofs.Common.{slice_set, refl, sym, ap, subst, ◌∙◌}
 use Rattle.std.proofs.lemmas.List.{map-set}
 use Rattle.std.proofs.lemmas.Option.{slice_get-map}
 use Rattle.std.specs.Prelude.{if◌then◌else◌}
 use Rattle.std.specs.Option.{option_map, option_map_or}
 use Rattle.model_value.specs.Input.{Input}
 use Rattle.model_value.specs.Value.{Outcome}
-use Rattle.model_value.specs.declared.input.Input.TheVariants.{Send, Throw}
 use Rattle.model_loop.specs.Futures.{future_outcome}
 use Rattle.model_loop.specs.Parts.{Future, FutureKind, Parts, profile_named}
 use Rattle.model_loop.specs.Tasks.{future_of, uncancel}
 use Rattle.model_loop.specs.Cancel.{cancel}
-use Rattle.model_machine.specs.Extra.{Cancels, ExtraStep, Uncancels}
-use Rattle.model_reach.specs.Part.{key_at, only_says, passes, stays}
+use Rattle.model_machine.specs.Extra.{ExtraStep, Uncancels}
+use Rattle.model_reach.specs.Part.{key_at, only_says, passes}
 use Rattle.model_gather.specs.Gathered as plain
 use Rattle.model_gather.specs.Gathered.{drawn_at, gather_part, resolved, settled_as}
 use Rattle.model_gather.specs.Gather.{asked_kind, count, gather_told, was_asked}
-use Rattle.model_gather.specs.Shield.{shield_told}
-use Rattle.model_gather.specs.Wait.{revoked, wait_rings, wait_says, wait_told, wait_woken}
+use Rattle.model_gather.specs.Wait.{revoked, wait_says, wait_told, wait_woken}
 use Rattle.model_gather.specs.WaitFor.{wait_for_rings, wait_for_says, wait_for_woken}
 use Rattle.model_gather.specs.Serving.{woken}
 use Rattle.aio_future.specs.Kinds.{is_asked}
@@ -29,10 +27,10 @@ use Rattle.aio_extra.specs.declared.asked.Asked.{Asked}
 use Rattle.refine_added.specs.Seen.{IsFramed, Sees, SeesAll}
 use Rattle.aio_gather.specs.Counted.{gathering}
 use Rattle.aio_gather.specs.Ended.{expired_so, finished_so, is_over_now}
-use Rattle.aio_gather.specs.Kept.{HasTimer, argument_as, counted_down, drawn_as, gathering_as, in_state, kept_of, mode_as, state_as, tag_as, timed_as, timer_in, waiting_as}
-use Rattle.aio_gather.specs.Seen.{AreKnown, CallsSeen, IsMadeBy, Says, SaysSeen}
+use Rattle.aio_gather.specs.Kept.{HasTimer, counted_down, drawn_as, gathering_as, in_state, kept_of, mode_as, state_as, tag_as, timed_as, timer_in, waiting_as}
+use Rattle.aio_gather.specs.Seen.{AreKnown, CallsSeen, Says, SaysSeen}
 use Rattle.aio_gather.specs.declared.drawn.Drawn.{Drawn}
-use Rattle.aio_gather.specs.declared.drawn.Drawn.TheVariants.{Gathers, Waits, Shields, WaitsFor}
+use Rattle.aio_gather.specs.declared.drawn.Drawn.TheVariants.{Gathers, Waits, WaitsFor}
 use Rattle.aio_gather.specs.declared.drawn.Gathering.{Gathering}
 use Rattle.aio_gather.specs.declared.drawn.TimedState.{TimedState}
 use Rattle.aio_gather.specs.declared.drawn.TimedState.TheVariants.{Expired, Expiring, Finished, Timed}

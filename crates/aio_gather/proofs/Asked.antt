@@ -1,30 +1,30 @@
 -- Requests in code come to the machine's.
-use Rattle.std.proofs.Common.{◌≡◌, ℕ, ℤ, zero, suc, ◌+◌, ◌<◌, ◌≤◌, ◌⊎◌, inl, inr, Bool, true, false, not, List, [], ◌∷◌, ◌++◌, Option, Some, None, length, map, slice_get}
+use Rattle.std.proofs.Common.{◌≡◌, ℕ, ℤ, suc, ◌+◌, ◌<◌, inl, inr, Bool, true, false, not, List, [], ◌∷◌, ◌++◌, Option, Some, None, length, map, slice_get}
 use Rattle.std.proofs.Common.{refl, sym, ap, subst, ◌∙◌, arith, ◌==◌}
-use Rattle.std.specs.Prelude.{filter, if◌then◌else◌, ◌^◌}
-use Rattle.std.specs.List.{AllByRecursion as Each, list_all}
+use Rattle.std.specs.Prelude.{filter, if◌then◌else◌}
+use Rattle.std.specs.List.{AllByRecursion as Each}
 use Rattle.std.proofs.lemmas.Bool.{eq-eqb, ne_eqb}
-use Rattle.model_value.specs.Value.{Exc, Items, Outcome, Value, no_values}
+use Rattle.model_value.specs.Value.{Exc, Items, Outcome, no_values}
 use Rattle.model_value.specs.declared.outcome.Outcome.TheVariants.{Value as Returned, Failed, Cancelled}
 use Rattle.model_value.specs.declared.action.Action.TheVariants as action
 use Rattle.model_loop.specs.Futures.{future_outcome, is_pending, next_future}
 use Rattle.model_loop.specs.Loop.{Loop}
-use Rattle.model_loop.specs.Parts.{Parts, Plain, Task, profile_named}
+use Rattle.model_loop.specs.Parts.{Parts, Plain, profile_named}
 use Rattle.model_loop.specs.Tasks.{cancelling, next_task}
 use Rattle.model_says.specs.Operations.{out_of_range}
-use Rattle.model_says.specs.Requests.{bad_argument}
 use Rattle.model_machine.specs.Extra as extra
-use Rattle.model_machine.specs.Extra.{Answers, CallsLater, ExtraAnswer, ExtraCall, ExtraSaid, ExtraStep, MakesMany, MakesPlain, Raises, Registers, made_by, made_by_all}
+use Rattle.model_machine.specs.Extra.{Answers, CallsLater, ExtraAnswer, ExtraSaid, ExtraStep, MakesMany, MakesPlain, Raises, Registers, made_by, made_by_all}
 use Rattle.model_machine.specs.Outcomes.{input_of}
 use Rattle.model_machine.specs.Sound.{IsAwaitable}
 use Rattle.model_machine.specs.State.{State}
 use Rattle.model_reach.specs.Part.{can_draw, key_at, passes, refuses}
 use Rattle.model_gather.specs.Gathered as plain
-use Rattle.model_gather.specs.Gathered.{Answered, Argument, Drawn, Gathered, Gathers, Shields, Tells, WaitMode, Waits, at_once, distinct, distinct_arguments, drawn_after, draws}
+use Rattle.model_gather.specs.Gathered.{Answered, Argument, Drawn, Gathered, Gathers, Shields, Tells, WaitMode, Waits, at_once, distinct, distinct_arguments}
+use Rattle.model_gather.specs.Gathered.{drawn_after, draws}
 use Rattle.model_gather.specs.Gathered.{futures_of, gather_keeps, gather_part, own_in, registered_from, settled_as}
-use Rattle.model_gather.specs.Gather.{Counted, count_all, gather, gather_all}
+use Rattle.model_gather.specs.Gather.{count_all, gather, gather_all}
 use Rattle.model_gather.specs.Shield.{shield, shield_open}
-use Rattle.model_gather.specs.Wait.{bad_mode, empty_set, one_if_some, rings_after, rings_at, wait, wait_all}
+use Rattle.model_gather.specs.Wait.{bad_mode, empty_set, one_if_some, rings_at, wait, wait_all}
 use Rattle.model_gather.specs.WaitFor.{bad_timeout, may_time, wait_for, wait_for_all}
 use Rattle.model_gather.specs.Serving.{OfGather, OfShield, OfWait, OfWaitFor, Request, gather_means, serve, served}
 use Rattle.law_runs.specs.Allowed.{AreAllowed, IsAmong, IsSaidAllowed, Owns, owns_at}
@@ -33,7 +33,7 @@ use Rattle.law_gather.proofs.Awaited.{IsThere, distinct_each}
 use Rattle.law_gather.proofs.Changing.{says_allowed}
 use Rattle.law_gather.proofs.Made.{count_keeps}
 use Rattle.law_gather.proofs.Fresh.{allowed_left, counted_tags, made_then}
-use Rattle.law_gather.proofs.Lists.{among_right, each_on, flat_among}
+use Rattle.law_gather.proofs.Lists.{each_on, flat_among}
 use Rattle.refine_parts.proofs.Appending.{extends_on}
 use Rattle.refine_parts.proofs.Scheduling.{kept_later}
 use Rattle.refine_parts.proofs.Telling.{next_kept, outcome_kept, pending_kept}
@@ -52,7 +52,6 @@ use Rattle.aio_gather.specs.declared.gather.Gather.{Gather}
 use Rattle.aio_gather.proofs.Lifting.{IsWaitNamed, known_by, kept_by, plainly, says_so}
 use Rattle.aio_gather.proofs.Growing.{futures_distinct}
 use Rattle.aio_gather.proofs.Same.{done_same, gather_same, shield_same, wait_for_same, wait_same}
-use Rattle.aio_gather.proofs.Timers.{made_registered, settled_unmade}
 
 -- ---- steps that give nothing up, and make no timer
 abbrev pub AreSimple : List ExtraStep → Type 0
@@ -155,7 +154,8 @@ timed_goes t v w own l front when key k rules ok quiet seen =
     let split = seen_split t.known front (CallsLater when key ∷ []) v w seen in
     let m = split.0 in
     let l1 = made_by_all front l in
-    let first = steps_go t v m own l front k rules (allowed_left own front (CallsLater when key ∷ []) l ok) (handles_older l.parts.next_tag front quiet) split.1 in
+    let first = steps_go t v m own l front k rules (allowed_left own front (CallsLater when key ∷ []) l ok)
+    (handles_older l.parts.next_tag front quiet) split.1 in
     let last = kept_later first.name_map m l1.parts first.keeps when (action.Extra key) in
     let is = split.2.2 ∙ split.2.1 in
     let number : m.schedule.next ≡ v.schedule.next = ap (λ s. s.next) (same_schedule t.known front v m quiet split.1) in

@@ -1,7 +1,7 @@
 -- One member more is counted.
-use Rattle.std.proofs.Common.{◌≡◌, ℕ, ◌+◌, ◌-◌, ◌<◌, Bool, true, false, List, [], ◌∷◌, ◌++◌, Option, Some, None, length, take, get_or, refl, sym, ap, ◌∙◌}
+use Rattle.std.proofs.Common.{◌≡◌, ℕ, ◌+◌, ◌-◌, ◌<◌, Bool, false, List, [], ◌∷◌, ◌++◌, Option, Some, None, length, take, get_or, refl, sym, ap, ◌∙◌}
 use Rattle.std.proofs.lemmas.List.{take_more}
-use Rattle.model_value.specs.Value.{Outcome, Value}
+use Rattle.model_value.specs.Value.{Outcome}
 use Rattle.model_loop.specs.Parts.{Parts}
 use Rattle.model_gather.specs.Gathered.{Gathering}
 use Rattle.model_gather.specs.Gather.{Counted, count, count_all, first_of, item_at, items_of}

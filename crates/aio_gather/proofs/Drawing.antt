@@ -1,10 +1,11 @@
 -- Requests that draw keys, where they can.
-use Rattle.std.proofs.Common.{◌≡◌, ◌⊎◌, inl, inr, ℕ, ℤ, suc, ◌+◌, ◌==◌, Bool, true, false, List, [], ◌∷◌, ◌++◌, Option, Some, None, length, map, refl, sym, ap, subst, ◌∙◌}
+use Rattle.std.proofs.Common.{◌≡◌, ◌⊎◌, inl, inr, ℕ, ℤ, ◌+◌, ◌==◌, Bool, true, false, List, [], ◌∷◌, ◌++◌, Option, Some, None, length, map, refl, sym, ap}
+use Rattle.std.proofs.Common.{subst, ◌∙◌}
 use Rattle.std.proofs.Common.{arith}
 use Rattle.std.proofs.lemmas.Bool.{eqb-true}
 use Rattle.std.proofs.lemmas.List.{length-map, map-append}
 use Rattle.std.specs.Prelude.{filter, if◌then◌else◌, is_some}
-use Rattle.model_value.specs.Value.{Exc, Items, Outcome, Value, no_values}
+use Rattle.model_value.specs.Value.{Exc, Items, Outcome, no_values}
 use Rattle.model_says.specs.Operations.{out_of_range}
 use Rattle.model_loop.specs.Futures.{future_outcome, is_pending}
 use Rattle.model_loop.specs.Parts.{Parts}
@@ -52,7 +53,8 @@ pub once_so : (tags : ℕ → ℕ) (x y : Gather) (v : View) (asked : Asked) (sa
     → can_draw gather_part (length x.drawn.items) 1 ≡ true → y.drawn.items ≡ x.drawn.items ++ Answered ∷ []
     → SaysSeen tags x y v v asked (at_once said (kept_of tags x))
 once_so tags x y v asked said says can pushed =
-    drawn_so tags x y v v asked 1 (record { call = record { state = drawn_after (plain.Answered ∷ []) (kept_of tags x); steps = [] }; answer = said }) can (record {
+    drawn_so tags x y v v asked 1 (record { call = record { state = drawn_after (plain.Answered ∷ []) (kept_of tags x); steps = [] }; answer = said })
+    can (record {
       call = record {
         kept = ap (λ ds. record { drawn = map (drawn_as tags) ds }) pushed
             ∙ ap (λ ds. record { drawn = ds }) (map-append (drawn_as tags) x.drawn.items (Answered ∷ []));
@@ -124,7 +126,8 @@ pub gather_members : (tags : ℕ → ℕ) (x y : Gather) (v w : View) (asked : A
 gather_members tags x y v w asked as_items awaited members open_ m o seen =
     subst (λ ids. SaysSeen tags x y v w asked (draws (1 + length (filter (is_wanted true (parts v)) (distinct awaited)))
     (gather_all as_items awaited ids (parts v) (kept_of tags x)) (kept_of tags x))) m
-    (subst (λ ids. SaysSeen tags x y v w asked (draws (1 + length ids) (gather_all as_items awaited members (parts v) (kept_of tags x)) (kept_of tags x))) o seen)
+    (subst (λ ids. SaysSeen tags x y v w asked (draws (1 + length ids) (gather_all as_items awaited members (parts v) (kept_of tags x)) (kept_of tags x)))
+    o seen)
 
 -- ---- wait
 pub wait_none : (tags : ℕ → ℕ) (x y : Gather) (v w : View) (p : Parts) (asked : Asked) (mode : Option WaitMode) (delay : Option ℤ) (xs : List code.Argument)
@@ -185,7 +188,8 @@ pub raises_so : (asked : Asked) (exception : Exc) → asked ≡ Raise exception 
 raises_so asked exception e = subst (λ it. Says it (Raises exception)) (sym e) refl
 
 -- of a list that is lent
-pub wait_given : (tags : ℕ → ℕ) (next : ℕ) (x y : Gather) (v w : View) (asked : Asked) (mode : Option WaitMode) (delay : Option ℤ) (lent those : List code.Argument)
+pub wait_given : (tags : ℕ → ℕ) (next : ℕ) (x y : Gather) (v w : View) (asked : Asked) (mode : Option WaitMode) (delay : Option ℤ)
+    (lent those : List code.Argument)
     → lent ≡ those
     → (tags v.schedule.next ≡ tag_behind (distinct_arguments (map argument_as lent)) (timed next v)
     → SaysSeen tags x y v w asked (wait mode delay (map argument_as lent) (timed next v) (kept_of tags x)))

@@ -1,5 +1,6 @@
 -- Lists that grow at their ends.
-use Rattle.std.proofs.Common.{◌≡◌, ℕ, zero, suc, ◌+◌, ◌<◌, ◌⊎◌, inl, inr, Bool, true, false, not, cond, List, [], ◌∷◌, ◌++◌, Option, Some, None, length, map, take, get_or}
+use Rattle.std.proofs.Common.{◌≡◌, ℕ, zero, suc, ◌+◌, ◌<◌, ◌⊎◌, inl, inr, Bool, true, false, not, cond, List, [], ◌∷◌, ◌++◌, Option, Some, None, length, map}
+use Rattle.std.proofs.Common.{take, get_or}
 use Rattle.std.proofs.Common.{append-nil, refl, sym, ap, ◌∙◌, ◌==◌, arith}
 use Rattle.std.specs.Prelude.{filter, nat_eq, ◌||◌, if◌then◌else◌}
 use Rattle.std.specs.List.{list_any}
@@ -128,7 +129,8 @@ distinct_last (y ∷ xs) x =
         go false = ap (λ b. cond (not b) (x ∷ []) []) (ne_eqb x y (λ e. differ (sym e)))
 
 pub distinct_more : (xs : List ℕ) (k : ℕ) → k < length xs
-    → distinct (take (k + 1) xs) ≡ distinct (take k xs) ++ (if list_any (λ other. other == get_or xs k 0) (distinct (take k xs)) then [] else get_or xs k 0 ∷ [])
+    → distinct (take (k + 1) xs) ≡ distinct (take k xs)
+    ++ (if list_any (λ other. other == get_or xs k 0) (distinct (take k xs)) then [] else get_or xs k 0 ∷ [])
 distinct_more xs k h = ap distinct (take_more xs k 0 h) ∙ distinct_last (take k xs) (get_or xs k 0)
 
 -- ---- arguments
@@ -208,7 +210,8 @@ pub arguments_more : (xs : List Argument) (k : ℕ) (d : Argument) → k < lengt
     ++ (if list_any (λ other. other == (get_or xs k d).future) (futures_of (distinct_arguments (take k xs))) then [] else get_or xs k d ∷ [])
 arguments_more xs k d h = ap distinct_arguments (take_more xs k d h) ∙ arguments_last (take k xs) (get_or xs k d)
 
-pub mapped_later : {A B : Type 0} (f : A → B) (xs : List A) (k : ℕ) (d : A) → k < length xs → map f (take (k + 1) xs) ≡ map f (take k xs) ++ f (get_or xs k d) ∷ []
+pub mapped_later : {A B : Type 0} (f : A → B) (xs : List A) (k : ℕ) (d : A) → k < length xs
+    → map f (take (k + 1) xs) ≡ map f (take k xs) ++ f (get_or xs k d) ∷ []
 mapped_later f xs k d h = ap (map f) (take_more xs k d h) ∙ map-append f (take k xs) (get_or xs k d ∷ [])
 
 pub filter_later : {A : Type 0} (test : A → Bool) (xs : List A) (k : ℕ) (d : A) → k < length xs

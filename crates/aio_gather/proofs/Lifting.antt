@@ -1,15 +1,14 @@
 -- What a call comes to, where the object stood for a state.
-use Rattle.std.proofs.Common.{◌≡◌, ℕ, zero, suc, ◌+◌, ◌<◌, ◌≤◌, ◌⊎◌, inl, inr, Bool, true, false, not, List, [], ◌∷◌, ◌++◌, Option, Some, None, length, map, slice_get}
+use Rattle.std.proofs.Common.{◌≡◌, ℕ, zero, suc, ◌<◌, ◌⊎◌, inl, inr, true, false, List, [], ◌∷◌, Option, Some, None, length, slice_get}
 use Rattle.std.proofs.Common.{refl, sym, ap, subst, ◌∙◌, arith}
 use Rattle.std.specs.List.{AllByRecursion as Each}
 use Rattle.std.proofs.lemmas.Bool.{false_from_ne_true}
 use Rattle.model_loop.specs.Futures.{next_future}
-use Rattle.model_loop.specs.Loop.{Loop}
-use Rattle.model_loop.specs.Owning.{OwnsFutures, is_plain, own_future, owner_at, owner_of}
+use Rattle.model_loop.specs.Owning.{is_plain, own_future, owner_at, owner_of}
 use Rattle.model_loop.specs.Parts.{Future, FutureKind, Many, OfTask, Parts, Plain}
 use Rattle.model_loop.specs.Tasks.{next_task}
 use Rattle.model_machine.specs.Extra as extra
-use Rattle.model_machine.specs.Extra.{Answers, ExtraAnswer, ExtraCall, ExtraSaid, ExtraStep, Raises, called, made_by_all}
+use Rattle.model_machine.specs.Extra.{Answers, ExtraAnswer, ExtraCall, ExtraSaid, Raises, called, made_by_all}
 use Rattle.model_machine.specs.Sound.{IsAwaitable}
 use Rattle.model_machine.specs.State.{State}
 use Rattle.model_gather.specs.Gathered.{Gathered, gather_keeps}
@@ -17,7 +16,7 @@ use Rattle.model_gather.specs.Serving.{gather_means}
 use Rattle.law_runs.specs.Allowed.{IsAmong, IsCallAllowed, IsOwn, IsSaidAllowed, owns_at}
 use Rattle.law_runs.proofs.Steps.{all_after}
 use Rattle.refine_added.proofs.Going.{steps_go}
-use Rattle.refine_added.specs.Seen.{AreOlder, Goes, SeesAll}
+use Rattle.refine_added.specs.Seen.{AreOlder, Goes}
 use Rattle.aio_task.specs.Keeps.{ByTimer, Knows, NameMap}
 use Rattle.aio_task.specs.View.{View}
 use Rattle.aio_timer.specs.declared.live.TimerId.{TimerId}
@@ -42,7 +41,8 @@ among_each P (x ∷ xs) id all (suc place, e) = among_each P xs id all.1 (place,
 plain_free : (p : Parts) (id : ℕ) → is_plain p id ≡ true → owner_of p id ≡ None
 plain_free p id e = at (slice_get p.futures id) e
   where
-    kinds : (kind : FutureKind) → elim kind [ Plain ↦ true | _ ↦ false ] ≡ true → owner_at (Some (record { kind = kind; outcome = None; callbacks = [] })) ≡ None
+    kinds : (kind : FutureKind) → elim kind [ Plain ↦ true | _ ↦ false ] ≡ true
+        → owner_at (Some (record { kind = kind; outcome = None; callbacks = [] })) ≡ None
     kinds Plain e = refl
     kinds (OfTask task) e = absurd (cc)
     kinds (Many members asked) e = absurd (cc)
@@ -100,7 +100,8 @@ module _ (running : Option ℕ) (t : NameMap) (s : State Gathered) (x : Gather) 
         (seen.steps t.known (known_by tags agrees))
 
     module _ (goes : Goes t p v w (made_by_all call.steps s.loop).parts)
-        (new : (id : TimerId) → IsMadeBy v.schedule.next call.steps id → Knows goes.name_map (made_by_all call.steps s.loop).parts (tags id.number) (ByTimer id)) where
+        (new : (id : TimerId) → IsMadeBy v.schedule.next call.steps id
+        → Knows goes.name_map (made_by_all call.steps s.loop).parts (tags id.number) (ByTimer id)) where
       stays_there : (id : ℕ) → IsOwn (gather_keeps s.extra).own (next_future p) id → t.gone id ≡ false
       stays_there id (inl old) = h.stands.own id old
       stays_there id (inr past) = false_from_ne_true (t.gone id) (λ g. let m = h.keeps.made id g in omega (arith, m, past))

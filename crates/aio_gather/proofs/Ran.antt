@@ -1,5 +1,5 @@
 -- Handles that run and requests that are woken, in code, come to the machine's.
-use Rattle.std.proofs.Common.{◌≡◌, ℕ, ℤ, ◌<◌, ◌-◌, ◌⊎◌, inl, inr, Bool, true, false, not, cond, List, [], ◌∷◌, ◌++◌, Option, Some, None, length, map, slice_get, refl, sym, ap, subst, ◌∙◌}
+use Rattle.std.proofs.Common.{◌≡◌, ℕ, ◌-◌, Bool, true, false, not, cond, List, [], ◌∷◌, ◌++◌, Option, Some, None, slice_get, refl, sym, ap, subst, ◌∙◌}
 use Rattle.std.proofs.Math.Logic.{∥∥₁_elim}
 use Rattle.std.proofs.Props.{props}
 use Rattle.std.specs.Prelude.{Result, Ok, Err, filter, if◌then◌else◌, is_some, ◌&&◌, nat_le}
@@ -9,24 +9,24 @@ use Rattle.model_value.specs.Input.{Input}
 use Rattle.model_value.specs.Value.{Exc, Items, Outcome, Value, values}
 use Rattle.model_value.specs.declared.input.Input.TheVariants.{Send, Throw}
 use Rattle.model_says.specs.Operations.{bounded}
-use Rattle.model_loop.specs.Futures.{future_outcome, is_pending, next_future}
+use Rattle.model_loop.specs.Futures.{future_outcome, is_pending}
 use Rattle.model_loop.specs.Owning.{owner_at}
 use Rattle.model_loop.specs.Parts.{Future, Parts}
-use Rattle.model_loop.specs.Tasks.{cancelling, future_of, next_task}
+use Rattle.model_loop.specs.Tasks.{cancelling, next_task}
 use Rattle.model_loop.specs.Timeouts.{timeout_exception}
-use Rattle.model_machine.specs.Arguments.{as_list}
-use Rattle.model_machine.specs.Extra.{Answers, Cancels, ExtraAnswer, ExtraCall, ExtraSaid, ExtraStep, Raises, Uncancels, key_of}
+use Rattle.model_machine.specs.Extra.{Answers, Cancels, ExtraAnswer, ExtraCall, ExtraSaid, ExtraStep, Raises, Uncancels}
 use Rattle.model_machine.specs.Sound.{IsAwaitable, IsOwned, IsTagOwned, sends_made}
 use Rattle.model_machine.specs.State.{State}
 use Rattle.model_reach.specs.Part.{key_at, passes, place_of, stays}
 use Rattle.model_gather.specs.Gathered as plain
-use Rattle.model_gather.specs.Gathered.{Argument, Expired, Expiring, Finished, Gathered, Gathering, Gathers, Rings, Shields, Tells, Timed, TimedState, TimedWait, Waiting, Waits}
-use Rattle.model_gather.specs.Gathered.{WaitsFor, drawn_at, futures_in, gather_keeps, gather_part, own_in, settled_as, tag_in, values_of}
+use Rattle.model_gather.specs.Gathered.{Argument, Expired, Expiring, Finished, Gathered, Gathers, Rings, Shields, Tells, Timed, TimedState, TimedWait}
+use Rattle.model_gather.specs.Gathered.{Waiting, Waits}
+use Rattle.model_gather.specs.Gathered.{WaitsFor, drawn_at, futures_in, gather_part, own_in, settled_as, tag_in, values_of}
 use Rattle.model_gather.specs.Gather.{Counted, asked_kind, count, was_asked}
 use Rattle.model_gather.specs.Wait.{is_over, revoked, sorted, wait_says}
 use Rattle.model_gather.specs.WaitFor.{cancels_in, wait_for_woken}
 use Rattle.model_gather.specs.Serving.{acted, gather_means, rung, told, woken}
-use Rattle.law_runs.specs.Allowed.{IsAmong, IsCallAllowed, IsSaidAllowed}
+use Rattle.law_runs.specs.Allowed.{IsCallAllowed, IsSaidAllowed}
 use Rattle.law_gather.proofs.Allowed.{gather_allowed}
 use Rattle.law_gather.proofs.Falling.{both_lists}
 use Rattle.law_gather.proofs.Lists.{each_on, flat_among, flat_at}
@@ -35,11 +35,11 @@ use Rattle.refine_added.specs.Seen.{AreOlder}
 use Rattle.aio_task.specs.Keeps.{NameMap}
 use Rattle.aio_task.specs.View.{View, parts}
 use Rattle.aio_timer.specs.declared.live.TimerId.{TimerId}
-use Rattle.aio_extra.specs.Called.{CallsAs, IsAskedOf, IsServed, MayAsk, MayServe, SaysAs}
+use Rattle.aio_extra.specs.Called.{CallsAs, IsServed, MayAsk, MayServe, SaysAs}
 use Rattle.aio_extra.specs.declared.asked.Asked.{Asked}
 use Rattle.aio_gather.specs.Added.{gather_added}
 use Rattle.aio_gather.specs.Kept as code
-use Rattle.aio_gather.specs.Kept.{AreFree, HasTimer, drawn_as, kept_of}
+use Rattle.aio_gather.specs.Kept.{AreFree, drawn_as, kept_of}
 use Rattle.aio_gather.specs.Requested.{NamesAs}
 use Rattle.aio_gather.specs.Seen.{CallsSeen, IsMadeBy, SaysSeen}
 use Rattle.aio_gather.specs.declared.drawn.Drawn.{Drawn}
@@ -122,7 +122,8 @@ module _ (running : Option ℕ) (t : NameMap) (s : State Gathered) (x : Gather) 
       told_by o =
           record {
             state = drawn_at place (Waits (record it { left = it.left - 1 })) s.extra;
-            steps = settled_as (if option_map_or (λ outcome. is_over outcome (record it { left = it.left - 1 })) o false then Some plain.resolved else None) it.on;
+            steps = settled_as (if option_map_or (λ outcome. is_over outcome (record it { left = it.left - 1 })) o false
+                then Some plain.resolved else None) it.on;
           }
   told_same (Some (Shields on)) place member e here = ap (λ o. record { state = s.extra; steps = settled_as o on }) (ends_same member here)
   told_same (Some _) place member e here = refl
@@ -304,7 +305,8 @@ module _ (running : Option ℕ) (t : NameMap) (s : State Gathered) (x : Gather) 
   wakes_so key place input y w asked seen may =
       let said = woken (slice_get s.extra.drawn place) place input p s.extra in
       let is = subst (SaysSeen h.stands.tags x y v w asked)
-      (ap (λ kept. woken (slice_get kept.drawn place) place input (parts v) kept) h.stands.same ∙ woken_same (slice_get s.extra.drawn place) place input) seen in
+      (ap (λ kept. woken (slice_get kept.drawn place) place input (parts v) kept) h.stands.same
+      ∙ woken_same (slice_get s.extra.drawn place) place input) seen in
       let ends = woken_ends (slice_get s.extra.drawn place) place input refl in
       says_so running t s x v h h.stands.tags (λ id has. refl) (Some key) y w asked said is may ends.waits
       (plainly running t s x v h h.stands.tags (λ id has. refl) (Some key) y w said.call is.call may.call ends.older)

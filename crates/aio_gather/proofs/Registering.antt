@@ -1,5 +1,6 @@
 -- One handle more is registered.
-use Rattle.std.proofs.Common.{◌≡◌, ℕ, suc, ◌+◌, ◌<◌, List, [], ◌∷◌, ◌++◌, Option, Some, None, length, map, take, get_or, slice_get, refl, sym, ap, subst, ◌∙◌, arith, length-append, length-take}
+use Rattle.std.proofs.Common.{◌≡◌, ℕ, suc, ◌+◌, ◌<◌, List, [], ◌∷◌, ◌++◌, Option, Some, None, length, map, take, get_or, slice_get, refl, sym, ap, subst, ◌∙◌}
+use Rattle.std.proofs.Common.{arith, length-append, length-take}
 use Rattle.std.proofs.lemmas.List.{length-map, take_more}
 use Rattle.model_value.specs.Action.{Action}
 use Rattle.model_value.specs.Value.{Outcome}
@@ -13,7 +14,7 @@ use Rattle.law_cancel.proofs.Lookups.{get-set_kept}
 use Rattle.aio_future.specs.Settled.{registered, registered_at, registered_until, soon_if_done}
 use Rattle.aio_task.specs.Keeps.{Known}
 use Rattle.aio_task.specs.View.{View}
-use Rattle.refine_added.specs.Seen.{Sees, SeesAll}
+use Rattle.refine_added.specs.Seen.{SeesAll}
 
 pub seen_then : (known : ℕ → Known) (xs ys : List ExtraStep) (v m w : View) → SeesAll known xs v m → SeesAll known ys m w → SeesAll known (xs ++ ys) v w
 seen_then known [] ys v m w a b = subst (λ z. SeesAll known ys z w) a b
@@ -35,7 +36,8 @@ pub registered_more : (known : ℕ → Known) (part place : ℕ) (xs : List ℕ)
     }
     → SeesAll known (registered_from part place (take (k + 1) xs)) v w
 registered_more known part place xs k key v m w h is seen e =
-    subst (λ steps. SeesAll known steps v w) (sym (ap (registered_from part place) (take_more xs k 0 h) ∙ registered_last part place (take k xs) (get_or xs k 0)))
+    subst (λ steps. SeesAll known steps v w)
+    (sym (ap (registered_from part place) (take_more xs k 0 h) ∙ registered_last part place (take k xs) (get_or xs k 0)))
     (seen_then known (registered_from part place (take k xs)) _ v m w seen
     (subst (λ n. SeesAll known (Registers (get_or xs k 0) n ∷ []) m w) (is ∙ ap (λ n. key_at part (place + n)) (sym taken)) (w, e, refl)))
   where

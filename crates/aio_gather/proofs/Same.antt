@@ -1,9 +1,9 @@
 -- What a request comes to is the same where futures tell the same.
-use Rattle.std.proofs.Common.{◌≡◌, ℕ, ℤ, suc, ◌+◌, ◌-◌, Bool, true, false, not, cond, List, [], ◌∷◌, ◌++◌, Option, Some, None, length, map, refl, sym, ap, ◌∙◌}
+use Rattle.std.proofs.Common.{◌≡◌, ℕ, ℤ, suc, ◌+◌, ◌-◌, Bool, false, not, cond, List, [], ◌∷◌, ◌++◌, Option, Some, None, length, map, refl, ap, ◌∙◌}
 use Rattle.std.specs.Prelude.{filter, if◌then◌else◌, ◌&&◌, ◌==◌}
 use Rattle.std.specs.List.{AllByRecursion as Each}
 use Rattle.std.specs.Option.{option_and_then, option_map_or}
-use Rattle.model_value.specs.Value.{Nothing, Outcome, Value}
+use Rattle.model_value.specs.Value.{Nothing, Outcome}
 use Rattle.model_value.specs.declared.outcome.Outcome.TheVariants.{Cancelled}
 use Rattle.model_loop.specs.Futures.{future_outcome, is_pending, next_future}
 use Rattle.model_loop.specs.Parts.{Parts}
@@ -11,7 +11,8 @@ use Rattle.model_loop.specs.Tasks.{cancelling}
 use Rattle.model_machine.specs.Extra.{CallsLater, ExtraSaid, ExtraStep, MakesMany, MakesPlain, Raises, Waits as Awaits}
 use Rattle.model_machine.specs.Outcomes.{input_of}
 use Rattle.model_reach.specs.Part.{key_at, passes}
-use Rattle.model_gather.specs.Gathered.{Argument, Gathered, Gathering, Gathers, Shields, Tells, Timed, WaitMode, Waits, WaitsFor, at_once, distinct, distinct_arguments}
+use Rattle.model_gather.specs.Gathered.{Argument, Gathered, Gathering, Gathers, Shields, Tells, Timed, WaitMode, Waits, WaitsFor, at_once, distinct}
+use Rattle.model_gather.specs.Gathered.{distinct_arguments}
 use Rattle.model_gather.specs.Gathered.{drawn_after, draws, futures_of, gather_part, next_key, registered_from, settled_as}
 use Rattle.model_gather.specs.Gather.{Counted, count, count_all, decided, first_of, gather, gather_all, is_value, item_of, items_of, result_of}
 use Rattle.model_gather.specs.Shield.{shield, shield_open}

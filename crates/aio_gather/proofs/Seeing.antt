@@ -1,11 +1,12 @@
 -- What requests come to, by the view of the loop's parts.
-use Rattle.std.proofs.Common.{◌≡◌, ◌⊎◌, inl, inr, ℕ, ℤ, suc, ◌+◌, Bool, true, false, List, [], ◌∷◌, ◌++◌, Option, Some, None, length, map, slice_get, refl, sym, ap, subst, ◌∙◌, arith}
-use Rattle.std.proofs.Common.{append_assoc, append-nil, length-append}
+use Rattle.std.proofs.Common.{◌≡◌, ◌⊎◌, inl, inr, ℕ, ℤ, suc, ◌+◌, Bool, true, false, List, [], ◌∷◌, ◌++◌, Option, Some, None, length, map, refl, sym, ap}
+use Rattle.std.proofs.Common.{subst, ◌∙◌, arith}
+use Rattle.std.proofs.Common.{append_assoc, append-nil}
 use Rattle.std.proofs.lemmas.List.{length-map, map-append}
-use Rattle.std.specs.Prelude.{filter, not, if◌then◌else◌, is_some}
+use Rattle.std.specs.Prelude.{filter, if◌then◌else◌, is_some}
 use Rattle.std.specs.Option.{option_map}
 use Rattle.model_value.specs.Value.{Outcome}
-use Rattle.model_loop.specs.Futures.{is_pending, next_future}
+use Rattle.model_loop.specs.Futures.{next_future}
 use Rattle.model_loop.specs.Parts.{Many, Parts, Plain}
 use Rattle.model_loop.specs.Tasks.{cancelling}
 use Rattle.model_machine.specs.Extra as extra
@@ -35,7 +36,7 @@ use Rattle.aio_gather.specs.declared.drawn.TimedWait.{TimedWait}
 use Rattle.aio_gather.specs.declared.drawn.Waiting.{Waiting}
 use Rattle.aio_gather.specs.declared.gather.Gather.{Gather}
 use Rattle.aio_gather.proofs.Registering.{seen_then}
-use Rattle.aio_gather.proofs.Timers.{has_append, made_registered, registered_made, tells_none}
+use Rattle.aio_gather.proofs.Timers.{has_append, registered_made, tells_none}
 
 -- ---- entries of a request and of its handles are appended
 abbrev tells_of : (place : ℕ) → List ℕ → List Drawn
@@ -257,14 +258,21 @@ module _ (tags : ℕ → ℕ) (next : ℕ) (x y : Gather) (v m n w : View) (it :
   wait_entry_is : drawn_as tags (Waits it) ≡ plain.Waits wait_entry
   wait_entry_is =
       ap (λ id. plain.Waits (record { on = id; arguments = arguments_of; mode = mode_as it.mode; left = it.left; timer = tag_as tags it.timer })) on
-      ∙ ap (λ k. plain.Waits (record { on = next_future (parts v); arguments = arguments_of; mode = mode_as it.mode; left = k; timer = tag_as tags it.timer })) left
+      ∙ ap (λ k. plain.Waits (record {
+        on = next_future (parts v);
+        arguments = arguments_of;
+        mode = mode_as it.mode;
+        left = k;
+        timer = tag_as tags it.timer;
+      })) left
       ∙ ap (λ t. plain.Waits (record { on = next_future (parts v); arguments = arguments_of; mode = mode_as it.mode; left = length waited; timer = t }))
       (ap (tag_as tags) timer ∙ tag_so tags v.schedule.next v.time (tag_behind arguments_of (timed next v)) delay tag)
 
   abbrev steps_of : List ℕ → List ExtraStep
   steps_of ids = registered_from gather_part first_place ids ++ rings_after delay (key_at gather_part (first_place + length ids)) (timed next v)
 
-  pub waited_so : (waited ≡ futures_of arguments_of) → SaysSeen tags x y v w (Wait it.on key) (wait_all (mode_as it.mode) delay arguments_of (timed next v) (kept_of tags x))
+  pub waited_so : (waited ≡ futures_of arguments_of)
+      → SaysSeen tags x y v w (Wait it.on key) (wait_all (mode_as it.mode) delay arguments_of (timed next v) (kept_of tags x))
   waited_so e = subst (λ ids. SaysSeen tags x y v w (Wait it.on key) (record {
     call = record {
       state = drawn_after (plain.Waits (record {
@@ -305,7 +313,8 @@ module _ (tags : ℕ → ℕ) (next : ℕ) (x y : Gather) (v m n w : View) (it :
 
 -- ---- wait_for
 timed_kept : (tags : ℕ → ℕ) (x y : Gather) (front : Drawn) (delay : Option ℤ) (place : ℕ) → place ≡ length x.drawn.items
-    → y.drawn.items ≡ (x.drawn.items ++ front ∷ []) ++ rings_of place (is_some delay) → y.drawn.items ≡ with_entries x.drawn.items front place [] (is_some delay)
+    → y.drawn.items ≡ (x.drawn.items ++ front ∷ []) ++ rings_of place (is_some delay)
+    → y.drawn.items ≡ with_entries x.drawn.items front place [] (is_some delay)
 timed_kept tags x y front delay place at e =
     e ∙ ap (λ those. those ++ rings_of place (is_some delay)) (sym (append-nil (x.drawn.items ++ front ∷ [])))
 

@@ -1,7 +1,6 @@
 -- The timers of entries, as entries are appended or replaced.
-use Rattle.std.proofs.Common.{◌≡◌, ◌⊎◌, inl, inr, ℕ, zero, suc, List, [], ◌∷◌, ◌++◌, Option, Some, None, map, slice_get, slice_set, refl, sym, ap, subst, ◌∙◌}
-use Rattle.std.specs.List.{AllByRecursion as Each}
-use Rattle.model_machine.specs.Extra.{ExtraStep, CallsLater}
+use Rattle.std.proofs.Common.{◌≡◌, ◌⊎◌, inl, inr, ℕ, zero, suc, List, [], ◌∷◌, ◌++◌, Option, Some, None, map, slice_get, slice_set, refl, ap, ◌∙◌}
+use Rattle.model_machine.specs.Extra.{ExtraStep}
 use Rattle.model_gather.specs.Gathered as plain
 use Rattle.model_value.specs.Value.{Outcome}
 use Rattle.model_gather.specs.Gathered.{registered_from, settled_as}
@@ -9,7 +8,7 @@ use Rattle.aio_timer.specs.declared.live.TimerId.{TimerId}
 use Rattle.aio_gather.specs.Kept.{HasTimer, drawn_as, tag_as, timer_in, timed_as, waiting_as}
 use Rattle.aio_gather.specs.Seen.{IsMadeBy}
 use Rattle.aio_gather.specs.declared.drawn.Drawn.{Drawn}
-use Rattle.aio_gather.specs.declared.drawn.Drawn.TheVariants.{Answered, Gathers, Waits, Shields, WaitsFor, Tells, Rings}
+use Rattle.aio_gather.specs.declared.drawn.Drawn.TheVariants.{Answered, Gathers, Waits, WaitsFor, Tells}
 
 pub has_append : (xs ys : List Drawn) (id : TimerId) → HasTimer (xs ++ ys) id → HasTimer xs id ⊎ HasTimer ys id
 has_append [] ys id h = inr h

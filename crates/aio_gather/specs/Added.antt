@@ -1,5 +1,5 @@
 -- `gather`, `wait`, `shield` and `wait_for`, in code and in the machine.
-use Rattle.std.specs.Prelude.{◌≡◌, ℕ, ◌<◌, false}
+use Rattle.std.specs.Prelude.{◌≡◌, ℕ, false}
 use Rattle.std.proofs.Common.{◌∙◌, arith}
 use Rattle.model_loop.specs.Parts.{Parts}
 use Rattle.law_runs.specs.Allowed.{IsAmong}

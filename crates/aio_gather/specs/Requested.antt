@@ -1,5 +1,5 @@
 -- What values name among the futures of scripts and of tasks.
-use Rattle.std.specs.Prelude.{◌≡◌, ℕ, Bool, not, List, Option, Some, None, map, if◌then◌else◌}
+use Rattle.std.specs.Prelude.{◌≡◌, ℕ, Bool, not, List, map, if◌then◌else◌}
 use Rattle.std.specs.Option.{option_map}
 use Rattle.model_loop.specs.Futures.{is_pending}
 use Rattle.model_loop.specs.Parts.{Parts}

@@ -1,5 +1,5 @@
 -- What the calls of a gather come to, by the view of the loop's parts.
-use Rattle.std.specs.Prelude.{◌≡◌, ◌⊎◌, ℕ, ◌+◌, Bool, not, List, [], ◌∷◌, Option, Some, None, filter, length}
+use Rattle.std.specs.Prelude.{◌≡◌, ◌⊎◌, ℕ, ◌+◌, not, List, [], ◌∷◌, Option, Some, None, filter, length}
 use Rattle.model_value.specs.Value.{Outcome}
 use Rattle.model_loop.specs.Futures.{is_pending}
 use Rattle.model_loop.specs.Parts.{Parts}
@@ -17,7 +17,7 @@ use Rattle.aio_task.specs.Keeps.{ByTimer, Known}
 use Rattle.aio_task.specs.View.{View, parts}
 use Rattle.aio_timer.specs.declared.live.TimerId.{TimerId}
 use Rattle.aio_extra.specs.declared.asked.Asked.{Asked}
-use Rattle.aio_extra.specs.declared.asked.Asked.TheVariants.{Answer, Raise, Wait, Outside}
+use Rattle.aio_extra.specs.declared.asked.Asked.TheVariants.{Answer, Raise, Wait}
 use Rattle.refine_added.specs.Seen.{SeesAll}
 use Rattle.aio_gather.specs.declared.gather.Gather.{Gather}
 use Rattle.aio_gather.specs.Kept.{HasTimer, kept_of}

@@ -19,7 +19,8 @@ use std::alloc::Global;
 
 // Whether a wait is over, of which so many arguments weren't counted before, as this one is.
 fn is_over(mode: WaitMode, left: u64, member: FutureId, parts: &Parts) -> bool
-    ensures { result ≡ is_over_now (mode_as mode) left (future_outcome (parts_of parts.now) member) }
+    ensures { result ≡ is_over_now (mode_as mode) left
+        (future_outcome (parts_of parts.now) member) }
 {
     match parts.outcome(member) {
         Some(outcome) => left.saturating_sub(1) == 0 || is_over_by(mode, outcome),

@@ -26,14 +26,15 @@ impl Gather {
         as_items: bool,
         awaited: Vec<FutureId>,
         members: Vec<FutureId>,
-        open: &[FutureId],
+        pending: &[FutureId],
         done: &[FutureId],
         parts: &mut Parts,
     ) -> Result<Asked, Memory>
         requires idle { parts.old.called ≡ None }
-        requires open { open.now ≡ filter (is_wanted true (parts_of parts.old)) members.items }
+        requires pending { pending.now
+            ≡ filter (is_wanted true (parts_of parts.old)) members.items }
         requires done { done.now ≡ filter (is_wanted false (parts_of parts.old)) members.items }
-        requires room { key_at gather_part (length self.old.drawn.items + length open.now)
+        requires room { key_at gather_part (length self.old.drawn.items + length pending.now)
             < no_key }
         ensures { IfOk result (λ asked. (tags : ℕ → ℕ)
             → SaysSeen tags self.old self.new parts.old parts.new asked
@@ -51,14 +52,14 @@ impl Gather {
             parts,
         )?;
         let outer = parts.new_many(alloc, members)?;
-        register_all(alloc, place + 1, open, parts)?;
+        register_all(alloc, place + 1, pending, parts)?;
         self.drawn.push(Drawn::Gathers(Gathering {
             outer,
             awaited,
             as_items,
             left: counted.left,
         }))?;
-        self.tell_all(place, open)?;
+        self.tell_all(place, pending)?;
         settle(outer, counted.outcome, parts);
         Ok(Asked::Wait { on: outer, key })
     }
@@ -70,23 +71,24 @@ impl Gather {
         as_items: bool,
         awaited: Vec<FutureId>,
         members: Vec<FutureId>,
-        open: &[FutureId],
+        pending: &[FutureId],
         done: &[FutureId],
         parts: &mut Parts,
     ) -> Result<Asked, Memory>
         requires idle { parts.old.called ≡ None }
-        requires open { open.now ≡ filter (is_wanted true (parts_of parts.old)) members.items }
+        requires pending { pending.now
+            ≡ filter (is_wanted true (parts_of parts.old)) members.items }
         requires done { done.now ≡ filter (is_wanted false (parts_of parts.old)) members.items }
         ensures { IfOk result (λ asked. (tags : ℕ → ℕ)
             → SaysSeen tags self.old self.new parts.old parts.new asked
-            (draws (1 + length open.now)
+            (draws (1 + length pending.now)
             (plain.gather_all as_items awaited.items members.items (parts_of parts.old)
             (kept_of tags self.old)) (kept_of tags self.old))) }
     {
-        if !self.can_draw(count_of(open), false) {
+        if !self.can_draw(count_of(pending), false) {
             return Ok(Asked::Raise(out_of_range(alloc)?));
         }
-        self.gather_all(alloc, as_items, awaited, members, open, done, parts)
+        self.gather_all(alloc, as_items, awaited, members, pending, done, parts)
     }
 
     // Of one future at least.
@@ -106,14 +108,14 @@ impl Gather {
             (parts_of parts.old) (kept_of tags self.old)) (kept_of tags self.old))) }
     {
         let members = distinct(alloc, awaited.as_slice())?;
-        let open = among(alloc, members.as_slice(), true, parts)?;
+        let pending = among(alloc, members.as_slice(), true, parts)?;
         let done = among(alloc, members.as_slice(), false, parts)?;
         self.gather_drawn(
             alloc,
             as_items,
             awaited,
             members,
-            open.as_slice(),
+            pending.as_slice(),
             done.as_slice(),
             parts,
         )

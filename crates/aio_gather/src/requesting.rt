@@ -138,7 +138,8 @@ fn all_arguments(
     futures: &[FutureId],
     parts: &Parts,
 ) -> Result<Option<Vec<Argument>>, Memory>
-    ensures { IfOk result (λ those. (s : State Gathered) → NamesAs futures.now (parts_of parts.now) s
+    ensures { IfOk result (λ those. (s : State Gathered)
+        → NamesAs futures.now (parts_of parts.now) s
         → option_map (λ those. map argument_as those.items) those
         ≡ option_map (kept.paired items.now) (kept.as_all_awaited s items.now)) }
 {

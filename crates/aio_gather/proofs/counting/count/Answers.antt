@@ -1,4 +1,4 @@
-use Rattle.std.proofs.Common.{◌≡◌, ◌-◌, ℕ, Option, IfOk, subst}
+use Rattle.std.proofs.Common.{◌≡◌, ◌-◌, ℕ, IfOk, subst}
 use Rattle.std.specs.Option.{option_and_then}
 use Rattle.model_value.specs.Value.{Outcome}
 use Rattle.aio_task.specs.View.{parts as parts_of}

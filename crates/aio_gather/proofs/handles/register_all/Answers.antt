@@ -1,4 +1,4 @@
-use Rattle.std.proofs.Common.{◌≡◌, ◌+◌, ℕ, List, [], ◌∷◌, None, get_or, slice_get, take, sym, ap, ◌∙◌, arith}
+use Rattle.std.proofs.Common.{◌≡◌, get_or, slice_get, ap, ◌∙◌, arith}
 use Rattle.model_value.specs.declared.action.Action.TheVariants as action
 use Rattle.model_loop.specs.Owning.{owner_at}
 use Rattle.model_reach.specs.Part.{key_at}

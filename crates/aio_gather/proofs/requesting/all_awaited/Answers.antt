@@ -1,4 +1,4 @@
-use Rattle.std.proofs.Common.{◌≡◌, Some, sym, ap, ◌∙◌}
+use Rattle.std.proofs.Common.{Some, sym, ap, ◌∙◌}
 use Rattle.model_machine.specs.Arguments.{as_awaited}
 use Rattle.aio_gather.proofs.Growing.{awaited_more, awaited_none}
 use Rattle.aio_gather.proofs.requesting.all_awaited.Goals as goal

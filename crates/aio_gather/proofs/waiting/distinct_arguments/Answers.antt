@@ -1,4 +1,4 @@
-use Rattle.std.proofs.Common.{◌≡◌, ◌==◌, ◌++◌, [], ◌∷◌, List, get_or, map, not, take, sym, ap, ◌∙◌, append-nil}
+use Rattle.std.proofs.Common.{◌==◌, ◌++◌, [], ◌∷◌, get_or, map, not, take, sym, ap, ◌∙◌, append-nil}
 use Rattle.std.specs.Prelude.{if◌then◌else◌}
 use Rattle.std.specs.List.{list_any}
 use Rattle.std.proofs.lemmas.List.{map-append}
@@ -27,7 +27,8 @@ loop-it-preserved c =
             ap (λ v. map argument_as v.items) w.those-is ∙ ap (map argument_as) w.in_ok-push.ensures.items
             ∙ map-append argument_as c.loop-it.those.items (record { value = w.in_ok-value.value; future = d.future } ∷ [])
             ∙ ap (λ ds. ds ++ argument_as (record { value = w.in_ok-value.value; future = d.future }) ∷ []) c.loop-it.invariant.those
-            ∙ ap (λ (v : code.Argument). those ++ argument_as v ∷ []) (ap (λ v. record { value = v; future = d.future }) w.in_ok-value.ensures.cases ∙ c.it-item.is)
+            ∙ ap (λ (v : code.Argument). those ++ argument_as v ∷ [])
+            (ap (λ v. record { value = v; future = d.future }) w.in_ok-value.ensures.cases ∙ c.it-item.is)
             ∙ ap (λ b. those ++ (if b then [] else argument_as x ∷ [])) (sym (ap not w.if-is_new.true) ∙ at) ∙ more
         | else-is_new w ↦
             ap (λ v. map argument_as v.items) w.those-is ∙ c.loop-it.invariant.those ∙ sym (append-nil those)

@@ -1,4 +1,4 @@
-use Rattle.std.proofs.Common.{◌≡◌, ◌++◌, [], ◌∷◌, List, get_or, map, take, sym, ap, ◌∙◌, append-nil}
+use Rattle.std.proofs.Common.{◌++◌, [], ◌∷◌, get_or, map, take, sym, ap, ◌∙◌, append-nil}
 use Rattle.std.specs.Prelude.{filter, if◌then◌else◌}
 use Rattle.model_gather.specs.Gathered.{Argument, values_of}
 use Rattle.aio_task.specs.View.{parts as parts_of}

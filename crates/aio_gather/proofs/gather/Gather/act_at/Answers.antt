@@ -1,4 +1,4 @@
-use Rattle.std.proofs.Common.{◌≡◌, Some, length, refl, sym, ap, slice_get, subst, ◌∙◌}
+use Rattle.std.proofs.Common.{Some, length, refl, sym, ap, slice_get, subst, ◌∙◌}
 use Rattle.std.proofs.lemmas.Option.{slice_get_read}
 use Rattle.std.proofs.lemmas.Result.{on_ok_weaker}
 use Rattle.model_gather.specs.Serving.{acted}

@@ -1,4 +1,4 @@
-use Rattle.std.proofs.Common.{true, sym, ap, ◌∙◌}
+use Rattle.std.proofs.Common.{true, ap, ◌∙◌}
 use Rattle.std.specs.Prelude.{filter}
 use Rattle.std.proofs.lemmas.Result.{IfOk-weaker}
 use Rattle.model_gather.specs.Gathered.{distinct}
@@ -13,5 +13,5 @@ returns c =
     IfOk-weaker c.gather_drawn.result _ _
     (λ asked seen. λ tags. gather_members tags c.args.self.now _ c.args.parts.now _ asked c.args.as_items c.args.awaited.items c.in_ok-members.members.items
     c.as_slice-4.result.now members
-    (c.as_slice-4.ensures.value ∙ c.in_ok-open.ensures
+    (c.as_slice-4.ensures.value ∙ c.in_ok-pending.ensures
     ∙ ap (filter (is_wanted true (parts c.args.parts.now))) (c.as_slice-2.ensures.value ∙ members)) (seen tags)) c.gather_drawn.ensures

@@ -1,4 +1,4 @@
-use Rattle.std.proofs.Common.{◌≡◌, ◌++◌, [], ◌∷◌, map, ap, ◌∙◌}
+use Rattle.std.proofs.Common.{◌++◌, [], ◌∷◌, map, ap, ◌∙◌}
 use Rattle.aio_gather.specs.declared.drawn.Drawn.TheVariants as drawn
 use Rattle.aio_gather.proofs.Seeing.{shielded_seen}
 use Rattle.aio_gather.proofs.gather.Gather.shield_open.Goals as goal

@@ -16,10 +16,12 @@ pub returns-in-Expired : goal.returns-in-Expired
 returns-in-Expired c = λ tags.
     let a = c.args in
     subst (SaysSeen tags a.self.now c.finished-in-Expired.new.self a.parts.now c.finished-in-Expired.new.parts c.finished-in-Expired.result)
-    (sym (not_expiring tags a.place a.input a.it state.Expired (parts a.parts.now) (kept_of tags a.self.now) c.in-Expired.is refl)) (c.finished-in-Expired.ensures tags)
+    (sym (not_expiring tags a.place a.input a.it state.Expired (parts a.parts.now) (kept_of tags a.self.now) c.in-Expired.is refl))
+    (c.finished-in-Expired.ensures tags)
 
 pub returns-in-Finished : goal.returns-in-Finished
 returns-in-Finished c = λ tags.
     let a = c.args in
     subst (SaysSeen tags a.self.now c.finished-in-Finished.new.self a.parts.now c.finished-in-Finished.new.parts c.finished-in-Finished.result)
-    (sym (not_expiring tags a.place a.input a.it state.Finished (parts a.parts.now) (kept_of tags a.self.now) c.in-Finished.is refl)) (c.finished-in-Finished.ensures tags)
+    (sym (not_expiring tags a.place a.input a.it state.Finished (parts a.parts.now) (kept_of tags a.self.now) c.in-Finished.is refl))
+    (c.finished-in-Finished.ensures tags)

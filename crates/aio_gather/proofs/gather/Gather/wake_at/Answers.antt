@@ -1,4 +1,4 @@
-use Rattle.std.proofs.Common.{◌≡◌, Some, length, map, refl, sym, ap, slice_get, subst, ◌∙◌}
+use Rattle.std.proofs.Common.{Some, length, map, refl, sym, ap, slice_get, subst, ◌∙◌}
 use Rattle.std.proofs.lemmas.Option.{slice_get_read}
 use Rattle.std.proofs.lemmas.Result.{IfOk-weaker}
 use Rattle.model_gather.specs.Serving.{woken}
@@ -57,7 +57,8 @@ returns-in-Some-Gathers c = λ tags.
     ∙ slice_get_read c.deref.result.now (length c.deref.result.now) a.place c.in-Some-Gathers.field-0.now refl c.in-Some-Gathers.ensures.lookup.3.0
     c.in-Some-Gathers.ensures.lookup.1
     ∙ ap Some c.in-Some-Gathers.field-0-is in
-    passes_seen tags a.self.now a.parts.now a.place _ a.input c.passed-in-Some-Gathers.result (there_as tags a.self.now a.place (drawn.Gathers c.in-Some-Gathers.field-0-0) there) c.passed-in-Some-Gathers.ensures refl
+    passes_seen tags a.self.now a.parts.now a.place _ a.input c.passed-in-Some-Gathers.result
+    (there_as tags a.self.now a.place (drawn.Gathers c.in-Some-Gathers.field-0-0) there) c.passed-in-Some-Gathers.ensures refl
 
 pub returns-in-Some-Shields : goal.returns-in-Some-Shields
 returns-in-Some-Shields c = λ tags.
@@ -67,7 +68,8 @@ returns-in-Some-Shields c = λ tags.
     ∙ slice_get_read c.deref.result.now (length c.deref.result.now) a.place c.in-Some-Shields.field-0.now refl c.in-Some-Shields.ensures.lookup.3.0
     c.in-Some-Shields.ensures.lookup.1
     ∙ ap Some c.in-Some-Shields.field-0-is in
-    passes_seen tags a.self.now a.parts.now a.place _ a.input c.passed-in-Some-Shields.result (there_as tags a.self.now a.place (drawn.Shields c.in-Some-Shields.field-0-0) there) c.passed-in-Some-Shields.ensures refl
+    passes_seen tags a.self.now a.parts.now a.place _ a.input c.passed-in-Some-Shields.result
+    (there_as tags a.self.now a.place (drawn.Shields c.in-Some-Shields.field-0-0) there) c.passed-in-Some-Shields.ensures refl
 
 pub returns-in-Some-Tells : goal.returns-in-Some-Tells
 returns-in-Some-Tells c = λ tags.
@@ -77,7 +79,8 @@ returns-in-Some-Tells c = λ tags.
     ∙ slice_get_read c.deref.result.now (length c.deref.result.now) a.place c.in-Some-Tells.field-0.now refl c.in-Some-Tells.ensures.lookup.3.0
     c.in-Some-Tells.ensures.lookup.1
     ∙ ap Some c.in-Some-Tells.field-0-is in
-    passes_seen tags a.self.now a.parts.now a.place _ a.input c.passed-in-Some-Tells.result (there_as tags a.self.now a.place (drawn.Tells c.in-Some-Tells.field-0-0 c.in-Some-Tells.field-0-1) there) c.passed-in-Some-Tells.ensures refl
+    passes_seen tags a.self.now a.parts.now a.place _ a.input c.passed-in-Some-Tells.result
+    (there_as tags a.self.now a.place (drawn.Tells c.in-Some-Tells.field-0-0 c.in-Some-Tells.field-0-1) there) c.passed-in-Some-Tells.ensures refl
 
 pub returns-in-Some-Rings : goal.returns-in-Some-Rings
 returns-in-Some-Rings c = λ tags.
@@ -87,7 +90,8 @@ returns-in-Some-Rings c = λ tags.
     ∙ slice_get_read c.deref.result.now (length c.deref.result.now) a.place c.in-Some-Rings.field-0.now refl c.in-Some-Rings.ensures.lookup.3.0
     c.in-Some-Rings.ensures.lookup.1
     ∙ ap Some c.in-Some-Rings.field-0-is in
-    passes_seen tags a.self.now a.parts.now a.place _ a.input c.passed-in-Some-Rings.result (there_as tags a.self.now a.place (drawn.Rings c.in-Some-Rings.field-0-0) there) c.passed-in-Some-Rings.ensures refl
+    passes_seen tags a.self.now a.parts.now a.place _ a.input c.passed-in-Some-Rings.result
+    (there_as tags a.self.now a.place (drawn.Rings c.in-Some-Rings.field-0-0) there) c.passed-in-Some-Rings.ensures refl
 
 pub returns-in-None : goal.returns-in-None
 returns-in-None c = λ tags.
