@@ -18,7 +18,6 @@ use Rattle.model_machine.specs.Outcomes.{input_of}
 use Rattle.model_machine.specs.Sound.{IsAwaitable}
 use Rattle.model_machine.specs.State.{State}
 use Rattle.model_reach.specs.Part.{can_draw, key_at, passes, refuses}
-use Rattle.model_gather.specs.Gathered as plain
 use Rattle.model_gather.specs.Gathered.{Answered, Argument, Drawn, Gathered, Gathers, Shields, Tells, WaitMode, Waits, at_once, distinct, distinct_arguments}
 use Rattle.model_gather.specs.Gathered.{drawn_after, draws}
 use Rattle.model_gather.specs.Gathered.{futures_of, gather_keeps, gather_part, own_in, registered_from, settled_as}

@@ -27,7 +27,6 @@ use Rattle.aio_gather.specs.Counted.{gathering}
 use Rattle.aio_gather.specs.Kept.{HasTimer, argument_as, drawn_as, gathering_as, kept_of, mode_as, state_as, tag_as, timer_in}
 use Rattle.aio_gather.specs.Requested.{is_wanted}
 use Rattle.aio_gather.specs.Seen.{IsMadeBy, SaysSeen, tag_behind, timed}
-use Rattle.aio_gather.specs.declared.drawn.Argument.{Argument}
 use Rattle.aio_gather.specs.declared.drawn.Drawn.{Drawn}
 use Rattle.aio_gather.specs.declared.drawn.Drawn.TheVariants.{Gathers, Waits, Shields, WaitsFor, Tells, Rings}
 use Rattle.aio_gather.specs.declared.drawn.Gathering.{Gathering}

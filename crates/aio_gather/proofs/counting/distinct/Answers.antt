@@ -1,4 +1,4 @@
-use Rattle.std.proofs.Common.{◌++◌, true, false, not, [], ◌∷◌, get_or, take, sym, ap, ◌∙◌, append-nil}
+use Rattle.std.proofs.Common.{◌++◌, not, [], ◌∷◌, get_or, take, sym, ap, ◌∙◌, append-nil}
 use Rattle.std.specs.Prelude.{if◌then◌else◌}
 use Rattle.model_gather.specs.Gathered.{distinct as distinct_of}
 use Rattle.aio_gather.proofs.Growing.{distinct_more, is_seen, seen_then_kept}

@@ -2,7 +2,6 @@ use Rattle.std.proofs.Common.{◌==◌, ◌++◌, [], ◌∷◌, get_or, map, no
 use Rattle.std.specs.Prelude.{if◌then◌else◌}
 use Rattle.std.specs.List.{list_any}
 use Rattle.std.proofs.lemmas.List.{map-append}
-use Rattle.model_gather.specs.Gathered as plain
 use Rattle.model_gather.specs.Gathered.{distinct_arguments, futures_of}
 use Rattle.aio_gather.specs.Kept.{argument_as}
 use Rattle.aio_gather.specs.declared.drawn.Argument as code
