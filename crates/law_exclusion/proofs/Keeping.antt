@@ -302,7 +302,7 @@ module _ {A C D : Type 0} (gather : Extra A) (exec : Extra C) (dgram : Extra D) 
           let is_on : on ≡ on_of it = same_Some on (on_of it) (sym waits ∙ inv.stands task key it st here e) in
           heard_of input outcome (future_outcome t.loop.parts (on_of it)) is
           (ended_now it e outcome (ap (future_outcome s.loop.parts) (sym is_on) ∙ ended_)) fine
-      heard_it here it e fine (waits_for_none none) = absurd (none-some (on_of it) (sym none ∙ inv.stands task key it st here e))
+      heard_it here it e fine (waits_for_none none bare) = absurd (none-some (on_of it) (sym none ∙ inv.stands task key it st here e))
 
       heard_so : part_of_key key ≡ OfSync → HeardAt gather exec dgram key input t
       heard_so here = record {

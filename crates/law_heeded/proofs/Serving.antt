@@ -1,10 +1,11 @@
 -- What goes on holds of what a request comes to, and of what a task makes of its input where it stands at one.
 use Rattle.std.proofs.Common.{◌≡◌, ◌⊎◌, inl, inr, ℕ, ◌<◌, zero, suc, ℤ, Bool, true, false, List, Option, Some, None, slice_get, refl, sym, ap, subst, ◌∙◌}
-use Rattle.std.proofs.Common.{arith, if◌then◌else◌}
+use Rattle.std.proofs.Common.{arith, cond, if◌then◌else◌}
+use Rattle.std.specs.Prelude.{◌==◌}
 use Rattle.std.specs.Option.{option_map_or}
-use Rattle.std.proofs.lemmas.Bool.{false≢true}
+use Rattle.std.proofs.lemmas.Bool.{eq-eqb, false≢true}
 use Rattle.model_value.specs.Action.{CycleKind}
-use Rattle.model_value.specs.declared.action.Action.TheVariants.{Wakeup}
+use Rattle.model_value.specs.declared.action.Action.TheVariants.{StepInCycle, Wakeup}
 use Rattle.model_value.specs.declared.request.Request.TheVariants as request
 use Rattle.model_value.specs.Input.{Input}
 use Rattle.model_value.specs.Request.{Request}
@@ -20,13 +21,15 @@ use Rattle.model_loop.specs.Ledger.{ByWait, request as requested}
 use Rattle.model_loop.specs.Parts.{Parts, Task}
 use Rattle.model_loop.specs.Suspend.{cancel_wait, suspend, wait_on}
 use Rattle.model_loop.specs.Tasks.{clear_must_cancel, must_cancel_of, next_task, set_waiter, waiter_of}
+use Rattle.model_loop.specs.Totals.{pending_where}
+use Rattle.model_loop.specs.Ways.{resumes}
 use Rattle.model_machine.specs.Arguments.{as_int, as_list}
 use Rattle.model_machine.specs.Extra as extra
 use Rattle.model_machine.specs.Extra.{Extra, ExtraAnswer, ExtraCall, called}
 use Rattle.model_machine.specs.Outcomes.{input_of}
 use Rattle.model_machine.specs.Replies.{RequestReply, Answers, Raises, Suspends, Halts, Wake, decides, ended, given, input_by, reply, serves, serves_as}
 use Rattle.model_machine.specs.Replies.{serves_until, waits, woken, woken_within}
-use Rattle.model_machine.specs.Sound.{StandsUnder}
+use Rattle.model_machine.specs.Sound.{IsStateSound, StandsUnder}
 use Rattle.model_machine.specs.State.{ResumePoint, Asked, Sleeping, Leaving, Serving, Connecting, Yielding, Reading, ReadingAll, State, stands}
 use Rattle.model_machine.specs.Step.{says_of}
 use Rattle.law_apart.proofs.Requests as apart_by
@@ -40,6 +43,7 @@ use Rattle.law_kept.proofs.Standing.{set_at}
 use Rattle.law_kept.specs.Walks.{is_extra_request}
 use Rattle.law_reach.specs.Reaches.{IsUnmet, left_by}
 use Rattle.law_replies.proofs.Counts.{get_there}
+use Rattle.law_steps.proofs.Settling.{soon-where}
 use Rattle.law_walk.proofs.Trees.{asked_comes}
 use Rattle.law_heeded.specs.Owned.{AreApart, KeepsToItsFutures, is_own}
 use Rattle.law_heeded.specs.Walks.{StoodAt, Walks, heard}
@@ -84,6 +88,15 @@ module _ (task on : ℕ) (p : Parts) (there : task < next_task p) where
       at true = asked (requested (ByWait task) on q).answer
       at false = waiting
 
+-- a wait that would close a cycle: a step that throws is pending
+refused_steps : (task on : ℕ) (p : Parts) (why : CycleKind) → cycle p task on ≡ Some why
+    → 0 < pending_where (resumes task) (suspend task on p).parts.pending
+refused_steps task on p why closes =
+    subst (λ (o : Option CycleKind). 0 < pending_where (resumes task) (suspend_unless o task on p).parts.pending) (sym closes)
+    (let a = soon-where (resumes task) (StepInCycle task why) p in
+    let b : ◌≡◌ {A = ℕ} (cond (task == task) 1 0) 1 = ap (λ t. cond t 1 0) (eq-eqb task task refl) in
+    omega (arith, a, b))
+
 -- ---- what holds in a step
 module _ {S : Type 0} {limit : ℕ} {added : Extra S} {Holds : State S → Type 0} {Called : (task : ℕ) → ExtraAnswer → State S → Type 0}
     {Woken : (task key : ℕ) → Input → State S → Type 0} (walks : Walks limit added Holds Called Woken) (owns : KeepsToItsFutures added) where
@@ -101,7 +114,7 @@ module _ {S : Type 0} {limit : ℕ} {added : Extra S} {Holds : State S → Type 
   abbrev pub LeavesBy : (task : ℕ) → RequestReply S → Type 0
   LeavesBy task (Answers value now) = Inside Holds task now
   LeavesBy task (Raises fault now) = Inside Holds task now
-  LeavesBy task (Suspends now) = Outside now
+  LeavesBy task (Suspends now) = IsStateSound added now → Outside now
   LeavesBy task (Halts how last) = IsCut how ⊎ Outside last
 
   same_task : (task other : ℕ) → Some task ≡ Some other → task ≡ other
@@ -123,7 +136,7 @@ module _ {S : Type 0} {limit : ℕ} {added : Extra S} {Holds : State S → Type 
   comes_in : (task : ℕ) (s : State S) (it : RequestReply S) → Inside Holds task s → Both added s (left_by it) → LeavesBy task it
   comes_in task s (Answers value now) in_ b = inside_on task s now in_ b
   comes_in task s (Raises fault now) in_ b = inside_on task s now in_ b
-  comes_in task s (Suspends now) in_ b = record { holds = walks.beside s now b.beside in_.holds; apart = b.apart }
+  comes_in task s (Suspends now) in_ b = λ sound. record { holds = walks.beside s now b.beside in_.holds; apart = b.apart }
   comes_in task s (Halts how last) in_ b = inr (record { holds = walks.beside s last b.beside in_.holds; apart = b.apart })
 
   module _ (task : ℕ) where
@@ -142,8 +155,8 @@ module _ {S : Type 0} {limit : ℕ} {added : Extra S} {Holds : State S → Type 
           (apart_by.waits_beside (is_own added s.extra) (next_future s.loop.parts) a.below task on s)
           (apart_by.stands_beside (is_own added s.extra) (next_future s.loop.parts) a.below (Serving key) task (waits task on s)) a.apart
 
-      stood_at : StoodAt added task on key s stood
-      stood_at = record {
+      stood_at : IsStateSound added stood → StoodAt added task on key s stood
+      stood_at sound = record {
         all = record {
           kept = refl;
           loop = kept_rows.suspend_row task on s.loop;
@@ -154,6 +167,7 @@ module _ {S : Type 0} {limit : ℕ} {added : Extra S} {Holds : State S → Type 
         waits = λ other key_ st differs. (row_still (Some task) (rows.suspend_row task on s.loop)).waiters other (λ e. differs (same_task task other e));
         nowhere = nowhere;
         begins = λ none. begins_to_wait task on s.loop.parts there none;
+        refused = λ why closes. sound.loop.parts.ready.free task (refused_steps task on s.loop.parts why closes);
       }
 
       stood_apart : AreApart added stood
@@ -172,8 +186,8 @@ module _ {S : Type 0} {limit : ℕ} {added : Extra S} {Holds : State S → Type 
           nowhere = it.nowhere;
           there = it.there;
         })
-    until_in None wake on key s is wakes it = record {
-      holds = walks.waits task on key s _ (stood_at on key s it.there it.nowhere it.apart) is it.apart it.holds;
+    until_in None wake on key s is wakes it = λ sound. record {
+      holds = walks.waits task on key s _ (stood_at on key s it.there it.nowhere it.apart sound) is it.apart it.holds;
       apart = stood_apart on key s it.there it.nowhere it.apart;
     }
 

@@ -49,7 +49,7 @@ use Rattle.law_steps.proofs.Stepping.{taken-where}
 use Rattle.law_walk.proofs.Trees.{asked_comes}
 use Rattle.law_heeded.specs.Owned.{AreApart, KeepsToItsFutures}
 use Rattle.law_heeded.specs.Runs.{AfterTurn, IsRunOf}
-use Rattle.law_heeded.specs.Walks.{Cancels, IsResumed, Walks, heard, hears, runs, waits_for_none}
+use Rattle.law_heeded.specs.Walks.{Cancels, IsBare, IsResumed, Walks, heard, hears, runs, waits_for_none}
 use Rattle.law_heeded.proofs.Going.{Both, awake, awake_nowhere, begin_goes, end_goes, finish_goes, first_goes, out_goes, point, ran_apart, resumed_goes}
 use Rattle.law_heeded.proofs.Going.{selected_goes}
 use Rattle.law_heeded.proofs.Going.{woken_goes}
@@ -69,6 +69,10 @@ heard_as : (b : Bool) (input : Input) (outcome : Outcome) → input ≡ input_of
     → ((if b then cancelling_input input else input) ≡ input_of outcome) ⊎ Cancels (if b then cancelling_input input else input)
 heard_as true input outcome is = inr (cancels_of input)
 heard_as false input outcome is = inl is
+
+bare_as : (b : Bool) (input : Input) → IsBare input → IsBare (if b then cancelling_input input else input)
+bare_as true input bare = inr (inr (cancels_of input))
+bare_as false input bare = bare
 
 -- what was made and isn't pending is done
 done_there : (p : Parts) (on : ℕ) → on < length p.futures → is_pending p on ≡ false → (outcome : Outcome) × (future_outcome p on ≡ Some outcome)
@@ -94,8 +98,9 @@ module _ (p : Parts) (handle : Handle) (rest : List Handle) (first : p.pending �
       omega (arith, a, b)
 
   -- an input that a handle says which steps the task without its waiting
-  free_resumed : (input : Input) → resumes task handle.action ≡ true → IsResumed p task input
-  free_resumed input is = waits_for_none (sound.ready.free task (counted (resumes task) is))
+  free_resumed : (b : Bool) (input : Input) → IsBare input → resumes task handle.action ≡ true
+      → IsResumed p task (if b then cancelling_input input else input)
+  free_resumed b input bare is = waits_for_none (sound.ready.free task (counted (resumes task) is)) (bare_as b input bare)
 
   -- it is woken
   woken_resumed : (b : Bool) → wakes task handle.action ≡ true
@@ -124,7 +129,7 @@ module _ {S : Type 0} {added : Extra S} {Holds : State S → Type 0} {Called : (
   Outer s = Outside walks owns s
 
   abbrev LeavesTo : Went S → Type 0
-  LeavesTo (Goes now) = Outer now
+  LeavesTo (Goes now) = IsStateSound added now → Outer now
   LeavesTo (Stops how last) = IsCut how ⊎ Outer last
 
   unmet : (how : End) (last : State S) → IsUnmet how → LeavesTo (Stops how last)
@@ -157,8 +162,8 @@ module _ {S : Type 0} {added : Extra S} {Holds : State S → Type 0} {Called : (
       → SaysOn task go_on → LeavesTo (served limit added said task go_on s)
   served_in (Asks asked) task go_on s said it each =
       taken_in task (reply added task asked s) false go_on (reply_in walks owns task asked s said it) each
-  served_in (Returns value) task go_on s said it each = ended_in task (Ok value) s it
-  served_in (Raised fault) task go_on s said it each = ended_in task (Err fault) s it
+  served_in (Returns value) task go_on s said it each = λ sound. ended_in task (Ok value) s it
+  served_in (Raised fault) task go_on s said it each = λ sound. ended_in task (Err fault) s it
   served_in Runaway task go_on s said it each = inl (inr tt)
 
   serve_in : (answers task : ℕ) → SaysOn task (serve limit added answers task)
@@ -213,7 +218,7 @@ module _ {S : Type 0} {added : Extra S} {Holds : State S → Type 0} {Called : (
     out = unbooked_in (λ p. record p { pending = rest }) s
 
     left_to : (went : Went S) → Both added s (state_of went) → LeavesTo went
-    left_to (Goes now) b = outer_on s now it b
+    left_to (Goes now) b = λ sound_then. outer_on s now it b
     left_to (Stops how last) b = inr (outer_on s last it b)
 
     parts_sound : ArePartsSound None None s.loop.parts
@@ -222,32 +227,36 @@ module _ {S : Type 0} {added : Extra S} {Holds : State S → Type 0} {Called : (
     same_task : (task : ℕ) → (task == task) ≡ true
     same_task task = eq-eqb task task refl
 
+    -- whether a cancel was asked for of the task, as its step begins
+    abbrev must_cancel : ℕ → Bool
+    must_cancel task = must_cancel_of (given_up (generator_of task s).resume_point (runs handle.action rest s).loop.parts) task
+
     -- one that steps a task, or is of what is added
     live_in : (by : Action) → handle.action ≡ by → handle.dead ≡ false → steps_or_extra by ≡ true → LeavesTo (effect limit added by (runs by rest s))
     unfolding effect
     live_in (action.Step task) is live steps_it =
         subst (λ a. LeavesTo (step limit added task (Send Nothing) (runs a rest s))) is
         (step_in task (Send Nothing) handle rest s first live (ap (steps task) is ∙ same_task task) sound it
-        (free_resumed s.loop.parts handle rest first live parts_sound task _ (ap (resumes task) is ∙ same_task task)))
+        (free_resumed s.loop.parts handle rest first live parts_sound task (must_cancel task) (Send Nothing) (inl refl)
+        (ap (resumes task) is ∙ same_task task)))
     live_in (action.StepInCycle task why) is live steps_it =
         subst (λ a. LeavesTo (step limit added task (Throw (cycle_exception why)) (runs a rest s))) is
         (step_in task (Throw (cycle_exception why)) handle rest s first live (ap (steps task) is ∙ same_task task) sound it
-        (free_resumed s.loop.parts handle rest first live parts_sound task _ (ap (resumes task) is ∙ same_task task)))
+        (free_resumed s.loop.parts handle rest first live parts_sound task (must_cancel task) (Throw (cycle_exception why)) (inr (inl (why, refl)))
+        (ap (resumes task) is ∙ same_task task)))
     live_in (action.Wakeup task) is live steps_it =
         subst (λ a. LeavesTo (step limit added task (woken_with s.loop.parts task) (runs a rest s))) is
         (step_in task (woken_with s.loop.parts task) handle rest s first live (ap (steps task) is ∙ same_task task) sound it
-        (woken_resumed s.loop.parts handle rest first live parts_sound task
-        (must_cancel_of (given_up (generator_of task s).resume_point (runs handle.action rest s).loop.parts) task)
-        (ap (wakes task) is ∙ same_task task)))
+        (woken_resumed s.loop.parts handle rest first live parts_sound task (must_cancel task) (ap (wakes task) is ∙ same_task task)))
     live_in (action.Extra key) is live steps_it =
         let gone = runs (action.Extra key) rest s in
-        record {
+        λ sound_then. record {
           holds = walks.acts key handle rest s first live is it.apart it.holds;
           apart = call_apart added (added.act key gone) gone (owns.act key gone) (ran_apart added (action.Extra key) handle rest s first it.apart);
         }
     live_in (action.ExtraItem code bytes) is live steps_it =
         let gone = runs (action.ExtraItem code bytes) rest s in
-        record {
+        λ sound_then. record {
           holds = walks.news code bytes handle rest s first live is it.apart it.holds;
           apart = call_apart added (added.item code bytes gone) gone (owns.item code bytes gone)
               (ran_apart added (action.ExtraItem code bytes) handle rest s first it.apart);
@@ -258,7 +267,7 @@ module _ {S : Type 0} {added : Extra S} {Holds : State S → Type 0} {Called : (
     first_in = by (steps_or_extra handle.action) refl
       where
         at : (dead : Bool) → handle.dead ≡ dead → steps_or_extra handle.action ≡ true → LeavesTo (ran limit added dead handle.action out)
-        at true dead is = outer_on s out it (out_goes added handle rest s first it.apart)
+        at true dead is = λ sound_then. outer_on s out it (out_goes added handle rest s first it.apart)
         at false live is = live_in handle.action refl live is
 
         by : (b : Bool) → steps_or_extra handle.action ≡ b → LeavesTo (run_first limit added handle rest s)
@@ -275,7 +284,7 @@ module _ {S : Type 0} {added : Extra S} {Holds : State S → Type 0} {Called : (
   Stays (Stops how last) = IsCut how ⊎ Outer last
 
   stays_in : (went : Went S) → LeavesTo went → LeavesStateSound added went → Stays went
-  stays_in (Goes now) it sound = record { outer = it; sound = sound }
+  stays_in (Goes now) it sound = record { outer = it sound; sound = sound }
   stays_in (Stops how last) it sound = it
 
   abbrev GoesOn : (State S → Went S) → Type 0
@@ -313,7 +322,7 @@ module _ {S : Type 0} {added : Extra S} {Holds : State S → Type 0} {Called : (
       cancelled false = it.outer
 
       finished : (o : Option Outcome) (b : Bool) → LeavesTo (finished_if o (cancelled_if b s))
-      finished None b = cancelled b
+      finished None b = λ sound. cancelled b
       finished (Some outcome) b = inr (cancelled b)
 
       at : (b : Bool) → LeavesTo (finished_if (finished_as (cancelled_if b s)) (cancelled_if b s))

@@ -3,16 +3,16 @@
 use Rattle.std.specs.Prelude.{◌≡◌, ◌⊎◌, ℕ, ◌≤◌, ℤ, true, false, List, ◌∷◌, ◌++◌, Some, None}
 use Rattle.model_value.specs.declared.action.Action.TheVariants as action
 use Rattle.model_value.specs.declared.input.Input.TheVariants.{Send, Throw}
-use Rattle.model_value.specs.Action.{Action}
+use Rattle.model_value.specs.Action.{Action, CycleKind}
 use Rattle.model_value.specs.Input.{Input}
-use Rattle.model_value.specs.Value.{Outcome, Value}
+use Rattle.model_value.specs.Value.{Nothing, Outcome, Value}
 use Rattle.model_wire.specs.declared.call.Call.TheVariants as call
 use Rattle.model_wire.specs.declared.event.Event.TheVariants as event
 use Rattle.model_wire.specs.Call.{Answer, Call}
 use Rattle.model_wire.specs.Event.{Event}
 use Rattle.model_wire.specs.Fits.{fits}
 use Rattle.model_wire.specs.Journal.{Entry}
-use Rattle.model_loop.specs.Cycles.{cycle}
+use Rattle.model_loop.specs.Cycles.{cycle, cycle_exception}
 use Rattle.model_loop.specs.Futures.{future_outcome}
 use Rattle.model_loop.specs.Parts.{Handle, Parts}
 use Rattle.model_loop.specs.Tasks.{is_cancelled, next_task, waiter_of}
@@ -42,7 +42,8 @@ pub record Beside {S : Type 0} (added : Extra S) (s t : State S) : Type 0 where
   pub tasks : next_task s.loop.parts ≤ next_task t.loop.parts
   pub waits : (task key : ℕ) → StandsUnder t.generators task key → waiter_of t.loop.parts task ≡ waiter_of s.loop.parts task
 
--- the same, but that this task comes to stand at the request under this key, and waits for this future unless that closes a cycle
+-- the same, but that this task comes to stand at the request under this key, and waits for this future, or for nothing where that
+-- would close a cycle
 pub record StoodAt {S : Type 0} (added : Extra S) (task on key : ℕ) (s t : State S) : Type 0 where
   pub all : kept.StoodAt task key s t
   pub events : t.events ≡ s.events
@@ -52,6 +53,7 @@ pub record StoodAt {S : Type 0} (added : Extra S) (task on key : ℕ) (s t : Sta
   -- it stood at none
   pub nowhere : (other : ℕ) → StandsUnder s.generators task other → ⊥
   pub begins : cycle s.loop.parts task on ≡ None → waiter_of t.loop.parts task ≡ Some on
+  pub refused : (why : CycleKind) → cycle s.loop.parts task on ≡ Some why → waiter_of t.loop.parts task ≡ None
 
 -- ---- how a task goes on
 -- the first handle is taken out, and runs
@@ -66,11 +68,15 @@ abbrev pub Cancels : Input → Type 0
 Cancels (Send value) = ⊥
 Cancels (Throw exception) = is_cancelled exception ≡ true
 
+-- with what a step begins of a task that waited for nothing: with None, or the error of a cycle, or a cancel in its place
+abbrev pub IsBare : Input → Type 0
+IsBare input = (input ≡ Send Nothing) ⊎ ((why : CycleKind) × (input ≡ Throw (cycle_exception why))) ⊎ Cancels input
+
 -- With what its step begins: with what that came to for which it waited, or a cancel in its place; or it waited for nothing.
 pub data IsResumed (p : Parts) (task : ℕ) (input : Input) : Type 0 where
   hears : (on : ℕ) (outcome : Outcome) → waiter_of p task ≡ Some on → future_outcome p on ≡ Some outcome
       → (input ≡ input_of outcome) ⊎ Cancels input → IsResumed p task input
-  waits_for_none : waiter_of p task ≡ None → IsResumed p task input
+  waits_for_none : waiter_of p task ≡ None → IsBare input → IsResumed p task input
 
 -- ---- what it owes
 -- `Holds` between calls, `Called` after a call that was answered so, and `Woken` where the request under this key, of this task, is
