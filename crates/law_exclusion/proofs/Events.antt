@@ -1,27 +1,26 @@
 -- Where an event is set, everybody who waits for it was woken: each call of locks, events and queues keeps that.
-use Rattle.std.proofs.Common.{◌≡◌, ◌⊎◌, inl, inr, ℕ, zero, suc, ◌<◌, ◌≤◌, Bool, true, false, List, [], ◌∷◌, ◌++◌, Option, Some, None, get_or, length, map}
+use Rattle.std.proofs.Common.{◌≡◌, ◌⊎◌, inl, inr, ℕ, ◌<◌, ◌≤◌, Bool, true, false, List, [], ◌∷◌, Option, Some, None, get_or, length, map}
 use Rattle.std.proofs.Common.{slice_get, refl, sym, ap, subst, ◌∙◌, arith}
 use Rattle.std.specs.Prelude.{is_some, not, ◌==◌, filter, slice_set}
 use Rattle.std.specs.List.{AllByRecursion as Each}
-use Rattle.std.proofs.lemmas.Bool.{cases_eq, false≢true}
-use Rattle.std.proofs.lemmas.Option.{slice_get_cases, slice_get_within}
+use Rattle.std.proofs.lemmas.Bool.{false≢true}
+use Rattle.std.proofs.lemmas.Option.{slice_get_cases}
 use Rattle.model_value.specs.Input.{Input}
 use Rattle.model_value.specs.declared.outcome.Outcome.TheVariants.{Value as Returned}
-use Rattle.model_value.specs.Value.{Nothing, Outcome, Value}
+use Rattle.model_value.specs.Value.{Nothing, Outcome}
 use Rattle.model_loop.specs.Futures.{future_outcome, next_future, outcome_at, settle}
 use Rattle.model_loop.specs.Loop.{Loop}
 use Rattle.model_loop.specs.Parts.{Future, Parts}
 use Rattle.model_loop.proofs.FutureCases.{settled, settled_as}
-use Rattle.model_machine.specs.Extra as extra
-use Rattle.model_machine.specs.Extra.{ExtraSaid, ExtraStep, MakesPlain, made_by, made_by_all}
+use Rattle.model_machine.specs.Extra.{ExtraSaid, made_by, made_by_all}
 use Rattle.model_sync.specs.Serving.{Wanted}
 use Rattle.model_sync.specs.Synced.{Event, Synced, Waiting, wakes}
 use Rattle.law_apart.specs.Apart.{StaysOrIsCancelled}
-use Rattle.law_apart.proofs.Parts.{settle_made, settle_others}
+use Rattle.law_apart.proofs.Parts.{settle_made}
 use Rattle.law_cancel.proofs.Lookups.{get-set_same}
 use Rattle.law_cancel.proofs.Effects.{done_as, settle-futures}
-use Rattle.law_sync.proofs.Comes.{Comes, Wakes}
 use Rattle.law_sync.proofs.Lists.{each_append, each_at, each_both, each_filter, each_on, each_set}
+use Rattle.law_exclusion.proofs.Ended.{Ends, settle_ends}
 use Rattle.law_locks.proofs.Served.{Resumes, Serves, clears, gets, gets_lock, gets_now, goes_by, leaves_event, leaves_get, leaves_lock, leaves_put}
 use Rattle.law_locks.proofs.Served.{makes_event, makes_lock, makes_queue, puts, puts_now, releases, says_no, sees_event, sees_lock, sees_set, sees_size, sets}
 use Rattle.law_locks.proofs.Served.{stays_set, takes_lock, waits_event, waits_get, waits_get_again, waits_lock, waits_put, waits_put_again}
@@ -59,35 +58,16 @@ settled_done on outcome p below = at (slice_get p.futures on) refl
         found (inl it) = absurd (none it.0 (sym e ∙ it.2))
         found (inr it) = let past = it.0 in absurd (omega (arith, past, below))
 
-settle_done : (id on : ℕ) (outcome : Outcome) (p : Parts) → IsDone p on → IsDone (settle id outcome p) on
-settle_done id on outcome p done = at (cases_eq id on)
+-- what ends stays so
+pub done_on : (p q : Parts) → Ends p q → (on : ℕ) → IsDone p on → IsDone q on
+done_on p q ends on done = at (future_outcome p on) refl done
   where
-    within : (o : Option Future) → slice_get p.futures on ≡ o → is_some (outcome_at o) ≡ true → on < next_future p
-    within None e is = absurd (false≢true is)
-    within (Some future) e is = slice_get_within p.futures on future e
+    at : (o : Option Outcome) → future_outcome p on ≡ o → is_some o ≡ true → IsDone q on
+    at None e is = absurd (false≢true is)
+    at (Some outcome) e is = ap is_some (ends on outcome e)
 
-    at : (id ≡ on) ⊎ (id ≡ on → ⊥) → IsDone (settle id outcome p) on
-    at (inl e) = subst (λ i. IsDone (settle i outcome p) on) (sym e) (settled_done on outcome p (within (slice_get p.futures on) refl done))
-    at (inr other) = ap is_some (settle_others id outcome p on other) ∙ done
-
-push_done : (fs : List Future) (new : Future) (on : ℕ) → is_some (outcome_at (slice_get fs on)) ≡ true
-    → is_some (outcome_at (slice_get (fs ++ new ∷ []) on)) ≡ true
-push_done [] new on done = absurd (false≢true done)
-push_done (x ∷ fs) new zero done = done
-push_done (x ∷ fs) new (suc on) done = push_done fs new on done
-
-wakes_done : (O : ℕ → Type 0) (V : Value → Type 0) (steps : List ExtraStep) (on : ℕ) (l : Loop) → Each (Wakes O V) steps → IsDone l.parts on
-    → IsDone (made_by_all steps l).parts on
-wakes_done O V [] on l all done = done
-wakes_done O V (extra.Settles future outcome ∷ steps) on l all done =
-    wakes_done O V steps on (made_by (extra.Settles future outcome) l) all.1 (settle_done future on outcome l.parts done)
-wakes_done O V (_ ∷ steps) on l all done = absurd all.0
-
-pub comes_done : (O : ℕ → Type 0) (V : Value → Type 0) (next drawn key : ℕ) (said : ExtraSaid Synced) (l : Loop) → Comes O V next drawn key said
-    → (on : ℕ) → IsDone l.parts on → IsDone (made_by_all said.call.steps l).parts on
-comes_done O V next drawn key said l (inl g) on done = wakes_done O V said.call.steps on l g.steps done
-comes_done O V next drawn key said l (inr w) on done =
-    subst (λ steps. IsDone (made_by_all steps l).parts on) (sym w.steps) (push_done l.parts.futures _ on done)
+settle_done : (id on : ℕ) (outcome : Outcome) (p : Parts) → IsDone p on → IsDone (settle id outcome p) on
+settle_done id on outcome p = done_on p (settle id outcome p) (settle_ends id outcome p) on
 
 -- all are woken
 all_done : (waiters : List ℕ) (on : ℕ) (l : Loop) → IsDone l.parts on → IsDone (made_by_all (map wakes waiters) l).parts on
@@ -122,13 +102,14 @@ events_left ours p q stays events mine all =
 
 module _ (l : Loop) (kept : Synced) (all : Each (IsEventKept l.parts) kept.events) where
   abbrev pub Goes : ExtraSaid Synced → Type 0
-  Goes said = (on : ℕ) → IsDone l.parts on → IsDone (made_by_all said.call.steps l).parts on
+  Goes said = Ends l.parts (made_by_all said.call.steps l).parts
 
   abbrev pub Kept : ExtraSaid Synced → Type 0
   Kept said = Each (IsEventKept (made_by_all said.call.steps l).parts) said.call.state.events
 
   goes_on : (said : ExtraSaid Synced) → Goes said → Each (IsEventKept l.parts) said.call.state.events → Kept said
-  goes_on said goes now = events_on l.parts (made_by_all said.call.steps l).parts goes said.call.state.events now
+  goes_on said goes now =
+      events_on l.parts (made_by_all said.call.steps l).parts (done_on l.parts (made_by_all said.call.steps l).parts goes) said.call.state.events now
 
   changed : (id : ℕ) (event : Event) → IsEventKept l.parts event → Each (IsEventKept l.parts) (slice_set kept.events id event)
   changed id event now = each_set (IsEventKept l.parts) kept.events id event all now
@@ -154,7 +135,7 @@ module _ (l : Loop) (kept : Synced) (all : Each (IsEventKept l.parts) kept.event
       goes_on said goes (each_append (IsEventKept l.parts) kept.events (record { is_set = false; waiters = [] } ∷ []) all ((λ is. tt), tt))
   serves_events below wanted said (sets id event found clear_) goes =
       each_set (IsEventKept (made_by_all said.call.steps l).parts) kept.events id (record event { is_set = true })
-      (events_on l.parts (made_by_all said.call.steps l).parts goes kept.events all)
+      (events_on l.parts (made_by_all said.call.steps l).parts (done_on l.parts (made_by_all said.call.steps l).parts goes) kept.events all)
       (λ is. woken_done event.waiters l
       (each_at (λ (it : Event). Each (λ waiter. waiter < next_future l.parts) it.waiters) kept.events id event found below))
   serves_events below wanted said (stays_set id event found set) goes = goes_on said goes all

@@ -28,10 +28,11 @@ use Rattle.law_heeded.proofs.Still.{steps_still}
 use Rattle.law_locks.specs.Locks.{HearsOf}
 use Rattle.law_runs.specs.Allowed.{IsAmong}
 use Rattle.law_sync.proofs.Comes.{AnswerHolds, Comes, WaitsOn}
-use Rattle.law_sync.proofs.Holding.{EventHolds, Holds, WaitingHolds, holds_from}
+use Rattle.law_sync.proofs.Holding.{EventHolds, Holds, QueueHolds, WaitingHolds, holds_from}
 use Rattle.law_sync.proofs.Lists.{each_both, each_from, each_on}
 use Rattle.law_exclusion.specs.Beside.{WaitsAs}
 use Rattle.law_exclusion.proofs.Events.{IsEventKept, events_left}
+use Rattle.law_exclusion.proofs.Queues.{AllTurns, all_left}
 use Rattle.law_exclusion.proofs.Standing.{IsFresh, IsNoFailure, left_fine, made_fresh, next_fine, plain_fine, wakes_fine}
 use Rattle.law_exclusion.proofs.Waitings.{ListChange, each_now, others_stay, waits_there}
 
@@ -67,6 +68,7 @@ module _ {A C D : Type 0} (gather : Extra A) (exec : Extra C) (dgram : Extra D) 
         → waiting_at (place_of sync_part key) s.extra.sync ≡ Some it → waiter_of s.loop.parts task ≡ Some (on_of it)
     pub fine : Each (λ (entry : ℕ × Waiting). IsNoFailure (future_outcome s.loop.parts (on_of entry.1))) s.extra.sync.waiting
     pub woken : Each (IsEventKept s.loop.parts) s.extra.sync.events
+    pub turns : AllTurns s.loop.parts s.extra.sync
 
   -- a request waits on a future that its call made, under a key under which nobody stands
   pub record IsNew (on key : ℕ) (s : State S) : Type 0 where
@@ -136,6 +138,19 @@ module _ {A C D : Type 0} (gather : Extra A) (exec : Extra C) (dgram : Extra D) 
   pub woken_on : (kept : S) (p q : Parts) → Leaves (Mine kept) p q → Each (IsEventKept p) kept.sync.events → Each (IsEventKept q) kept.sync.events
   woken_on kept p q leaves woken = events_left (Mine kept) p q leaves.stay kept.sync.events (mine_events kept) woken
 
+  pub mine_queues : (kept : S) → Each (QueueHolds (λ waiter. Mine kept waiter ≡ true) Any) kept.sync.queues
+  mine_queues kept =
+      let own = test_among (sync_keeps kept.sync).own in
+      each_on (QueueHolds (Old kept) Any) (QueueHolds (λ waiter. Mine kept waiter ≡ true) Any)
+      (λ queue h. record {
+        values = h.values;
+        getters = each_on (Old kept) (λ waiter. Mine kept waiter ≡ true) own queue.getters h.getters;
+        putters = each_on (Old kept) (λ waiter. Mine kept waiter ≡ true) own queue.putters h.putters;
+      }) kept.sync.queues (all_old kept).queues
+
+  pub turns_on : (kept : S) (p q : Parts) → Leaves (Mine kept) p q → AllTurns p kept.sync → AllTurns q kept.sync
+  turns_on kept p q leaves turns = all_left (Mine kept) p q leaves.stay kept.sync (mine_on kept) (mine_queues kept) turns
+
   mine_own : (kept : S) (id : ℕ) → IsAmong (Own OfSync kept) id → is_own added kept id ≡ true
   mine_own kept id h = test_among (added.keeps kept).own id (in_all gather sync_means exec dgram OfSync kept id h)
 
@@ -168,6 +183,8 @@ module _ {A C D : Type 0} (gather : Extra A) (exec : Extra C) (dgram : Extra D) 
             (fine_on s.extra s.loop.parts t.loop.parts (of_all s.extra s.loop.parts t.loop.parts b.leaves) inv.fine);
         woken = subst (λ (kept : S). Each (IsEventKept t.loop.parts) kept.sync.events) (sym same)
             (woken_on s.extra s.loop.parts t.loop.parts (of_all s.extra s.loop.parts t.loop.parts b.leaves) inv.woken);
+        turns = subst (λ (kept : S). AllTurns t.loop.parts kept.sync) (sym same)
+            (turns_on s.extra s.loop.parts t.loop.parts (of_all s.extra s.loop.parts t.loop.parts b.leaves) inv.turns);
       }
 
   -- ---- calls of other parts
@@ -187,6 +204,8 @@ module _ {A C D : Type 0} (gather : Extra A) (exec : Extra C) (dgram : Extra D) 
         kept.waiting) (sym same) (fine_on s.extra s.loop.parts (made_by_all it.steps s.loop).parts leaves inv.fine);
     woken = subst (λ (kept : Synced). Each (IsEventKept (made_by_all it.steps s.loop).parts) kept.events) (sym same)
         (woken_on s.extra s.loop.parts (made_by_all it.steps s.loop).parts leaves inv.woken);
+    turns = subst (λ (kept : Synced). AllTurns (made_by_all it.steps s.loop).parts kept) (sym same)
+        (turns_on s.extra s.loop.parts (made_by_all it.steps s.loop).parts leaves inv.turns);
   }
 
   pub no_steps : (s : State S) → Leaves (Mine s.extra) s.loop.parts s.loop.parts
@@ -216,6 +235,7 @@ module _ {A C D : Type 0} (gather : Extra A) (exec : Extra C) (dgram : Extra D) 
       (said : ExtraSaid Synced) (comes : Comes (Old s.extra) Any (next_future s.loop.parts) drawn key said)
       (change : ListChange (next_future s.loop.parts) place s.extra.sync.waiting asked said.answer said.call.state.waiting)
       (events : Each (IsEventKept (made_by_all said.call.steps s.loop).parts) said.call.state.events)
+      (turns : AllTurns (made_by_all said.call.steps s.loop).parts said.call.state)
       (kept : IsPartKept gather sync_means exec dgram OfSync (after said s) s) (a : AreApart added s) where
     drawn_is : said.call.state.drawn ≡ drawn
     drawn_is = at comes
@@ -255,6 +275,7 @@ module _ {A C D : Type 0} (gather : Extra A) (exec : Extra C) (dgram : Extra D) 
           (λ entry. IsNoFailure (future_outcome s.loop.parts (on_of entry.1))) change
           (λ new is. subst (λ id. IsNoFailure (future_outcome s.loop.parts id)) (sym is) (next_fine s.loop.parts)) inv.fine);
       woken = events;
+      turns = turns;
     }
 
     new_waits : WaitsOn (Old s.extra) Any (next_future s.loop.parts) drawn key said → place_of sync_part key ≡ place

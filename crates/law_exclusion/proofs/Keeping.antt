@@ -42,11 +42,13 @@ use Rattle.law_sync.proofs.Comes.{Comes, acquired_comes, getting_comes, putting_
 use Rattle.law_sync.proofs.Holding.{EventHolds, LockHolds, QueueHolds}
 use Rattle.law_sync.proofs.Lists.{each_at, each_found}
 use Rattle.law_exclusion.specs.Beside.{WaitsUnderItsKeys}
-use Rattle.law_exclusion.proofs.Events.{IsEventKept, comes_done, resumes_events, serves_events}
+use Rattle.law_exclusion.proofs.Ended.{comes_end}
+use Rattle.law_exclusion.proofs.Events.{IsEventKept, resumes_events, serves_events}
 use Rattle.law_exclusion.proofs.Holding.{Any, HeardAt, Inv, InvCalled, InvWoken, HeardFact, IsNew, Mine, Old, WaitsSo, after, beside_inv, fine_on, mine_on}
-use Rattle.law_exclusion.proofs.Holding.{events_below, no_steps, of_all, woken_on}
+use Rattle.law_exclusion.proofs.Holding.{events_below, no_steps, of_all, turns_on, woken_on}
 use Rattle.law_exclusion.proofs.Holding.{other_inv, others_wait, said_inv, still_inv}
 use Rattle.law_exclusion.proofs.Keys.{key_sync, place_at, same_key}
+use Rattle.law_exclusion.proofs.Queues.{AllTurns, resumes_turns, serves_turns}
 use Rattle.law_exclusion.proofs.Standing.{IsNoFailure, fresh_none, heard_of, no_cycle}
 use Rattle.law_exclusion.proofs.Waitings.{resumes_list, serves_list}
 use Rattle.model_sync.specs.Synced.{is_place}
@@ -124,7 +126,9 @@ module _ {A C D : Type 0} (gather : Extra A) (exec : Extra C) (dgram : Extra D) 
         comes
         (serves_list s.loop.parts s.extra.sync wanted said (serves_is s.loop.parts s.extra.sync wanted))
         (serves_events s.loop s.extra.sync inv.woken (events_below gather exec dgram s a) wanted said (serves_is s.loop.parts s.extra.sync wanted)
-        (comes_done _ _ _ _ _ said s.loop comes)) is a task (place_at s.extra.sync.drawn) undrawn
+        (comes_end _ _ _ _ _ said s.loop comes))
+        (serves_turns s.loop s.extra.sync inv.turns wanted said (serves_is s.loop.parts s.extra.sync wanted) (comes_end _ _ _ _ _ said s.loop comes)) is a task
+        (place_at s.extra.sync.drawn) undrawn
 
     drawn_inv : (wanted : Wanted) (b : Bool)
         → PartKept OfSync (after gather exec dgram (if b then served wanted s.loop.parts s.extra.sync else refuses out_of_range s.extra.sync) s) s
@@ -182,13 +186,15 @@ module _ {A C D : Type 0} (gather : Extra A) (exec : Extra C) (dgram : Extra D) 
         heard_at.alone other (subst (λ k. StandsUnder s.generators other k) (same_key stood key is here same) st)
 
     goes_inv : (it : Waiting) (said : ExtraSaid Synced) → Resumes s.loop.parts s.extra.sync key (place_of sync_part key) it input said
+        → waiting_at (place_of sync_part key) s.extra.sync ≡ Some it
         → Comes (λ id. IsAmong (sync_keeps s.extra.sync).own id) (λ value. Unit {0}) (next_future s.loop.parts) s.extra.sync.drawn key said
         → PartKept OfSync (after gather exec dgram said s) s → Called task said.answer (called (after gather exec dgram said s) s)
-    goes_inv it said resumes comes is =
+    goes_inv it said resumes found comes is =
         said_inv gather exec dgram s inv (place_of sync_part key) key s.extra.sync.drawn (le_refl _) false heard_at.known (λ e. absurd (false≢true e))
         alone_at said comes (resumes_list s.loop.parts s.extra.sync key (place_of sync_part key) it input said resumes)
-        (resumes_events s.loop s.extra.sync inv.woken key (place_of sync_part key) it input said resumes (comes_done _ _ _ _ _ said s.loop comes)) is a task
-        refl heard_at.alone
+        (resumes_events s.loop s.extra.sync inv.woken key (place_of sync_part key) it input said resumes (comes_end _ _ _ _ _ said s.loop comes))
+        (resumes_turns s.loop s.extra.sync inv.turns key (place_of sync_part key) it input said resumes found (heard_at.heard it found)
+        (comes_end _ _ _ _ _ said s.loop comes)) is a task refl heard_at.alone
 
     named_inv : {B : Type 0} (o : Option B) (next : B → ExtraSaid Synced)
         → PartKept OfSync (after gather exec dgram (named o input next s.extra.sync) s) s
@@ -223,26 +229,26 @@ module _ {A C D : Type 0} (gather : Extra A) (exec : Extra C) (dgram : Extra D) 
     woken_inv (Some (Acquires id on)) e is =
         named_inv (slice_get s.extra.sync.locks id) (λ lock. acquired (place_of sync_part key) id on input lock s.extra.sync) is
         (λ lock found. goes_inv (Acquires id on) _
-        (acquired_is s.loop.parts s.extra.sync key (place_of sync_part key) id on input lock found)
+        (acquired_is s.loop.parts s.extra.sync key (place_of sync_part key) id on input lock found) e
         (acquired_comes _ _ tt (λ is_. tt) (λ number. tt) s.loop.parts s.extra.sync (holds (seen_by s.extra.sync s)) key (place_of sync_part key) id on input
         lock (lock_there id lock found)))
     woken_inv (Some (Awaits id on)) e is =
         named_inv (slice_get s.extra.sync.events id) (λ event. waited (place_of sync_part key) id on input event s.extra.sync) is
         (λ event found. goes_inv (Awaits id on) _
-        (waited_is s.loop.parts s.extra.sync key (place_of sync_part key) id on input event found)
+        (waited_is s.loop.parts s.extra.sync key (place_of sync_part key) id on input event found) e
         (waited_comes _ _ tt (λ is_. tt) (λ number. tt) s.loop.parts s.extra.sync (holds (seen_by s.extra.sync s)) key (place_of sync_part key) id on input
         event (event_there id event found)))
     woken_inv (Some (Puts id value on)) e is =
         named_inv (slice_get s.extra.sync.queues id)
         (λ queue. putting key (place_of sync_part key) id on value input queue s.loop.parts s.extra.sync) is
         (λ queue found. goes_inv (Puts id value on) _
-        (putting_is s.loop.parts s.extra.sync key (place_of sync_part key) id on value input queue found)
+        (putting_is s.loop.parts s.extra.sync key (place_of sync_part key) id on value input queue found) e
         (putting_comes _ _ tt (λ is_. tt) (λ number. tt) s.loop.parts s.extra.sync (holds (seen_by s.extra.sync s)) key (place_of sync_part key) id on value
         tt input queue (queue_there id queue found) (Puts id value on) e))
     woken_inv (Some (Gets id on)) e is =
         named_inv (slice_get s.extra.sync.queues id) (λ queue. getting key (place_of sync_part key) id on input queue s.loop.parts s.extra.sync) is
         (λ queue found. goes_inv (Gets id on) _
-        (getting_is s.loop.parts s.extra.sync key (place_of sync_part key) id on input queue found)
+        (getting_is s.loop.parts s.extra.sync key (place_of sync_part key) id on input queue found) e
         (getting_comes _ _ tt (λ is_. tt) (λ number. tt) s.loop.parts s.extra.sync (holds (seen_by s.extra.sync s)) key (place_of sync_part key) id on input
         queue (queue_there id queue found) (Gets id on) e))
 
@@ -346,6 +352,9 @@ module _ {A C D : Type 0} (gather : Extra A) (exec : Extra C) (dgram : Extra D) 
         woken = subst (λ (kept : S). Each (IsEventKept t.loop.parts) kept.sync.events) (sym same)
             (woken_on gather exec dgram s.extra s.loop.parts t.loop.parts (of_all gather exec dgram s.extra s.loop.parts t.loop.parts stood.leaves)
             inv.woken);
+        turns = subst (λ (kept : S). AllTurns t.loop.parts kept.sync) (sym same)
+            (turns_on gather exec dgram s.extra s.loop.parts t.loop.parts (of_all gather exec dgram s.extra s.loop.parts t.loop.parts stood.leaves)
+            inv.turns);
       }
     where
       new_at : (key_ : ℕ) → part_of_key key_ ≡ OfSync → key_ ≡ key → IsNew gather exec dgram on key s
@@ -371,7 +380,17 @@ module _ {A C D : Type 0} (gather : Extra A) (exec : Extra C) (dgram : Extra D) 
 
   -- ---- handles and news
   out_inv : (by : Action) (rest : List Handle) (s : State S) → Holds s → Holds (runs by rest s)
-  out_inv by rest s inv = record { disjoint = inv.disjoint; known = inv.known; places = inv.places; stands = inv.stands; fine = inv.fine; woken = inv.woken }
+  out_inv by rest s inv = record {
+    disjoint = inv.disjoint;
+    known = inv.known;
+    places = inv.places;
+    stands = inv.stands;
+    fine = inv.fine;
+    woken = inv.woken;
+    turns =
+        turns_on gather exec dgram s.extra s.loop.parts (runs by rest s).loop.parts
+        (record { more = le_refl _; stay = λ future mine. inl refl }) inv.turns;
+  }
 
   part_inv : (part : Part) (it : ExtraCall S) (s : State S) → PartKept part it s → it.state.sync ≡ s.extra.sync
       → (part ≡ OfSync → it.steps ≡ []) → AreApart added s → Holds s → Holds (called it s)
@@ -440,7 +459,15 @@ module _ {A C D : Type 0} (gather : Extra A) (exec : Extra C) (dgram : Extra D) 
       at = λ here. absurd (none-some outcome (sym (fresh_none s.loop.parts on (c.waits here).fresh) ∙ is));
     };
     hears = λ task key code bytes answer left s fit c. record {
-      inv = record { disjoint = c.inv.disjoint; known = c.inv.known; places = c.inv.places; stands = c.inv.stands; fine = c.inv.fine; woken = c.inv.woken };
+      inv = record {
+        disjoint = c.inv.disjoint;
+        known = c.inv.known;
+        places = c.inv.places;
+        stands = c.inv.stands;
+        fine = c.inv.fine;
+        woken = c.inv.woken;
+        turns = c.inv.turns;
+      };
       at = λ here. absurd (c.waits here);
     };
     wakes = wakes_inv;

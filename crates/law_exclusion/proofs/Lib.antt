@@ -1,7 +1,10 @@
 pub mod Keys
 pub mod Waitings
 pub mod Standing
+pub mod Ended
 pub mod Events
+pub mod Turns
+pub mod Queues
 pub mod Holding
 pub mod Keeping
 pub mod Heeding

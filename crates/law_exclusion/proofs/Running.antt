@@ -1,6 +1,7 @@
 -- Locks keep their promise in every run.
 use Rattle.std.proofs.Common.{◌≡◌, ℕ, zero, suc, ◌<◌, List, refl, sym, ap, subst, ◌∙◌}
 use Rattle.std.specs.List.{AllByRecursion as Each}
+use Rattle.std.proofs.lemmas.Option.{none-some}
 use Rattle.model_tree.specs.Syntax.{Program}
 use Rattle.model_says.specs.Says.{step_limit}
 use Rattle.model_wire.specs.Journal.{Entry}
@@ -21,6 +22,7 @@ use Rattle.law_heeded.proofs.Synced.{missing_keeps, sync_keeps_to}
 use Rattle.law_heeded.proofs.Turning.{run_of}
 use Rattle.law_heeded.specs.Owned.{KeepsToItsFutures}
 use Rattle.law_heeded.specs.Runs.{IsRunOf}
+use Rattle.law_heeded.specs.Walks.{GivesFacts, Walks}
 use Rattle.law_locks.proofs.Heeded.{locks_keep}
 use Rattle.law_locks.specs.Locks.{LocksKeep}
 use Rattle.law_locks.specs.Runs.{tries_of}
@@ -34,10 +36,12 @@ use Rattle.law_sync.proofs.Keys.{of_sync}
 use Rattle.law_sync.proofs.Lists.{each_at}
 use Rattle.law_exclusion.specs.Beside.{WaitsUnderItsKeys}
 use Rattle.law_exclusion.specs.Promise.{KeepsLocks}
+use Rattle.law_exclusion.specs.Turns.{LosesNoWakeup}
 use Rattle.law_exclusion.proofs.Events.{IsEventKept}
 use Rattle.law_exclusion.proofs.Heeding.{after_tries, heeded}
-use Rattle.law_exclusion.proofs.Holding.{HeardFact, Inv}
+use Rattle.law_exclusion.proofs.Holding.{HeardFact, Inv, InvCalled, InvWoken}
 use Rattle.law_exclusion.proofs.Keeping.{inv_facts, inv_walks}
+use Rattle.law_exclusion.proofs.Queues.{AllTurns, all_keep}
 use Rattle.law_exclusion.proofs.Standing.{IsNoFailure}
 use Rattle.law_exclusion.proofs.Keys.{gather_waits, missing_waits}
 
@@ -70,27 +74,44 @@ module _ {A C D : Type 0} (gather : Extra A) (exec : Extra C) (dgram : Extra D) 
     fine = subst (λ (kept : Synced). Each (λ (entry : ℕ × Waiting). IsNoFailure (future_outcome begun.loop.parts (on_of entry.1))) kept.waiting)
         (sym unasked) tt;
     woken = subst (λ (kept : Synced). Each (IsEventKept begun.loop.parts) kept.events) (sym unasked) tt;
+    turns = subst (λ (kept : Synced). AllTurns begun.loop.parts kept) (sym unasked) (λ id queue found. absurd (none-some queue found));
   }
+
+  walks : Walks step_limit (reach gather sync_means exec dgram) (Inv gather exec dgram) (InvCalled gather exec dgram) (InvWoken gather exec dgram)
+  walks = inv_walks gather exec dgram keeps_gather sync_keeps_to keeps_exec keeps_dgram keys_gather keys_exec keys_dgram step_limit
+
+  facts : GivesFacts step_limit (reach gather sync_means exec dgram) (Inv gather exec dgram) (InvWoken gather exec dgram) HeardFact
+  facts = inv_facts gather exec dgram keeps_gather sync_keeps_to keeps_exec keeps_dgram keys_gather keys_exec keys_dgram step_limit
+
+  abbrev Stays : State S → Type 0
+  Stays =
+      Held gather sync_means exec dgram keeps_gather sync_keeps_to keeps_exec keeps_dgram sound first nothing most program answers OfSync walks HeardFact
+      facts
+
+  run_so : (Says : State S → Type 0) → ((s : State S) → Stays s → Says s) → (turns : ℕ)
+      → IsRunOf Says step_limit (reach gather sync_means exec dgram) turns (start most first program answers)
+  run_so Says says turns =
+      run_of Stays Says says step_limit (reach gather sync_means exec dgram) turns begun
+      (runs_along gather sync_means exec dgram keeps_gather sync_keeps_to keeps_exec keeps_dgram sound first nothing most program answers OfSync walks
+      HeardFact facts turns begins)
 
   pub locks_run : (turns : ℕ) → IsRunOf (KeepsLocks step_limit gather exec dgram first) step_limit (reach gather sync_means exec dgram) turns
       (start most first program answers)
-  locks_run turns =
-      let walks = inv_walks gather exec dgram keeps_gather sync_keeps_to keeps_exec keeps_dgram keys_gather keys_exec keys_dgram step_limit in
-      let facts = inv_facts gather exec dgram keeps_gather sync_keeps_to keeps_exec keeps_dgram keys_gather keys_exec keys_dgram step_limit in
-      run_of (Held gather sync_means exec dgram keeps_gather sync_keeps_to keeps_exec keeps_dgram sound first nothing most program answers OfSync walks
-      HeardFact facts) (KeepsLocks step_limit gather exec dgram first)
-      (λ s it. record {
-        happened = it.past.happened;
-        promise =
-            let history = it.past.happened.history in
-            subst (LocksKeep (replies (tries_of history) none_synced) s.loop.parts)
-            (after_tries step_limit gather exec dgram first unasked begun.loop.parts history ∙ ap (λ (kept : S). kept.sync) it.past.happened.keeps)
-            (locks_keep (tries_of history) begun.loop.parts s.loop.parts
-            (heeded step_limit gather exec dgram first unasked begun.loop.parts history s.loop.parts it.past.left it.past.facts));
-        events = λ id event found. each_at (IsEventKept s.loop.parts) s.extra.sync.events id event found it.inv.woken;
-      }) step_limit (reach gather sync_means exec dgram) turns begun
-      (runs_along gather sync_means exec dgram keeps_gather sync_keeps_to keeps_exec keeps_dgram sound first nothing most program answers OfSync walks
-      HeardFact facts turns begins)
+  locks_run turns = run_so (KeepsLocks step_limit gather exec dgram first) (λ s it. record {
+    happened = it.past.happened;
+    promise =
+        let history = it.past.happened.history in
+        subst (LocksKeep (replies (tries_of history) none_synced) s.loop.parts)
+        (after_tries step_limit gather exec dgram first unasked begun.loop.parts history ∙ ap (λ (kept : S). kept.sync) it.past.happened.keeps)
+        (locks_keep (tries_of history) begun.loop.parts s.loop.parts
+        (heeded step_limit gather exec dgram first unasked begun.loop.parts history s.loop.parts it.past.left it.past.facts));
+  }) turns
+
+  pub wakeups_run : (turns : ℕ) → IsRunOf LosesNoWakeup step_limit (reach gather sync_means exec dgram) turns (start most first program answers)
+  wakeups_run turns = run_so LosesNoWakeup (λ s it. record {
+    events = λ id event found. each_at (IsEventKept s.loop.parts) s.extra.sync.events id event found it.inv.woken;
+    queues = all_keep s.loop.parts s.extra.sync it.inv.turns;
+  }) turns
 
 -- ---- with what the program adds
 pub program_sound : KeepsSound added
@@ -106,4 +127,10 @@ pub program_runs : (most : ℕ) (program : Program) (answers : List Entry) (turn
     → IsRunOf (KeepsLocks step_limit gather_means no_extra no_extra first_added) step_limit added turns (start most first_added program answers)
 program_runs most program answers turns =
     locks_run gather_means no_extra no_extra gather_keeps_to missing_keeps missing_keeps gather_waits (missing_waits OfExec) (missing_waits OfDgram)
+    program_sound first_added refl names_nothing most program answers turns
+
+pub program_wakeups : (most : ℕ) (program : Program) (answers : List Entry) (turns : ℕ)
+    → IsRunOf LosesNoWakeup step_limit added turns (start most first_added program answers)
+program_wakeups most program answers turns =
+    wakeups_run gather_means no_extra no_extra gather_keeps_to missing_keeps missing_keeps gather_waits (missing_waits OfExec) (missing_waits OfDgram)
     program_sound first_added refl names_nothing most program answers turns
