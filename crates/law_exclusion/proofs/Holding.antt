@@ -22,6 +22,7 @@ use Rattle.law_calls.specs.Told.{Happening, Hears, Wakes}
 use Rattle.law_heeded.specs.Between.{AreDisjoint, own_of}
 use Rattle.law_heeded.specs.Owned.{AreApart, is_among, is_own}
 use Rattle.law_heeded.specs.Walks.{Beside}
+use Rattle.law_heeded.proofs.Fresh.{IsFresh, made_fresh}
 use Rattle.law_heeded.proofs.Owning.{among_test, test_among}
 use Rattle.law_heeded.proofs.Sharing.{IsPartKept, in_all, now_disjoint, others_leave}
 use Rattle.law_heeded.proofs.Still.{steps_still}
@@ -33,7 +34,7 @@ use Rattle.law_sync.proofs.Lists.{each_both, each_from, each_on}
 use Rattle.law_exclusion.specs.Beside.{WaitsAs}
 use Rattle.law_exclusion.proofs.Events.{IsEventKept, events_left}
 use Rattle.law_exclusion.proofs.Queues.{AllTurns, all_left}
-use Rattle.law_exclusion.proofs.Standing.{IsFresh, IsNoFailure, left_fine, made_fresh, next_fine, plain_fine, wakes_fine}
+use Rattle.law_exclusion.proofs.Standing.{IsNoFailure, left_fine, next_fine, plain_fine, wakes_fine}
 use Rattle.law_exclusion.proofs.Waitings.{ListChange, each_now, others_stay, waits_there}
 
 -- ---- what is so of each call: who is woken hears what its own future came to

@@ -31,6 +31,7 @@ use Rattle.law_apart.specs.Apart.{Leaves, TaskApart}
 use Rattle.law_heeded.specs.Between.{AreDisjoint}
 use Rattle.law_heeded.specs.Owned.{AreApart, KeepsToItsFutures, is_own}
 use Rattle.law_heeded.specs.Walks.{Beside, GivesFacts, IsResumed, StoodAt, Walks, hears, runs, waits_for_none}
+use Rattle.law_heeded.proofs.Fresh.{fresh_none, no_cycle}
 use Rattle.law_heeded.proofs.Going.{ran_apart}
 use Rattle.law_heeded.proofs.Owning.{test_among}
 use Rattle.law_heeded.proofs.Sharing.{IsPartKept, act_part, ask_part, in_all, item_part, now_disjoint, wake_part}
@@ -49,7 +50,7 @@ use Rattle.law_exclusion.proofs.Holding.{events_below, no_steps, of_all, turns_o
 use Rattle.law_exclusion.proofs.Holding.{other_inv, others_wait, said_inv, still_inv}
 use Rattle.law_exclusion.proofs.Keys.{key_sync, place_at, same_key}
 use Rattle.law_exclusion.proofs.Queues.{AllTurns, resumes_turns, serves_turns}
-use Rattle.law_exclusion.proofs.Standing.{IsNoFailure, fresh_none, heard_of, no_cycle}
+use Rattle.law_exclusion.proofs.Standing.{IsNoFailure, heard_of}
 use Rattle.law_exclusion.proofs.Waitings.{resumes_list, serves_list}
 use Rattle.model_sync.specs.Synced.{is_place}
 

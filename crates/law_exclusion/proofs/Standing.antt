@@ -1,28 +1,23 @@
 -- Who waits for a lock, an event or a queue: its task waits for its future, which nobody fails; so it is with each call, and all else.
-use Rattle.std.proofs.Common.{◌≡◌, ◌⊎◌, inl, inr, ℕ, zero, suc, false, List, [], ◌∷◌, ◌++◌, Option, Some, None, length, slice_get, refl, sym, ap}
-use Rattle.std.proofs.Common.{subst, ◌∙◌, if◌then◌else◌}
-use Rattle.std.specs.Prelude.{◌==◌, ◌||◌}
-use Rattle.std.specs.List.{AllByRecursion as Each, list_any}
-use Rattle.std.proofs.lemmas.Bool.{cases_eq, ne_eqb}
-use Rattle.model_value.specs.declared.action.CycleKind.TheVariants.{Itself, ItsWaiter}
+use Rattle.std.proofs.Common.{◌≡◌, ◌⊎◌, inl, inr, ℕ, zero, suc, List, [], ◌∷◌, ◌++◌, Option, Some, None, length, slice_get, refl, sym, ap}
+use Rattle.std.proofs.Common.{subst, ◌∙◌}
+use Rattle.std.specs.List.{AllByRecursion as Each}
+use Rattle.std.proofs.lemmas.Bool.{cases_eq}
 use Rattle.model_value.specs.Input.{Input}
 use Rattle.model_value.specs.declared.input.Input.TheVariants.{Send, Throw}
 use Rattle.model_value.specs.declared.outcome.Outcome.TheVariants.{Value as Returned, Failed, Cancelled}
 use Rattle.model_value.specs.Value.{Nothing, Outcome, Value}
-use Rattle.model_loop.specs.Cycles.{cycle, leads, leads_within, passes}
 use Rattle.model_loop.specs.Futures.{future_outcome, next_future, outcome_at, settle}
 use Rattle.model_loop.specs.Loop.{Loop}
-use Rattle.model_loop.specs.Parts.{Future, Parts, Plain}
-use Rattle.model_loop.specs.Tasks.{future_of}
+use Rattle.model_loop.specs.Parts.{Future, Parts}
 use Rattle.model_machine.specs.Extra as extra
 use Rattle.model_machine.specs.Extra.{ExtraAnswer, ExtraStep, MakesPlain, made_by, made_by_all}
 use Rattle.model_machine.specs.Outcomes.{input_of}
 use Rattle.model_sync.specs.Queues.{got_value}
 use Rattle.law_apart.specs.Apart.{StaysOrIsCancelled}
 use Rattle.law_apart.proofs.Parts.{settle_others}
-use Rattle.law_cancel.proofs.Lookups.{get-push_last, get-set_same}
+use Rattle.law_cancel.proofs.Lookups.{get-set_same}
 use Rattle.law_cancel.proofs.Effects.{done_as, settle-futures}
-use Rattle.law_cancel.proofs.PassCases.{passes_at, passes_until}
 use Rattle.law_heeded.specs.Walks.{Cancels}
 use Rattle.law_locks.specs.Locks.{HearsOf}
 use Rattle.law_sync.proofs.Comes.{Wakes}
@@ -107,36 +102,3 @@ heard_of input outcome now (inl is) same fine = subst (λ i. HearsOf i now) (sym
     at Cancelled e = refl
 heard_of (Send value) outcome now (inr cancels) same fine = absurd cancels
 heard_of (Throw exception) outcome now (inr cancels) same fine = cancels
-
--- ---- one that waits on a plain pending future closes no cycle
-pub record IsFresh (p : Parts) (on : ℕ) : Type 0 where
-  pub future : Future
-  pub found : slice_get p.futures on ≡ Some future
-  pub plain : future.kind ≡ Plain
-  pub pending : future.outcome ≡ None
-
-pub made_fresh : (l : Loop) → IsFresh (made_by_all (MakesPlain ∷ []) l).parts (next_future l.parts)
-made_fresh l = record {
-  future = record { kind = Plain; outcome = None; callbacks = [] };
-  found = get-push_last l.parts.futures (record { kind = Plain; outcome = None; callbacks = [] });
-  plain = refl;
-  pending = refl;
-}
-
-module _ (p : Parts) (on : ℕ) (fresh : IsFresh p on) where
-  passes_none : passes p on ≡ []
-  passes_none =
-      ap (λ o. passes_at o on p) fresh.found ∙ ap (λ o. passes_until o fresh.future.kind on p) fresh.pending
-      ∙ ap (λ kind. passes_until None kind on p) fresh.plain
-
-  leads_none : (count to : ℕ) → leads_within count p on to ≡ false
-  leads_none zero to = refl
-  leads_none (suc count) to = ap (λ (next : List ℕ). list_any (λ x. (x == to) || leads_within count p x to) next) passes_none
-
-  pub no_cycle : (task : ℕ) → (on ≡ future_of p task → ⊥) → cycle p task on ≡ None
-  no_cycle task other =
-      ap (λ b. if b then Some Itself else (if leads p on (future_of p task) then Some ItsWaiter else None)) (ne_eqb on (future_of p task) other)
-      ∙ ap (λ b. if b then Some ItsWaiter else None) (leads_none (length p.futures) (future_of p task))
-
-  pub fresh_none : future_outcome p on ≡ None
-  fresh_none = ap outcome_at fresh.found ∙ fresh.pending

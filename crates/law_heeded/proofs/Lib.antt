@@ -1,4 +1,5 @@
 pub mod Still
+pub mod Fresh
 pub mod Owning
 pub mod Quiet
 pub mod Going

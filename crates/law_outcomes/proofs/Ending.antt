@@ -147,14 +147,14 @@ module _ {B C D : Type 0} (sync : Extra B) (exec : Extra C) (dgram : Extra D) (s
       at_eq (inl e) = absurd (n e)
       at_eq (inr d) = omega (arith, most, d)
 
-  gather_before : (k : ℕ) (it : Gathering) → at k ≡ Some (Gathers it) → AreBefore it.outer it.awaited
+  pub gather_before : (k : ℕ) (it : Gathering) → at k ≡ Some (Gathers it) → AreBefore it.outer it.awaited
   gather_before k it found m h =
       let its : Counts = record { own = it.outer; members = it.awaited; left = it.left } in
       strictly m it.outer (right.most k its (ap counts_in found) m h)
       (not_own k it.outer m (ap own_in found)
       (each_of Awaitable it.awaited m h (flat_at plain.futures_in Awaitable kept.drawn k (Gathers it) found awaitable)))
 
-  wait_before : (k : ℕ) (it : Waiting) → at k ≡ Some (Waits it) → AreBefore it.on (futures_of it.arguments)
+  pub wait_before : (k : ℕ) (it : Waiting) → at k ≡ Some (Waits it) → AreBefore it.on (futures_of it.arguments)
   wait_before k it found m h =
       let its : Counts = record { own = it.on; members = futures_of it.arguments; left = it.left } in
       strictly m it.on (right.most k its (ap counts_in found) m h)

@@ -1,11 +1,11 @@
 mod Lists
 mod Handles
-mod Right
-mod Drawing
+pub mod Right
+pub mod Drawing
 mod Counting
 mod Entering
 mod Asking
 mod Waking
 mod Acting
-mod Walking
-mod Ending
+pub mod Walking
+pub mod Ending
